@@ -1,196 +1,33 @@
--- A round that comes back leaves what was told.
-use Rattle.std.proofs.Common.{◌≡◌, ℕ, ◌<◌, List, [], ◌∷◌, ◌++◌, length, set, get_or, refl, sym, ap, ◌∙◌, subst, arith}
-use Rattle.std.specs.Prelude.{map, Option, Some, None, true, false}
-use Rattle.std.specs.List.{flat_map}
-use Rattle.std.proofs.lemmas.List.{get_or_default, set-get_or}
-use Rattle.std.proofs.lemmas.Bool.{eqb-true}
+-- A round that comes back, and a command that waited for it, leave what was told.
+use Rattle.std.proofs.Common.{◌≡◌, ◌≢◌, ℕ, ◌+◌, ◌<◌, List, length, set, get_or, refl, sym, ap}
+use Rattle.std.proofs.Common.{◌∙◌, subst, arith}
+use Rattle.std.specs.Prelude.{Bool, map, Option, Some, None, true, false}
+use Rattle.std.proofs.Math.Seq.{map-set_same}
+use Rattle.std.proofs.lemmas.List.{set-get_or}
 use Rattle.firm_rules.specs.Book.{Book}
+use Rattle.firm_rules.specs.declared.commands.Command.{Command}
 use Rattle.firm_rules.specs.declared.commands.Command.TheVariants.{Round}
 use Rattle.firm_rules.specs.declared.replies.Reply.{Reply}
-use Rattle.firm_tenant.specs.Step.{is_memory}
+use Rattle.firm_tenant.specs.Step.{step, is_memory}
 use Rattle.firm_text.specs.Rosters.{most_places}
 use Rattle.firm_text.specs.declared.registers.Entry.{Entry}
 use Rattle.firm_table.specs.Places.{Place}
-use Rattle.firm_table.specs.Answers.{text_of_answer}
 use Rattle.firm_rounds.specs.Rounds.{weigh}
 use Rattle.firm_rounds.specs.Passes.{QueueId}
-use Rattle.firm_table.specs.Tenants.{tenants_are}
-use Rattle.firm_table.specs.inner.Line.{State, state_is}
 use Rattle.firm_hall.specs.Desks.{DeskIs, IsStep}
-use Rattle.firm_hall.specs.inner.Held.{FirstIsFor, NoneWaits, OneWaits, filled, held_text}
-use Rattle.firm_hall.specs.inner.Held.{waits_for}
-use Rattle.firm_hall.specs.inner.Held.{HeldIs, held_is}
-use Rattle.firm_hall.specs.inner.DeskStates.{IsPresent, IsAway, IsBack, IsTurned}
-use Rattle.firm_hall.specs.inner.Serving.{book_at, asked_at, desk_state_counts, AreDeskStates, IsPlaced, ArePlaced}
-use Rattle.firm_hall.specs.inner.Serving.{DeskStateIs, Tells, TellsParts}
-use Rattle.firm_hall.specs.inner.Serving.{ServingIs, Stands, Follows, IsOpen, Keeps, serving_is}
+use Rattle.firm_hall.specs.inner.Held.{FirstIs, HeldIs, Mark, NoneWaits, Reckoned, asks, filled, held_is}
+use Rattle.firm_hall.specs.inner.Held.{reckon}
+use Rattle.firm_hall.specs.inner.DeskStates.{Answered, IsAway, IsHome, IsTakenAt, IsTurned, Went, with_waiting}
+use Rattle.firm_hall.specs.inner.Serving.{ArePlaced, DeskStateIs, Follows, IsAskedAt, IsOpen, Keeps, ServingIs, Stands}
+use Rattle.firm_hall.specs.inner.Serving.{TellsParts, TellsReckoned, asked_at, before_held, book_at, desk_state_counts}
+use Rattle.firm_hall.specs.inner.Serving.{serving_is}
 use Rattle.firm_hall.specs.declared.desk_states.DeskState.{DeskState}
 use Rattle.firm_hall.specs.declared.desk_states.DeskState.TheVariants.{Home, Away, Empty, Gone}
 use Rattle.firm_hall.specs.declared.held.HeldAnswer.{HeldAnswer}
-use Rattle.firm_hall.specs.declared.held.HeldAnswer.TheVariants.{Known, Waiting}
-use Rattle.firm_hall.proofs.HeldAnswers.{with_mark, answers_filled, placed_filled}
-use Rattle.firm_hall.proofs.HeldAnswers.{length_filled}
-use Rattle.firm_hall.proofs.DeskStates.{here_is, desk_states_back, books_back, counts_back, asked_back}
-
--- the answers once a reply came to the place, if one did
-abbrev pub filled_if : ℕ → Option Reply → List HeldAnswer → List HeldAnswer
-filled_if place None answers = answers
-filled_if place (Some reply) answers = filled place reply answers
-
--- what still holds of other places and answers
-pub record Turned (opening : List Place) (register : List Entry) (queue : QueueId) (answers later : List HeldAnswer)
-    (desk_states after : List DeskState) : Type 0 where
-  pub desk_states_are : AreDeskStates queue later after
-  pub counts : map desk_state_counts after ≡ map desk_state_counts desk_states
-  pub placed : ArePlaced later
-  pub keeps : (output text : List ℕ) (written now : Option (List ℕ))
-      → TellsParts opening register desk_states answers output text written now
-      → TellsParts opening register after later output text written now
-
-module _ (opening : List Place) (register : List Entry) (queue : QueueId) (place : ℕ) (answers : List HeldAnswer)
-    (desk_states : List DeskState) (default : DeskState)
-    (are : AreDeskStates queue answers desk_states) (placed : ArePlaced answers) (low : place < most_places) where
-  stayed : (before last : DeskState) → before ≡ get_or desk_states place default → last ≡ before
-      → Turned opening register queue answers answers desk_states (set desk_states place last)
-  stayed before last at same =
-      let whole : set desk_states place last ≡ desk_states =
-      ap (set desk_states place) (same ∙ at) ∙ set-get_or desk_states place default in
-      rw whole (record {
-        desk_states_are = are;
-        counts = refl;
-        placed = placed;
-        keeps =
-            λ output text written now told. told;
-      })
-
-  came : (asked desk : DeskIs) (reply : Reply) → Away asked ≡ get_or desk_states place default
-      → IsStep asked Round reply desk
-      → Turned opening register queue answers (filled place reply answers) desk_states
-      (set desk_states place (Home desk))
-  came asked desk reply away back =
-      record {
-        desk_states_are = desk_states_back queue place answers desk_states asked desk reply default are low away back;
-        counts = counts_back queue place answers desk_states asked desk reply default are low away back;
-        placed = placed_filled place reply answers placed;
-        keeps = λ output text written now told marks.
-            let marked = with_mark place (is_memory reply) marks in
-            let waits : OneWaits place asked answers =
-            (here_is queue place answers desk_states asked desk reply default are low away back).2 in
-            let books : map (book_at marked) desk_states ≡ map (book_at marks) (set desk_states place (Home desk)) =
-            sym (books_back queue place answers desk_states asked desk reply default are low away back marks) in
-            let held : held_text marked answers ≡ held_text marks (filled place reply answers) =
-            ap (flat_map text_of_answer)
-            (sym (answers_filled place asked reply (is_memory reply) marks answers waits
-            (ap (λ (p : Reply × Book). p.0) back.stepped))) in
-            let asked_same : weigh asked_at desk_states ≡ weigh asked_at (set desk_states place (Home desk)) =
-            sym (asked_back queue place answers desk_states asked desk reply default are low away back) in
-            let state : List (Option Book) → List ℕ → State =
-            λ books text. state_is opening (tenants_are register books) (output ++ text) in
-            subst (λ (n : ℕ). Tells
-            (state (map (book_at marks) (set desk_states place (Home desk)))
-            (held_text marks (filled place reply answers))) n
-            text written now) asked_same
-            (subst (λ (l : List ℕ). Tells (state (map (book_at marks) (set desk_states place (Home desk))) l)
-            (weigh asked_at desk_states) text written now) held
-            (subst (λ (bs : List (Option Book)). Tells (state bs (held_text marked answers))
-            (weigh asked_at desk_states) text written now) books (told marked)));
-      }
-
-  pub turned : (before last : DeskState) (reply : Option Reply) → before ≡ get_or desk_states place default
-      → IsTurned before last reply
-      → Turned opening register queue answers (filled_if place reply answers) desk_states (set desk_states place last)
-  turned before last None at turn = stayed before last at turn
-  turned (Away asked) (Home desk) (Some reply) at turn = came asked desk reply at turn
-  turned (Away asked) (Away other) (Some reply) at turn = absurd turn
-  turned (Away asked) (Empty empty) (Some reply) at turn = absurd turn
-  turned (Away asked) Gone (Some reply) at turn = absurd turn
-  turned (Home desk) last (Some reply) at turn = absurd turn
-  turned (Empty empty) last (Some reply) at turn = absurd turn
-  turned Gone last (Some reply) at turn = absurd turn
-
--- something stands at each place
-pub present : (queue : QueueId) (place : ℕ) (answers : List HeldAnswer) (desk_state : DeskState)
-    → DeskStateIs queue place answers desk_state
-    → IsPresent desk_state
-present queue place answers (Home desk) is = tt
-present queue place answers (Away asked) is = tt
-present queue place answers (Empty empty) is = tt
-present queue place answers Gone is = absurd is
-
-none_first : (place : ℕ) (answers : List HeldAnswer) → NoneWaits place answers → FirstIsFor place answers → ⊥
-none_first place [] none here = here
-none_first place (answer ∷ rest) none here = let both : true ≡ false = sym here ∙ none.0 in cc
-
-waits_low : (place : ℕ) (answer : HeldAnswer) → waits_for place answer ≡ true → IsPlaced answer → place < most_places
-waits_low place (Known answer) here is = cc
-waits_low place (Waiting at name asked) here is = subst (λ (p : ℕ). p < most_places) (eqb-true at place here) is
-
--- the first answer waits for a place that there is
-pub first_low : (place : ℕ) (answers : List HeldAnswer) → FirstIsFor place answers → ArePlaced answers
-    → place < most_places
-first_low place [] here placed = absurd here
-first_low place (answer ∷ rest) here placed = waits_low place answer here placed.0
-
--- an answer waits for a round that is away
-one_there : (queue : QueueId) (place : ℕ) (answers : List HeldAnswer) (desk_state : DeskState)
-    → DeskStateIs queue place answers desk_state
-    → IsAway desk_state → (asked : DeskIs) × OneWaits place asked answers
-one_there queue place answers (Home desk) is away = absurd away
-one_there queue place answers (Away asked) is away = (asked, is.2)
-one_there queue place answers (Empty empty) is away = absurd away
-one_there queue place answers Gone is away = absurd away
-
-pub one_waits : (queue : QueueId) (place : ℕ) (answers : List HeldAnswer) (desk_states : List DeskState)
-    (before default : DeskState)
-    → AreDeskStates queue answers desk_states → place < most_places → before ≡ get_or desk_states place default
-    → IsAway before → (asked : DeskIs) × OneWaits place asked answers
-one_waits queue place answers desk_states before default are low at away =
-    one_there queue place answers before (subst (DeskStateIs queue place answers) (sym at)
-    (are.each place default low)) away
-
--- one place has one state
-pub same_desk_state : (desk_states : List DeskState) (place : ℕ) (first second one other : DeskState)
-    → place < length desk_states
-    → first ≡ get_or desk_states place one → second ≡ get_or desk_states place other → second ≡ first
-same_desk_state desk_states place first second one other low first_is second_is =
-    second_is ∙ sym (first_is ∙ get_or_default desk_states place one other low)
-
--- the service once the reply to a round came to its place
-pub record CameBack (old new : ServingIs) : Type 0 where
-  pub stands : Stands new
-  pub follows : Follows old new
-  pub keeps : Keeps old new
-
-pub came_back : (queue : QueueId) (register : List Entry) (desk_states : List DeskState) (held : HeldIs) (place : ℕ)
-    (before last default : DeskState) (reply : Reply) → Stands (serving_is queue register desk_states held)
-    → place < most_places
-    → before ≡ get_or desk_states place default → IsTurned before last (Some reply)
-    → CameBack (serving_is queue register desk_states held)
-    (serving_is queue register (set desk_states place last) (held_is (filled place reply held.answers) held.output))
-came_back queue register desk_states held place before last default reply stands low at turn =
-    let turn_of = λ (opening : List Place).
-    turned opening register queue place held.answers desk_states default stands.desk_states stands.placed low before
-    last (Some reply) at turn in
-    record {
-      stands = record {
-        desk_states = (turn_of []).desk_states_are;
-        fits = (turn_of []).counts ∙ stands.fits;
-        placed = (turn_of []).placed;
-      };
-      follows = record {
-        same_hall = refl;
-        same_register = refl;
-        fewer = omega (arith, length_filled place reply held.answers);
-      };
-      keeps = λ opening text written now told. (turn_of opening).keeps held.output text written now told;
-    }
-
--- and where none came
-pub stayed_away : (desk_states : List DeskState) (place : ℕ) (before last default : DeskState)
-    → before ≡ get_or desk_states place default
-    → IsTurned before last None → set desk_states place last ≡ desk_states
-stayed_away desk_states place before last default at same =
-    ap (set desk_states place) (same ∙ at) ∙ set-get_or desk_states place default
+use Rattle.firm_hall.proofs.Asking.{answered_asks, round_asks}
+use Rattle.firm_hall.proofs.DeskStates.{asked_set, book_here, books_same, books_set, desk_state_other, desk_states_set}
+use Rattle.firm_hall.proofs.HeldAnswers.{length_filled, not_none, placed_filled}
+use Rattle.firm_hall.proofs.Reckoning.{put_at, reckon_filled}
 
 -- one change behind another
 pub follows_then : {old between new : ServingIs} → Follows old between → Follows between new → Follows old new
@@ -205,15 +42,276 @@ follows_then first second =
 pub stays_open : {id : QueueId} {old new : ServingIs} → Follows old new → IsOpen id old → IsOpen id new
 stays_open follows before = follows.same_hall ∙ before
 
--- nothing followed
-pub follows_same : {old new : ServingIs} → new ≡ old → Follows old new
-follows_same same =
-    rw same (record { same_hall = refl; same_register = refl; fewer = omega arith })
+-- a command that waits is done: its reply is the one that a mark tells
+module _ (opening : List Place) (register : List Entry) (desk_states after : List DeskState)
+    (answers : List HeldAnswer) (output : List ℕ) (place : ℕ) where
+  pub fill_told : (mark : Mark) (command : Command) (reply : Reply) (book later : Book) (more : ℕ)
+      → FirstIs place command answers → get_or (map book_at desk_states) place None ≡ Some book
+      → (reply, later) ≡ step book command mark.0 → more ≡ asks command reply mark.1
+      → map book_at after ≡ set (map book_at desk_states) place (Some later)
+      → weigh asked_at after ≡ weigh asked_at desk_states + more
+      → (text : List ℕ) (written now : Option (List ℕ))
+      → TellsParts opening register desk_states answers output text written now
+      → TellsParts opening register after (filled place reply answers) output text written now
+  fill_told mark command reply book later more first found stepped count books asked text written now told marks =
+      let done = reckon_filled place mark command reply book later more marks (before_held desk_states output) answers
+      first found stepped count in
+      let start : before_held after output ≡ put_at place (Some later) more (before_held desk_states output) =
+      ap (λ (bs : List (Option Book)). record { books = bs; text = output; asked = weigh asked_at after }) books
+      ∙ ap (λ (n : ℕ). record {
+        books = set (map book_at desk_states) place (Some later);
+        text = output;
+        asked = n;
+      }) asked in
+      subst (λ (r : Reckoned). TellsReckoned opening register r text written now)
+      (sym (ap (λ (r : Reckoned). reckon marks r (filled place reply answers)) start ∙ done.1))
+      (told done.0)
 
--- no round is back at the place for which the first answer waits
-pub first_away : (queue : QueueId) (place : ℕ) (answers : List HeldAnswer) (desk_state : DeskState)
-    → DeskStateIs queue place answers desk_state → FirstIsFor place answers → IsBack desk_state → ⊥
-first_away queue place answers (Home desk) is here back = none_first place answers is.2 here
-first_away queue place answers (Away asked) is here back = back
-first_away queue place answers (Empty empty) is here back = none_first place answers is.2 here
-first_away queue place answers Gone is here back = is
+  -- a round is asked, or all is as it was
+  pub same_told : map book_at after ≡ map book_at desk_states → weigh asked_at after ≡ weigh asked_at desk_states
+      → (text : List ℕ) (written now : Option (List ℕ))
+      → TellsParts opening register desk_states answers output text written now
+      → TellsParts opening register after answers output text written now
+  same_told books asked text written now told marks =
+      let start : before_held desk_states output ≡ before_held after output =
+      ap (λ (bs : List (Option Book)). record { books = bs; text = output; asked = weigh asked_at desk_states })
+      (sym books)
+      ∙ ap (λ (n : ℕ). record { books = map book_at after; text = output; asked = n }) (sym asked) in
+      subst (λ (r : Reckoned). TellsReckoned opening register (reckon marks r answers) text written now) start
+      (told marks)
+
+-- the service, once what stands at one place changed
+pub record Moved (old new : ServingIs) : Type 0 where
+  pub stands : Stands new
+  pub follows : Follows old new
+  pub keeps : Keeps old new
+
+module _ (queue : QueueId) (register : List Entry) (desk_states : List DeskState) (held : HeldIs) (place : ℕ)
+    (before last default : DeskState) (stands : Stands (serving_is queue register desk_states held))
+    (low : place < most_places) (at : before ≡ get_or desk_states place default) where
+  pub within : place < length desk_states
+  within = omega (arith, stands.desk_states.long)
+
+  pub here : DeskStateIs queue place held.answers before
+  here = subst (DeskStateIs queue place held.answers) (sym at) (stands.desk_states.each place default low)
+
+  moved : (later : List HeldAnswer) → desk_state_counts last ≡ desk_state_counts before
+      → DeskStateIs queue place later last
+      → ((other : ℕ) (desk_state : DeskState) → other ≢ place → DeskStateIs queue other held.answers desk_state
+      → DeskStateIs queue other later desk_state)
+      → ArePlaced later → length later ≡ length held.answers
+      → ((opening : List Place) (text : List ℕ) (written now : Option (List ℕ))
+      → TellsParts opening register desk_states held.answers held.output text written now
+      → TellsParts opening register (set desk_states place last) later held.output text written now)
+      → Moved (serving_is queue register desk_states held)
+      (serving_is queue register (set desk_states place last) (held_is later held.output))
+  moved later counts is others placed long tells = record {
+    stands = record {
+      desk_states = desk_states_set desk_states place before last default within at queue held.answers later
+          stands.desk_states is others;
+      fits = map-set_same desk_state_counts desk_states place last default (counts ∙ ap desk_state_counts at)
+          ∙ stands.fits;
+      placed = placed;
+    };
+    follows = record { same_hall = refl; same_register = refl; fewer = omega (arith, long) };
+    keeps = tells;
+  }
+
+  -- a command that waits is done
+  filled_moves : (mark : Mark) (command : Command) (reply : Reply) (book later : Book) (more : ℕ)
+      → FirstIs place command held.answers → book_at before ≡ Some book
+      → (reply, later) ≡ step book command mark.0 → more ≡ asks command reply mark.1
+      → desk_state_counts last ≡ desk_state_counts before → book_at last ≡ Some later
+      → asked_at last ≡ asked_at before + more → DeskStateIs queue place (filled place reply held.answers) last
+      → Moved (serving_is queue register desk_states held)
+      (serving_is queue register (set desk_states place last)
+      (held_is (filled place reply held.answers) held.output))
+  filled_moves mark command reply book later more first found stepped count counts books asked is =
+      let sums : weigh asked_at (set desk_states place last) ≡ weigh asked_at desk_states + more =
+      omega (arith, asked_set desk_states place before last default within at, asked) in
+      moved (filled place reply held.answers) counts is
+      (λ other desk_state differ was.
+      desk_state_other queue place other command reply held.answers desk_state first differ was)
+      (placed_filled place reply held.answers stands.placed) (length_filled place reply held.answers)
+      (λ opening text written now told.
+      fill_told opening register desk_states (set desk_states place last) held.answers held.output place mark command
+      reply book later more first (book_here desk_states place before last default within at None ∙ found) stepped
+      count
+      (books_set desk_states place before last default within at
+      ∙ ap (set (map book_at desk_states) place) books) sums text written now told)
+
+  -- none is, and the books are as they were
+  same_moves : desk_state_counts last ≡ desk_state_counts before → book_at last ≡ book_at before
+      → asked_at last ≡ asked_at before → DeskStateIs queue place held.answers last
+      → Moved (serving_is queue register desk_states held)
+      (serving_is queue register (set desk_states place last) (held_is held.answers held.output))
+  same_moves counts books asked is =
+      let sums : weigh asked_at (set desk_states place last) ≡ weigh asked_at desk_states =
+      omega (arith, asked_set desk_states place before last default within at, asked) in
+      moved held.answers counts is (λ other desk_state differ was. was) stands.placed refl
+      (λ opening text written now told.
+      same_told opening register desk_states (set desk_states place last) held.answers held.output place
+      (books_same desk_states place before last default within at books) sums text written now told)
+
+-- a desk came back
+came : (queue : QueueId) (register : List Entry) (desk_states : List DeskState) (held : HeldIs) (place : ℕ)
+    (asked desk : DeskIs) (waits : Bool) (default : DeskState) (reply : Reply)
+    → Stands (serving_is queue register desk_states held) → place < most_places
+    → Away asked ≡ get_or desk_states place default → IsStep asked Round reply desk → waits ≡ true
+    → Moved (serving_is queue register desk_states held)
+    (serving_is queue register (set desk_states place (Home desk waits))
+    (held_is (filled place reply held.answers) held.output))
+came queue register desk_states held place asked desk waits default reply stands low at step waiting =
+    let is : IsAskedAt queue place held.answers asked =
+    here queue register desk_states held place (Away asked) (Home desk waits) default stands low at in
+    let put : desk.put ≡ asked.put = ap (λ (d : DeskIs). d.put) step.same_desk in
+    filled_moves queue register desk_states held place (Away asked) (Home desk waits) default stands low at
+    (is_memory reply, true) Round reply asked.book desk.book 1 is.first refl step.stepped
+    (round_asks asked.book (is_memory reply) is.left
+    ∙ ap (λ (p : Reply × Book). asks Round p.0 true) (sym step.stepped))
+    (ap (λ (d : DeskIs). (true, d.admissions)) step.same_desk) refl (omega (arith, put, is.some)) (
+      ap (λ (d : DeskIs). d.queue) step.same_desk ∙ is.queue_is,
+      ap (λ (d : DeskIs). d.place) step.same_desk ∙ is.place_is,
+      λ none. absurd (let both : true ≡ false = sym waiting ∙ none in cc),
+    )
+
+pub came_back : (queue : QueueId) (register : List Entry) (desk_states : List DeskState) (held : HeldIs) (place : ℕ)
+    (before last default : DeskState) (reply : Reply) → Stands (serving_is queue register desk_states held)
+    → place < most_places
+    → before ≡ get_or desk_states place default → IsTurned before last (Some reply)
+    → Moved (serving_is queue register desk_states held)
+    (serving_is queue register (set desk_states place last) (held_is (filled place reply held.answers) held.output))
+came_back queue register desk_states held place (Away asked) (Home desk waits) default reply stands low at turn =
+    came queue register desk_states held place asked desk waits default reply stands low at turn.0 turn.1
+came_back queue register desk_states held place (Away asked) (Away other) default reply stands low at turn = absurd turn
+came_back queue register desk_states held place (Away asked) (Empty other) default reply stands low at turn =
+    absurd turn
+came_back queue register desk_states held place (Away asked) Gone default reply stands low at turn = absurd turn
+came_back queue register desk_states held place (Home desk waits) last default reply stands low at turn = absurd turn
+came_back queue register desk_states held place (Empty empty) last default reply stands low at turn = absurd turn
+came_back queue register desk_states held place Gone last default reply stands low at turn = absurd turn
+
+-- and where none came
+pub stayed_away : (desk_states : List DeskState) (place : ℕ) (before last default : DeskState)
+    → before ≡ get_or desk_states place default
+    → IsTurned before last None → set desk_states place last ≡ desk_states
+stayed_away desk_states place before last default at same =
+    ap (set desk_states place) (same ∙ at) ∙ set-get_or desk_states place default
+
+-- the desk at home answered the command
+answered_moves : (queue : QueueId) (register : List Entry) (desk_states : List DeskState) (held : HeldIs) (place : ℕ)
+    (desk after : DeskIs) (waits still : Bool) (default : DeskState) (command : Command) (reply : Reply)
+    → Stands (serving_is queue register desk_states held) → place < most_places
+    → Home desk waits ≡ get_or desk_states place default → FirstIs place command held.answers
+    → (still ≡ false → NoneWaits place (filled place reply held.answers))
+    → Answered desk command after reply
+    → Moved (serving_is queue register desk_states held)
+    (serving_is queue register (set desk_states place (Home after still))
+    (held_is (filled place reply held.answers) held.output))
+answered_moves queue register desk_states held place desk after waits still default command reply stands low at first
+    none a =
+    let is = here queue register desk_states held place (Home desk waits) (Home after still) default stands low at in
+    let put : after.put ≡ desk.put = ap (λ (d : DeskIs). d.put) a.stepped.same_desk in
+    filled_moves queue register desk_states held place (Home desk waits) (Home after still) default stands low at
+    (is_memory reply, false) command reply desk.book after.book 0 first refl a.stepped.stepped
+    (answered_asks command reply a.why)
+    (ap (λ (d : DeskIs). (true, d.admissions)) a.stepped.same_desk) refl (omega (arith, put)) (
+      ap (λ (d : DeskIs). d.queue) a.stepped.same_desk ∙ is.0,
+      ap (λ (d : DeskIs). d.place) a.stepped.same_desk ∙ is.1,
+      none,
+    )
+
+-- or asked for the round
+went_moves : (queue : QueueId) (register : List Entry) (desk_states : List DeskState) (held : HeldIs) (place : ℕ)
+    (desk asked : DeskIs) (waits : Bool) (default : DeskState) (command : Command)
+    → Stands (serving_is queue register desk_states held) → place < most_places
+    → Home desk waits ≡ get_or desk_states place default → FirstIs place command held.answers → Went desk command asked
+    → Moved (serving_is queue register desk_states held)
+    (serving_is queue register (set desk_states place (Away asked)) (held_is held.answers held.output))
+went_moves queue register desk_states held place desk asked waits default command stands low at first w =
+    let is = here queue register desk_states held place (Home desk waits) (Away asked) default stands low at in
+    let put : asked.put ≡ desk.put + 1 = ap (λ (d : DeskIs). d.put) w.asked_is in
+    let book : asked.book ≡ desk.book = ap (λ (d : DeskIs). d.book) w.asked_is in
+    same_moves queue register desk_states held place (Home desk waits) (Away asked) default stands low at
+    (ap (λ (d : DeskIs). (true, d.admissions)) w.asked_is) (ap Some book) (omega (arith, put))
+    (record {
+      queue_is = ap (λ (d : DeskIs). d.queue) w.asked_is ∙ is.0;
+      place_is = ap (λ (d : DeskIs). d.place) w.asked_is ∙ is.1;
+      some = omega (arith, put);
+      left = subst (λ (b : Book). b.given < b.rows.limits.life) (sym book) w.left;
+      first = subst (λ (c : Command). FirstIs place c held.answers) w.round first;
+    })
+
+-- what a command that waits makes of the service
+module _ (queue : QueueId) (register : List Entry) (desk_states : List DeskState) (held : HeldIs) (place : ℕ)
+    (default : DeskState) (command : Command) (stands : Stands (serving_is queue register desk_states held))
+    (low : place < most_places) (first : FirstIs place command held.answers) where
+  pub given_moves : (before last : DeskState) (reply : Reply) → before ≡ get_or desk_states place default
+      → IsTakenAt before command last (Some reply)
+      → Moved (serving_is queue register desk_states held)
+      (serving_is queue register (set desk_states place last)
+      (held_is (filled place reply held.answers) held.output))
+  given_moves (Home desk waits) (Home after still) reply at taken =
+      let is = here queue register desk_states held place (Home desk waits) (Home after still) default stands low at in
+      answered_moves queue register desk_states held place desk after waits still default command reply stands low at
+      first (λ none. not_none place command held.answers first (is.2 (sym taken.1 ∙ none))) taken.0
+  given_moves (Home desk waits) (Away asked) reply at taken = absurd taken
+  given_moves (Home desk waits) (Empty empty) reply at taken = absurd taken
+  given_moves (Home desk waits) Gone reply at taken = absurd taken
+  given_moves (Away asked) last reply at taken = absurd taken
+  given_moves (Empty empty) last reply at taken = absurd taken
+  given_moves Gone last reply at taken = absurd taken
+
+  pub asked_moves : (before last : DeskState) → before ≡ get_or desk_states place default
+      → IsTakenAt before command last None
+      → Moved (serving_is queue register desk_states held)
+      (serving_is queue register (set desk_states place last) (held_is held.answers held.output))
+  asked_moves (Home desk waits) (Home after still) at taken = absurd taken
+  asked_moves (Home desk waits) (Away asked) at taken =
+      went_moves queue register desk_states held place desk asked waits default command stands low at first taken
+  asked_moves (Home desk waits) (Empty empty) at taken = absurd taken
+  asked_moves (Home desk waits) Gone at taken = absurd taken
+  asked_moves (Away asked) last at taken = absurd taken
+  asked_moves (Empty empty) last at taken = absurd taken
+  asked_moves Gone last at taken = absurd taken
+
+-- a desk that answered is home
+pub answered_home : (before last : DeskState) (command : Command) (reply : Reply)
+    → IsTakenAt before command last (Some reply) → IsHome last
+answered_home (Home desk waits) (Home after still) command reply taken = tt
+answered_home (Home desk waits) (Away asked) command reply taken = absurd taken
+answered_home (Home desk waits) (Empty empty) command reply taken = absurd taken
+answered_home (Home desk waits) Gone command reply taken = absurd taken
+answered_home (Away asked) last command reply taken = absurd taken
+answered_home (Empty empty) last command reply taken = absurd taken
+answered_home Gone last command reply taken = absurd taken
+
+-- no command waits for the place any longer
+pub settled_moves : (queue : QueueId) (register : List Entry) (desk_states : List DeskState) (held : HeldIs) (place : ℕ)
+    (before default : DeskState) → Stands (serving_is queue register desk_states held) → place < most_places
+    → before ≡ get_or desk_states place default → NoneWaits place held.answers
+    → Moved (serving_is queue register desk_states held)
+    (serving_is queue register (set desk_states place (with_waiting false before)) (held_is held.answers held.output))
+settled_moves queue register desk_states held place (Home desk waits) default stands low at none =
+    let is = here queue register desk_states held place (Home desk waits) (Home desk false) default stands low at in
+    same_moves queue register desk_states held place (Home desk waits) (Home desk false) default stands low at refl refl
+    refl (is.0, is.1, λ same. none)
+settled_moves queue register desk_states held place (Away asked) default stands low at none =
+    same_moves queue register desk_states held place (Away asked) (Away asked) default stands low at refl refl refl
+    (here queue register desk_states held place (Away asked) (Away asked) default stands low at)
+settled_moves queue register desk_states held place (Empty empty) default stands low at none =
+    same_moves queue register desk_states held place (Empty empty) (Empty empty) default stands low at refl refl refl
+    (here queue register desk_states held place (Empty empty) (Empty empty) default stands low at)
+settled_moves queue register desk_states held place Gone default stands low at none =
+    absurd (here queue register desk_states held place Gone Gone default stands low at)
+
+-- an answer waits for a round that is away
+pub round_waits : (queue : QueueId) (register : List Entry) (desk_states : List DeskState) (held : HeldIs) (place : ℕ)
+    (before default : DeskState) → Stands (serving_is queue register desk_states held) → place < most_places
+    → before ≡ get_or desk_states place default → IsAway before → FirstIs place Round held.answers
+round_waits queue register desk_states held place (Away asked) default stands low at away =
+    let is : IsAskedAt queue place held.answers asked =
+    here queue register desk_states held place (Away asked) (Away asked) default stands low at in is.first
+round_waits queue register desk_states held place (Home desk waits) default stands low at away = absurd away
+round_waits queue register desk_states held place (Empty empty) default stands low at away = absurd away
+round_waits queue register desk_states held place Gone default stands low at away = absurd away

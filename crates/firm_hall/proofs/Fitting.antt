@@ -12,8 +12,9 @@ use Rattle.firm_text.specs.declared.operator.OperatorRefusal.{OperatorRefusal}
 use Rattle.firm_text.specs.declared.operator.OperatorRefusal.TheVariants.{TenantExists, Full}
 use Rattle.firm_text.specs.declared.registers.Entry.{Entry}
 use Rattle.firm_rounds.specs.Passes.{QueueId}
-use Rattle.firm_hall.specs.inner.DeskStates.{IsBack, IsHome, IsHomeOf, IsFree}
-use Rattle.firm_hall.specs.inner.Serving.{AreDeskStates, Fits, IsBackAt, DeskStateIs, place_counts, desk_state_counts}
+use Rattle.firm_hall.specs.inner.DeskStates.{IsAway, IsBack, IsFree, IsHome, IsHomeOf}
+use Rattle.firm_hall.specs.inner.Serving.{AreDeskStates, DeskStateIs, Fits, IsAwayAt, IsBackAt}
+use Rattle.firm_hall.specs.inner.Serving.{desk_state_counts, place_counts}
 use Rattle.firm_hall.specs.declared.desk_states.DeskState.{DeskState}
 use Rattle.firm_hall.specs.declared.desk_states.DeskState.TheVariants.{Home, Away, Empty, Gone}
 use Rattle.firm_hall.specs.declared.held.HeldAnswer.{HeldAnswer}
@@ -74,13 +75,13 @@ module _ (register : List Entry) (desk_states : List DeskState) (fits : Fits reg
 pub home_there : (queue : QueueId) (place : ℕ) (answers : List HeldAnswer) (desk_state : DeskState)
     → DeskStateIs queue place answers desk_state
     → IsBack desk_state → (desk_state_counts desk_state).0 ≡ true → IsHomeOf queue desk_state
-home_there queue place answers (Home desk) is back has = is.0
+home_there queue place answers (Home desk waits) is back has = is.0
 home_there queue place answers (Away asked) is back has = absurd back
 home_there queue place answers (Empty empty) is back has = absurd (cc)
 home_there queue place answers Gone is back has = absurd is
 
 pub is_home : (queue : QueueId) (desk_state : DeskState) → IsHomeOf queue desk_state → IsHome desk_state
-is_home queue (Home desk) is = tt
+is_home queue (Home desk waits) is = tt
 is_home queue (Away asked) is = absurd is
 is_home queue (Empty empty) is = absurd is
 is_home queue Gone is = absurd is
@@ -88,7 +89,7 @@ is_home queue Gone is = absurd is
 pub free_there : (queue : QueueId) (place : ℕ) (answers : List HeldAnswer) (desk_state : DeskState)
     → DeskStateIs queue place answers desk_state
     → (desk_state_counts desk_state).0 ≡ false → (desk_state_counts desk_state).1 < most_admissions → IsFree desk_state
-free_there queue place answers (Home desk) is none few = absurd (cc)
+free_there queue place answers (Home desk waits) is none few = absurd (cc)
 free_there queue place answers (Away asked) is none few = absurd (cc)
 free_there queue place answers (Empty empty) is none few = few
 free_there queue place answers Gone is none few = absurd is
@@ -113,3 +114,12 @@ module _ (queue : QueueId) (register : List Entry) (answers : List HeldAnswer) (
   free_of name given =
       let none = has_none register desk_states fits place before default within at name given in
       free_there queue place answers before here none.0 none.1
+
+-- what is known of a place is known of what a body finds there
+pub back_here : (place : ℕ) (desk_states : List DeskState) (before default : DeskState) → place < most_places
+    → before ≡ get_or desk_states place default → IsBackAt place desk_states → IsBack before
+back_here place desk_states before default low at back = subst IsBack (sym at) (back default low)
+
+pub away_here : (place : ℕ) (desk_states : List DeskState) (before default : DeskState) → place < most_places
+    → before ≡ get_or desk_states place default → IsAwayAt place desk_states → IsAway before
+away_here place desk_states before default low at away = subst IsAway (sym at) (away default low)

@@ -1,26 +1,24 @@
 -- Known answers are taken off the front, and written.
 use Rattle.std.proofs.Common.{◌≡◌, ℕ, ◌≤◌, List, [], ◌∷◌, ◌++◌, length, take, get_or, refl, sym, ap, ◌∙◌, subst}
-use Rattle.std.proofs.Common.{append_assoc, append-nil}
-use Rattle.std.specs.Prelude.{Bool, false, map, Option, Result, Ok, Err, OnErr, OnOk}
+use Rattle.std.proofs.Common.{append-nil}
+use Rattle.std.specs.Prelude.{false, map, Option, Result, Ok, Err, OnErr, OnOk}
 use Rattle.std.proofs.Math.Seq.{take-length}
 use Rattle.std.specs.Io.KnownBytes.{Appends}
 use Rattle.std.proofs.KnownBytes.{Appends-nil}
 use Rattle.firm_text.specs.declared.registers.Entry.{Entry}
 use Rattle.firm_table.specs.Places.{Place}
-use Rattle.firm_table.specs.Answers.{text_of_answer}
 use Rattle.firm_table.specs.Service.{AnswersFrom}
-use Rattle.firm_table.specs.Tenants.{tenants_are}
-use Rattle.firm_table.specs.inner.Line.{state_is}
 use Rattle.firm_rounds.specs.Rounds.{weigh}
 use Rattle.firm_rounds.specs.Passes.{QueueId}
-use Rattle.firm_hall.specs.inner.Held.{FirstIsKnown, answer_in, held_text}
-use Rattle.firm_hall.specs.inner.Held.{HeldIs}
+use Rattle.firm_hall.specs.inner.Held.{FirstIsKnown, HeldIs, Mark, Reckoned, known_text, reckon}
 use Rattle.firm_hall.specs.inner.Serving.{ServingIs, Stands, Keeps, Passes, Begins, Begun, serving_is}
-use Rattle.firm_hall.specs.inner.Serving.{book_at, asked_at, state_with, AreDeskStates, ArePlaced}
-use Rattle.firm_hall.specs.inner.Serving.{DeskStateIs, Tells, TellsParts}
+use Rattle.firm_hall.specs.inner.Serving.{AreDeskStates, ArePlaced, DeskStateIs, TellsParts, TellsReckoned}
+use Rattle.firm_hall.specs.inner.Serving.{asked_at, before_held, book_at, state_after}
 use Rattle.firm_hall.specs.declared.desk_states.DeskState.{DeskState}
 use Rattle.firm_hall.specs.declared.held.HeldAnswer.{HeldAnswer}
+use Rattle.firm_hall.specs.declared.held.HeldAnswer.TheVariants.{Known, Waiting}
 use Rattle.firm_hall.proofs.HeldAnswers.{known_waits}
+use Rattle.firm_hall.proofs.Reckoning.{behind, reckon_front, with_front}
 use Rattle.firm_hall.proofs.DeskStates.{desk_state_pop}
 use Rattle.firm_hall.proofs.Telling.{tells_begins, tells_written}
 
@@ -44,46 +42,52 @@ pub popped_placed : (answers rest : List HeldAnswer) (answer : HeldAnswer) → a
     → ArePlaced rest
 popped_placed answers rest answer is placed = (subst ArePlaced is placed).1
 
+-- no mark for any answer
+abbrev unmarked : ℕ → Mark
+unmarked at = (false, false)
+
 -- and its text is still to be written
 pub popped_tells : (opening : List Place) (register : List Entry) (desk_states : List DeskState)
     (answers rest : List HeldAnswer)
-    (answer : HeldAnswer) (output later : List ℕ) → answers ≡ answer ∷ rest
-    → ((marks : ℕ → Bool) → later ≡ output ++ text_of_answer (answer_in marks answer))
+    (answer : HeldAnswer) (output later : List ℕ) → answers ≡ answer ∷ rest → FirstIsKnown answers
+    → later ≡ output ++ known_text answer
     → (text : List ℕ) (written now : Option (List ℕ))
     → TellsParts opening register desk_states answers output text written now
     → TellsParts opening register desk_states rest later text written now
-popped_tells opening register desk_states answers rest answer output later is added text written now told marks =
-    let pending : output ++ held_text marks answers ≡ later ++ held_text marks rest =
-    ap (λ (xs : List HeldAnswer). output ++ held_text marks xs) is
-    ∙ sym (append_assoc output (text_of_answer (answer_in marks answer)) (held_text marks rest))
-    ∙ ap (λ (l : List ℕ). l ++ held_text marks rest) (sym (added marks)) in
-    subst (λ (l : List ℕ). Tells (state_is opening (tenants_are register (map (book_at marks) desk_states)) l)
-    (weigh asked_at desk_states) text written now) pending (told marks)
+popped_tells opening register desk_states answers rest (Known answer) output later is known added text written now told
+    marks =
+    let all : ℕ → Mark = behind (false, false) marks in
+    subst (λ (l : List ℕ). TellsReckoned opening register (reckon marks (before_held desk_states l) rest) text written
+    now) (sym added)
+    (subst (λ (xs : List HeldAnswer). TellsReckoned opening register (reckon all (before_held desk_states output) xs)
+    text written now) is (told all))
+popped_tells opening register desk_states answers rest (Waiting place name command) output later is known added text
+    written now told marks = absurd (subst FirstIsKnown is known)
 
--- no mark for any place
-abbrev unmarked : ℕ → Bool
-unmarked place = false
+-- what is to be written begins with the text before the held answers
+front_is : (desk_states : List DeskState) (answers : List HeldAnswer) (output : List ℕ) (marks : ℕ → Mark)
+    → reckon marks (before_held desk_states output) answers
+    ≡ with_front output (reckon marks (before_held desk_states []) answers)
+front_is desk_states answers output marks =
+    ap (λ (l : List ℕ). reckon marks (record {
+      books = map book_at desk_states;
+      text = l;
+      asked = weigh asked_at desk_states;
+    }) answers) (sym (append-nil output))
+    ∙ reckon_front output marks (before_held desk_states []) answers
 
--- what was written is part of the output
-pub begun : (opening : List Place) (register : List Entry) (desk_states : List DeskState) (answers : List HeldAnswer)
-    (output text : List ℕ) (written now : Option (List ℕ))
-    → TellsParts opening register desk_states answers output text written now
-    → Begun opening text written now
-begun opening register desk_states answers output text written now told =
-    tells_begins (state_with unmarked opening register desk_states answers output)
-    (weigh asked_at desk_states) text written now now 0
-    [] (output ++ held_text unmarked answers) (told unmarked) refl (Appends-nil now)
-
--- and so it does where some of what was to be written was
+-- some of that was written
 pub partly : (opening : List Place) (register : List Entry) (desk_states : List DeskState)
     (answers : List HeldAnswer)
     (output text : List ℕ) (written now later : Option (List ℕ)) (count : ℕ)
     → Appends now later (take count output) → TellsParts opening register desk_states answers output text written now
     → Begun opening text written later
 partly opening register desk_states answers output text written now later count wrote told =
-    tells_begins (state_with unmarked opening register desk_states answers output)
-    (weigh asked_at desk_states) text written now later
-    count output (held_text unmarked answers) (told unmarked) refl wrote
+    let held = reckon unmarked (before_held desk_states []) answers in
+    let state = state_after opening register (with_front output held) in
+    tells_begins state held.asked text written now later count output held.text
+    (subst (λ (r : Reckoned). TellsReckoned opening register r text written now)
+    (front_is desk_states answers output unmarked) (told unmarked)) refl wrote
 
 pub wholly : (opening : List Place) (register : List Entry) (desk_states : List DeskState)
     (answers : List HeldAnswer)
@@ -94,19 +98,28 @@ wholly opening register desk_states answers output text written now later wrote 
     partly opening register desk_states answers output text written now later (length output)
     (subst (Appends now later) (sym (take-length output)) wrote) told
 
--- all that was to be written was
+-- or none yet
+pub begun : (opening : List Place) (register : List Entry) (desk_states : List DeskState) (answers : List HeldAnswer)
+    (output text : List ℕ) (written now : Option (List ℕ))
+    → TellsParts opening register desk_states answers output text written now
+    → Begun opening text written now
+begun opening register desk_states answers output text written now told =
+    partly opening register desk_states answers output text written now now 0 (Appends-nil now) told
+
+-- or all
 pub written_all : (opening : List Place) (register : List Entry) (desk_states : List DeskState)
     (answers : List HeldAnswer)
     (output held text : List ℕ) (written now later : Option (List ℕ)) → held ≡ []
     → Appends now later output → TellsParts opening register desk_states answers output text written now
     → TellsParts opening register desk_states answers held text written later
 written_all opening register desk_states answers output held text written now later none wrote told marks =
-    let same : held_text marks answers ≡ held ++ held_text marks answers =
-    ap (λ (l : List ℕ). l ++ held_text marks answers) (sym none) in
-    subst (λ (l : List ℕ). Tells (state_is opening (tenants_are register (map (book_at marks) desk_states)) l)
-    (weigh asked_at desk_states) text written later) same
-    (tells_written (state_with marks opening register desk_states answers output)
-    (weigh asked_at desk_states) text written now later output (held_text marks answers) (told marks) refl wrote)
+    let behind : Reckoned = reckon marks (before_held desk_states []) answers in
+    subst (λ (l : List ℕ). TellsReckoned opening register (reckon marks (before_held desk_states l) answers) text
+    written later) (sym none)
+    (tells_written (state_after opening register (with_front output behind)) behind.asked text written now later output
+    behind.text
+    (subst (λ (r : Reckoned). TellsReckoned opening register r text written now)
+    (front_is desk_states answers output marks) (told marks)) refl wrote)
 
 -- nothing is still to be written: what was is the output
 pub answers_all : (opening : List Place) (register : List Entry) (desk_states : List DeskState)
@@ -115,8 +128,8 @@ pub answers_all : (opening : List Place) (register : List Entry) (desk_states : 
     → TellsParts opening register desk_states answers output text written now → AnswersFrom opening text written now
 answers_all opening register desk_states answers output text written now none_held none told =
     let t = (told unmarked).told in
-    let empty : output ++ held_text unmarked answers ≡ [] =
-    ap (λ (l : List ℕ). l ++ held_text unmarked answers) none ∙ ap (held_text unmarked) none_held in
+    let empty : (reckon unmarked (before_held desk_states output) answers).text ≡ [] =
+    ap (λ (xs : List HeldAnswer). (reckon unmarked (before_held desk_states output) xs).text) none_held ∙ none in
     record {
       lines = t.lines;
       are_lines = t.are_lines;
@@ -175,13 +188,12 @@ popped_stands queue register desk_states held after first stands is known = reco
 }
 
 pub popped_keeps : (queue : QueueId) (register : List Entry) (desk_states : List DeskState) (held after : HeldIs)
-    (first : HeldAnswer) → held.answers ≡ first ∷ after.answers
-    → ((marks : ℕ → Bool) → after.output ≡ held.output ++ text_of_answer (answer_in marks first))
+    (first : HeldAnswer) → held.answers ≡ first ∷ after.answers → FirstIsKnown held.answers
+    → after.output ≡ held.output ++ known_text first
     → Keeps (serving_is queue register desk_states held) (serving_is queue register desk_states after)
-popped_keeps queue register desk_states held after first is put opening text written now told =
-    popped_tells opening register desk_states held.answers after.answers first held.output after.output is put text
-    written now
-    told
+popped_keeps queue register desk_states held after first is known put opening text written now told =
+    popped_tells opening register desk_states held.answers after.answers first held.output after.output is known put
+    text written now told
 
 -- what follows where a call failed
 pub on_err_weaker : {T E P Q : Type 0} (r : Result T E) → (P → Q) → OnErr r P → OnErr r Q

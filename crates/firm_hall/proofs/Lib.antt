@@ -4,6 +4,9 @@ mod Opening
 mod Once
 mod Shutting
 mod HeldAnswers
+mod HeldBytes
+mod Reckoning
+mod Asking
 mod DeskStates
 mod Telling
 mod Coming

@@ -13,8 +13,8 @@ use Rattle.firm_table.specs.declared.faults.ServeFault.TheVariants.{Memory}
 use Rattle.firm_rounds.specs.Rounds.{weigh}
 use Rattle.firm_rounds.specs.Passes.{QueueId, pop_is, new_pops}
 use Rattle.firm_hall.specs.Counts.{ServedWithFrom}
-use Rattle.firm_hall.specs.inner.Held.{held_text}
-use Rattle.firm_hall.specs.inner.Serving.{asked_at, TellsParts}
+use Rattle.firm_hall.specs.inner.Held.{Mark, reckon}
+use Rattle.firm_hall.specs.inner.Serving.{TellsParts, TellsReckoned, asked_at, before_held}
 use Rattle.firm_hall.specs.declared.desk_states.DeskState.{DeskState}
 use Rattle.firm_hall.specs.declared.held.HeldAnswer.{HeldAnswer}
 
@@ -44,13 +44,14 @@ pub served_with : (opening : List Place) (register : List Entry) (desk_states : 
     → ToldToTheEnd (TellsParts opening register desk_states answers output) most reader writer
     → ServedFrom opening most reader writer → ServedWithFrom opening most reader writer (weigh asked_at desk_states)
 served_with opening register desk_states answers output most reader writer none_held none end served =
-    let marks : ℕ → Bool = λ place. false in
-    let tells = end.told.told marks in
+    let marks : ℕ → Mark = λ at. (false, false) in
+    let tells : TellsReckoned opening register (before_held desk_states output) end.input writer.before
+    end.told.until =
+    subst (λ (xs : List HeldAnswer). TellsReckoned opening register (reckon marks (before_held desk_states output) xs)
+    end.input writer.before end.told.until) none_held (end.told.told marks) in
     let t = tells.told in
-    let empty : output ++ held_text marks answers ≡ [] =
-    ap (λ (l : List ℕ). l ++ held_text marks answers) none ∙ ap (held_text marks) none_held in
     let whole : t.sent ≡ output_from opening t.lines =
-    sym (append-nil t.sent) ∙ ap (λ (l : List ℕ). t.sent ++ l) (sym empty) ∙ t.whole in
+    sym (append-nil t.sent) ∙ ap (λ (l : List ℕ). t.sent ++ l) (sym none) ∙ t.whole in
     let counted = tells.counted in
     record {
       served = record {

@@ -9,12 +9,12 @@ use Rattle.firm_text.specs.Rosters.{most_places}
 use Rattle.firm_rounds.specs.Rounds.{weigh}
 use Rattle.firm_rounds.specs.Passes.{QueueId, PutIs, new_puts}
 use Rattle.firm_table.specs.Tenants.{tenants_are}
-use Rattle.firm_table.specs.inner.Line.{state_is, tenants_at, books_of}
-use Rattle.firm_table.specs.inner.Adding.{NothingIsTold}
+use Rattle.firm_table.specs.Progress.{state_is, tenants_at, books_of}
+use Rattle.firm_table.specs.Adding.{NothingIsTold}
 use Rattle.firm_table.specs.Places.{MarkedLine, Stay, Place, unused_place, book_of, register_of}
 use Rattle.firm_table.specs.Output.{answers_from}
 use Rattle.firm_hall.specs.Counts.{Counted}
-use Rattle.firm_hall.specs.inner.DeskStates.{IsBack}
+use Rattle.firm_hall.specs.inner.DeskStates.{NoneIsAway}
 use Rattle.firm_hall.specs.inner.Ending.{IsOf}
 use Rattle.firm_hall.specs.inner.Serving.{book_at, opened_at, opening_state, opening_states, asked_at}
 use Rattle.firm_hall.specs.inner.Serving.{desk_state_counts, place_counts, AreDeskStates, Fits, DeskStateIs, Tells}
@@ -94,16 +94,14 @@ fits_open id places =
     ∙ sym (counts_of places)
 
 -- and so do the books
-book_open : (marks : ℕ → Bool) (id : QueueId) (at admissions : ℕ) (book : Option Book)
-    → book_at marks (opened_at id at admissions book) ≡ book
-book_open marks id at admissions None = refl
-book_open marks id at admissions (Some book) = refl
+book_open : (id : QueueId) (at admissions : ℕ) (book : Option Book) → book_at (opened_at id at admissions book) ≡ book
+book_open id at admissions None = refl
+book_open id at admissions (Some book) = refl
 
-books_open : (marks : ℕ → Bool) (id : QueueId) (places : List Place)
-    → map (book_at marks) (opening_states id 0 places) ≡ books_of places
-books_open marks id places =
-    states_as (book_at marks) (λ (place : Place). option_map book_of place.stay) id 0 places
-    (λ k place. book_open marks id k place.admissions (option_map book_of place.stay))
+books_open : (id : QueueId) (places : List Place) → map book_at (opening_states id 0 places) ≡ books_of places
+books_open id places =
+    states_as book_at (λ (place : Place). option_map book_of place.stay) id 0 places
+    (λ k place. book_open id k place.admissions (option_map book_of place.stay))
 
 -- nothing was asked yet
 none_asked : (id : QueueId) (at admissions : ℕ) (book : Option Book) → asked_at (opened_at id at admissions book) ≡ 0
@@ -126,7 +124,7 @@ long_open id at (place ∷ rest) = ap suc (long_open id (suc at) rest)
 state_is_open : (id : QueueId) (at admissions sum : ℕ) (book : Option Book) → at ≡ sum
     → DeskStateIs id sum [] (opened_at id at admissions book)
 state_is_open id at admissions sum None same = (refl, same, tt)
-state_is_open id at admissions sum (Some book) same = (refl, same, tt)
+state_is_open id at admissions sum (Some book) same = (refl, same, λ idle. tt)
 
 desk_state_open : (id : QueueId) (at : ℕ) (places : List Place) (place sum : ℕ) (default : DeskState)
     → sum ≡ at + place → place < length places
@@ -162,18 +160,18 @@ tells_open nothing id places desk_states answers output is none empty written ma
     record { told = n.0; counted = zero_lines } in
     rw (is, none, empty)
     (subst (λ (k : ℕ). Tells
-    (state_is places (tenants_are (register_of places) (map (book_at marks) (opening_states id 0 places))) []) k
+    (state_is places (tenants_are (register_of places) (map book_at (opening_states id 0 places))) []) k
     [] written written)
     (sym (asked_open id 0 places))
     (subst (λ (bs : List (Option Book)). Tells
     (state_is places (tenants_are (register_of places) bs) []) 0 [] written written)
-    (sym (books_open marks id places)) t))
+    (sym (books_open id places)) t))
 
 -- where no answer is held, each desk of this hall is home
 desk_state_of : (id : QueueId) (place : ℕ) (desk_state : DeskState) → DeskStateIs id place [] desk_state
     → IsOf id desk_state
-desk_state_of id place (Home desk) is = is.0
-desk_state_of id place (Away asked) is = absurd is.2
+desk_state_of id place (Home desk waits) is = is.0
+desk_state_of id place (Away asked) is = absurd is.first
 desk_state_of id place (Empty empty) is = is.0
 desk_state_of id place Gone is = absurd is
 
@@ -184,8 +182,8 @@ all_of id answers desk_states none are place default low =
     (subst (λ (held : List HeldAnswer). DeskStateIs id place held (get_or desk_states place default)) none
     (are.each place default (omega (arith, are.long))))
 
-pub back_of : (id : QueueId) (desk_state : DeskState) → IsOf id desk_state → IsBack desk_state
-back_of id (Home desk) is = tt
+pub back_of : (id : QueueId) (desk_state : DeskState) → IsOf id desk_state → NoneIsAway desk_state
+back_of id (Home desk waits) is = tt
 back_of id (Away asked) is = absurd is
 back_of id (Empty empty) is = tt
 back_of id Gone is = absurd is

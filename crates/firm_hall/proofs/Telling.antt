@@ -1,28 +1,24 @@
 -- What is told, as one line more is answered, and as rounds come back.
 use Rattle.std.proofs.Common.{◌≡◌, ℕ, ◌+◌, ◌≤◌, List, [], ◌∷◌, ◌++◌, drop, length, take, refl, sym, ap, ◌∙◌, subst}
 use Rattle.std.proofs.Common.{arith}
-use Rattle.std.proofs.Common.{append_assoc, append-nil}
-use Rattle.std.specs.Prelude.{Bool, map, Option}
-use Rattle.std.specs.List.{flat_map}
+use Rattle.std.proofs.Common.{append_assoc}
+use Rattle.std.specs.Prelude.{Option}
 use Rattle.std.specs.Io.KnownBytes.{Appends}
 use Rattle.std.proofs.KnownBytes.{Appends-trans}
-use Rattle.std.proofs.lemmas.Grind.{flat_map-append}
-use Rattle.std.proofs.lemmas.List.{length-map, map-append, take-append-drop}
+use Rattle.std.proofs.lemmas.List.{length-map, take-append-drop}
 use Rattle.std.proofs.Math.Seq.{take-append_seam}
 use Rattle.firm_text.specs.Inputs.{input_lines}
 use Rattle.firm_text.specs.declared.inputs.Line.{Line}
 use Rattle.firm_table.specs.Places.{MarkedLine, Place}
-use Rattle.firm_table.specs.Answers.{tells_memory, text_of_answer}
+use Rattle.firm_table.specs.Answers.{tells_memory}
 use Rattle.firm_table.specs.declared.answers.LineAnswer.{LineAnswer}
 use Rattle.firm_table.specs.Output.{answers_from, output_from}
 use Rattle.firm_table.specs.Service.{BeginsAnswersFrom}
 use Rattle.firm_table.specs.Tenants.{TenantsState}
-use Rattle.firm_table.specs.inner.Line.{State, IsAnswer, state_is}
-use Rattle.firm_table.specs.inner.Adding.{OneMoreBegins, OneMoreIsTold}
+use Rattle.firm_table.specs.Progress.{State, IsAnswer, state_is}
+use Rattle.firm_table.specs.Adding.{OneMoreBegins, OneMoreIsTold}
 use Rattle.firm_hall.specs.Counts.{rounds_in, round_of, refusal_in, refusals_in}
-use Rattle.firm_hall.specs.inner.Held.{answer_in, held_text}
 use Rattle.firm_hall.specs.inner.Serving.{Begun, Tells}
-use Rattle.firm_hall.specs.declared.held.HeldAnswer.{HeldAnswer}
 
 -- the counts, with one line more
 rounds_more : (lines : List MarkedLine) (answers : List LineAnswer) (given : MarkedLine) (answer : LineAnswer)
@@ -76,14 +72,6 @@ tells_more one_more state tenants pending line asked later text after written no
         most = omega (arith, counted.most, adds.most, rounds, refusals);
       };
     }
-
--- one answer more is held
-pub held_push : (marks : ℕ → Bool) (answers : List HeldAnswer) (answer : HeldAnswer)
-    → held_text marks (answers ++ answer ∷ []) ≡ held_text marks answers ++ text_of_answer (answer_in marks answer)
-held_push marks answers answer =
-    ap (flat_map text_of_answer) (map-append (answer_in marks) answers (answer ∷ []))
-    ∙ flat_map-append text_of_answer (map (answer_in marks) answers) (answer_in marks answer ∷ [])
-    ∙ ap (λ (l : List ℕ). held_text marks answers ++ l) (append-nil (text_of_answer (answer_in marks answer)))
 
 -- some of what is still to be written was
 pub tells_begins : (state : State) (asked : ℕ) (text : List ℕ) (written now later : Option (List ℕ)) (count : ℕ)

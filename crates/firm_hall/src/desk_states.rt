@@ -1,25 +1,22 @@
 //! What stands at a tenant's place while the hall serves.
-ghost use Rattle.std.specs.Prelude.{◌≡◌, IsSome, MatchBool};
-ghost use Rattle.firm_hall.specs.inner.DeskStates.{IsPresent, IsBack, IsAway, IsHome, IsHomeOf, IsFree, IsTurned};
-ghost use Rattle.firm_hall.specs.inner.DeskStates.{IsAdmitted, IsRetired, IsTaken, IsTakenAt};
+ghost use Rattle.std.specs.Prelude.{◌≡◌, ◌≢◌, IsSome, Some, false, true};
+ghost use Rattle.firm_hall.specs.inner.DeskStates.{IsAdmitted, IsAway, IsBack, IsFree, IsHome, IsHomeOf, IsRetired};
+ghost use Rattle.firm_hall.specs.inner.DeskStates.{IsTaken, IsTakenAt, IsTurned, with_waiting};
 ghost use Rattle.firm_rules.specs.declared.commands.Command.TheVariants.{Round};
 
 use crate::desks::{Asked, AskedPoll, Desk};
 use crate::empty::{AdmitFault, EmptyDesk};
-use crate::held::HeldAnswer;
 use crate::setting::Setting;
-use firm_rules::{Command, Limits, Name, Reply};
-use firm_table::LineAnswer;
+use firm_rules::{Command, Limits, Reply};
 use std::alloc::Global;
 use std::mem;
-use std::snapshot::Snapshot;
 use std::sync::Wait;
 
 /// What stands at a place.
 #[derive(Drop)]
 pub(crate) enum DeskState {
-    /// The tenant is at home.
-    Home(Desk),
+    /// The tenant is at home; possibly commands wait for it.
+    Home(Desk, bool),
     /// The tenant's round is away.
     Away(Asked),
     /// No tenant has the place.
@@ -29,14 +26,43 @@ pub(crate) enum DeskState {
 }
 
 impl DeskState {
-    // Whether no round is away from the place.
+    // Whether the place is empty, or its tenant at home with no command waiting.
     pub(crate) fn is_back(&self) -> bool
-        requires { IsPresent self.now }
-        ensures { MatchBool result (IsBack self.now) (IsAway self.now) }
+        ensures { result ≡ true → IsBack self.now }
     {
         match self {
-            DeskState::Away(_) => false,
-            _ => true,
+            DeskState::Home(_, waits) => !*waits,
+            DeskState::Empty(_) => true,
+            DeskState::Away(_) | DeskState::Gone => false,
+        }
+    }
+
+    // Whether the tenant is at home and commands wait for it.
+    pub(crate) fn has_waiting(&self) -> bool
+        ensures { result ≡ true → IsHome self.now }
+    {
+        match self {
+            DeskState::Home(_, waits) => *waits,
+            _ => false,
+        }
+    }
+
+    // Whether a round is away from the place.
+    pub(crate) fn is_away(&self) -> bool
+        ensures { result ≡ true → IsAway self.now }
+    {
+        match self {
+            DeskState::Away(_) => true,
+            _ => false,
+        }
+    }
+
+    // Says whether commands wait for the tenant, if it is home.
+    pub(crate) fn set_waiting(&mut self, waits: bool)
+        ensures { self.new ≡ with_waiting waits self.old }
+    {
+        if let DeskState::Home(_, now) = self {
+            *now = waits;
         }
     }
 
@@ -44,53 +70,62 @@ impl DeskState {
     pub(crate) fn look(&mut self) -> Option<Reply>
         requires { IsAway self.old }
         ensures turned { IsTurned self.old self.new result }
-        ensures back { IsSome result → IsBack self.new }
+        ensures home { IsSome result → IsHome self.new }
     {
         let DeskState::Away(asked) = mem::replace(self, DeskState::Gone) else {
             unreachable!()
         };
         let (desk_state, reply) = match asked.poll() {
-            AskedPoll::Back(desk, reply) => (DeskState::Home(desk), Some(reply)),
+            AskedPoll::Back(desk, reply) => (DeskState::Home(desk, true), Some(reply)),
             AskedPoll::Not(same) => (DeskState::Away(same), None),
         };
         let _gone = mem::replace(self, desk_state);
         reply
     }
 
-    // Gives a command to the desk that is home at this place; returns the answer to its line. Only a round moves the
-    // desk.
+    // Gives a command to the desk that is home at this place; returns the reply, unless the command is a round that is
+    // then away.
     pub(crate) fn take<R: Wait>(
         &mut self,
         setting: &Setting<'_, R>,
-        place: usize,
-        name: Name,
-        command: Command,
-    ) -> HeldAnswer
+        command: &Command,
+    ) -> Option<Reply>
         requires { IsHomeOf setting.now.hall.now.id self.old }
-        ensures { IsTakenAt self.old place name command self.new result }
+        ensures { IsTakenAt self.old command.now self.new result }
     {
-        if command == Command::Round {
-            return self.ask(setting, place, name);
+        if *command == Command::Round {
+            return self.ask(setting);
         }
-        let DeskState::Home(desk) = self else {
+        let DeskState::Home(desk, _) = self else {
             unreachable!()
         };
-        let reply = desk.command(setting.alloc, command);
-        HeldAnswer::Known(LineAnswer::Replied(name, reply))
+        Some(desk.command(setting.alloc, *command))
+    }
+
+    // The same for a command that is not a round, apart so that it is not copied on most lines' way.
+    pub(crate) fn tell<R: Wait>(&mut self, setting: &Setting<'_, R>, command: Command) -> Reply
+        requires home { IsHomeOf setting.now.hall.now.id self.old }
+        requires other { command ≢ Round }
+        ensures { IsTakenAt self.old command self.new (Some result) }
+    {
+        let DeskState::Home(desk, _) = self else {
+            unreachable!()
+        };
+        desk.command(setting.alloc, command)
     }
 
     // The same for a round, out of line so that other commands do not pay for its locals.
     #[inline(never)]
-    fn ask<R: Wait>(&mut self, setting: &Setting<'_, R>, place: usize, name: Name) -> HeldAnswer
+    fn ask<R: Wait>(&mut self, setting: &Setting<'_, R>) -> Option<Reply>
         requires { IsHomeOf setting.now.hall.now.id self.old }
-        ensures { IsTakenAt self.old place name Round self.new result }
+        ensures { IsTakenAt self.old Round self.new result }
     {
-        let DeskState::Home(desk) = mem::replace(self, DeskState::Gone) else {
+        let DeskState::Home(desk, waits) = mem::replace(self, DeskState::Gone) else {
             unreachable!()
         };
-        let (desk_state, answer) = ask(setting, desk, place, name);
+        let (desk_state, reply) = ask(setting, desk, waits);
         let _gone = mem::replace(self, desk_state);
-        answer
+        reply
     }
 
     // Admits a tenant with these limits to the empty place. Returns `false` only if memory is refused, with the place
@@ -103,7 +138,7 @@ impl DeskState {
             unreachable!()
         };
         let (desk_state, came) = match place.admit(alloc, limits) {
-            Ok(desk) => (DeskState::Home(desk), true),
+            Ok(desk) => (DeskState::Home(desk, false), true),
             Err(AdmitFault::Memory(place)) => (DeskState::Empty(place), false),
             Err(AdmitFault::Worn(_)) => unreachable!(),
         };
@@ -116,31 +151,21 @@ impl DeskState {
         requires { IsHome self.old }
         ensures { IsRetired self.old self.new }
     {
-        let DeskState::Home(desk) = mem::replace(self, DeskState::Gone) else {
+        let DeskState::Home(desk, _) = mem::replace(self, DeskState::Gone) else {
             unreachable!()
         };
         let _gone = mem::replace(self, DeskState::Empty(desk.retire()));
     }
 }
 
-// Asks for a round at the desk of this place: what then stands there, and the answer to its line.
-fn ask<R: Wait>(
-    setting: &Setting<'_, R>,
-    desk: Desk,
-    place: usize,
-    name: Name,
-) -> (DeskState, HeldAnswer)
+// Asks for a round at this desk, for which commands wait or none do. Returns what then stands at its place, and the
+// reply, unless the round is away.
+fn ask<R: Wait>(setting: &Setting<'_, R>, desk: Desk, waits: bool) -> (DeskState, Option<Reply>)
     requires { desk.queue ≡ setting.now.hall.now.id }
-    ensures { IsTaken desk place name Round result.0 result.1 }
+    ensures { IsTaken desk waits Round result.0 result.1 }
 {
     match desk.ask_unrung(setting.rt, setting.alloc, setting.hall) {
-        Ok(asked) => {
-            let answer = HeldAnswer::Waiting(place, name, Snapshot::of(&asked));
-            (DeskState::Away(asked), answer)
-        }
-        Err((desk, reply)) => (
-            DeskState::Home(desk),
-            HeldAnswer::Known(LineAnswer::Replied(name, reply)),
-        ),
+        Ok(asked) => (DeskState::Away(asked), None),
+        Err((desk, reply)) => (DeskState::Home(desk, waits), Some(reply)),
     }
 }

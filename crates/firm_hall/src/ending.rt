@@ -4,7 +4,7 @@ ghost use Rattle.firm_text.specs.Rosters.{most_places};
 ghost use Rattle.firm_rounds.specs.Passes.{QueueId};
 ghost use Rattle.firm_rounds.specs.Rounds.{weigh};
 ghost use Rattle.firm_hall.specs.inner.Ending.{AreOf, IsOf};
-ghost use Rattle.firm_hall.specs.inner.DeskStates.{IsBack};
+ghost use Rattle.firm_hall.specs.inner.DeskStates.{NoneIsAway};
 ghost use Rattle.firm_hall.specs.inner.Serving.{IsFinished, IsReserved, asked_at};
 
 use crate::desk_states::DeskState;
@@ -48,7 +48,7 @@ impl Serving {
 
 // Puts a desk with the others, or an empty one with the empty ones. Returns how many rounds were asked there.
 fn put_away(desk_state: DeskState, desks: &mut Vec<Desk>, empty: &mut Vec<EmptyDesk>) -> u64
-    requires back { IsBack desk_state }
+    requires back { NoneIsAway desk_state }
     requires room { vec_len desks.old < vec_capacity desks.old }
     requires empty_room { vec_len empty.old < vec_capacity empty.old }
     ensures of { (id : QueueId) → IsOf id desk_state → AreOf id desks.old.items empty.old.items
@@ -60,7 +60,7 @@ fn put_away(desk_state: DeskState, desks: &mut Vec<Desk>, empty: &mut Vec<EmptyD
     ensures few { result ≤ 2 ^ 55 }
 {
     match desk_state {
-        DeskState::Home(desk) => put_desk(desks, desk),
+        DeskState::Home(desk, _) => put_desk(desks, desk),
         DeskState::Empty(place) => {
             let rounds = place.asked();
             empty.push_reserved(place);

@@ -1,45 +1,39 @@
 //! Answers held until those to all earlier lines are known.
-ghost use Rattle.std.specs.Prelude.{◌≡◌, ◌<◌, ◌≤◌, ◌++◌, ◌∷◌, Bool, IfErr, IfOk, MatchBool, OnErr, OnOk, [], false};
-ghost use Rattle.std.specs.Prelude.{length, take, true, ℕ};
+ghost use Rattle.std.specs.Prelude.{◌≡◌, ◌+◌, ◌<◌, ◌≤◌, ◌++◌, ◌∷◌, ℕ, IfErr, IfOk, IfSome, MatchBool, MatchOption};
+ghost use Rattle.std.specs.Prelude.{OnErr, OnOk, [], false, length, take, true};
 ghost use Rattle.std.specs.VecDeque.{deque_capacity, deque_len};
 ghost use Rattle.std.specs.Io.KnownBytes.{Appends};
-ghost use Rattle.firm_table.specs.Answers.{text_of_answer};
-ghost use Rattle.firm_table.specs.inner.Faults.{IsWritingFault};
-ghost use Rattle.firm_hall.specs.Desks.{DeskIs};
+ghost use Rattle.firm_table.specs.Service.{IsWritingFault};
+ghost use Rattle.firm_rules.specs.declared.commands.Command.{Command};
 ghost use Rattle.firm_hall.specs.declared.held.HeldAnswer.{HeldAnswer};
-ghost use Rattle.firm_hall.specs.inner.Held.{answer_in, answered, filled, held_is, most_answers_held, waits_for};
-ghost use Rattle.firm_hall.specs.inner.Held.{FirstIsKnown, IsFirst, OneWaits};
+ghost use Rattle.firm_hall.specs.inner.Held.{FirstIs, FirstIsAt, FirstIsFor, FirstIsKnown, FirstWaits, IsWaiting};
+ghost use Rattle.firm_hall.specs.inner.Held.{HasRoom, NoneWaits, answered, bytes_in, bytes_of_answer, filled};
+ghost use Rattle.firm_hall.specs.inner.Held.{held_answer, held_is, known_text, most_answers_held, most_bytes_held};
+ghost use Rattle.firm_hall.specs.inner.Held.{waits_for};
 
-use crate::desks::Asked;
-use firm_rules::{Name, Reply};
+use crate::change_bytes::{bytes_of_line, bytes_of_reply};
+use firm_rules::{Command, Name, Reply};
 use firm_table::{LineAnswer, ServeFault, write_held};
 use firm_text::Sink;
 use std::alloc::{AllocError, Global};
 use std::collections::VecDeque;
 use std::marker::Model;
-use std::snapshot::Snapshot;
 
 /// At most this many answers are held.
 const MOST_ANSWERS_HELD: usize = 1_024;
+
+/// While the changes of held rounds have so many bytes of text, no line is taken, and only the tenant for which the
+/// first answer waits goes on. A reply's other words have a few hundred bytes at most.
+const MOST_BYTES_HELD: u64 = 4_000_000;
 
 /// A held answer to a line.
 #[derive(Drop)]
 pub(crate) enum HeldAnswer {
     /// It is known.
     Known(LineAnswer),
-    /// It is the reply to a round that is away from this place, asked by the tenant of this name.
-    Waiting(usize, Name, Snapshot<Asked>),
-}
-
-/// The first held answer.
-#[derive(Drop)]
-pub(crate) enum First {
-    /// None is held.
-    Missing,
-    /// It is known.
-    Ready,
-    /// It waits for the round that is away from this place.
-    Waits(usize),
+    /// It is the reply to this command of the tenant of this name, at this place. The first command that waits for a
+    /// place is a round, which is away or finds no room in the queue; the others wait for it.
+    Waiting(usize, Name, Command),
 }
 
 /// The held answers, in the order of their lines, and the text still to be written before them.
@@ -47,19 +41,21 @@ pub(crate) enum First {
 pub(crate) struct Held {
     answers: VecDeque<HeldAnswer>,
     output: Vec<u8>,
+    // How many bytes of text the changes in the known answers have.
+    bytes: u64,
 }
 
 impl Model for Held {
-    ghost use Rattle.std.specs.Prelude.{◌≤◌};
+    ghost use Rattle.std.specs.Prelude.{◌≡◌, ◌≤◌};
     ghost use Rattle.std.specs.VecDeque.{deque_capacity, deque_len};
-    ghost use Rattle.firm_hall.specs.inner.Held.{HeldIs, held_is, most_answers_held};
+    ghost use Rattle.firm_hall.specs.inner.Held.{HeldIs, bytes_in, held_is, most_answers_held};
 
     ghost Value = { HeldIs };
 
     ghost view = { λ h. held_is h.answers.items h.output.items };
 
     ghost invariant = { λ h. (deque_len h.answers ≤ most_answers_held)
-        × (most_answers_held ≤ deque_capacity h.answers) };
+        × (most_answers_held ≤ deque_capacity h.answers) × (h.bytes ≡ bytes_in h.answers.items) };
 }
 
 impl Held {
@@ -71,6 +67,7 @@ impl Held {
         Ok(Held {
             answers,
             output: Vec::new(alloc),
+            bytes: 0,
         })
     }
 
@@ -80,11 +77,26 @@ impl Held {
         self.answers.is_empty()
     }
 
-    pub(crate) fn is_full(&self) -> bool
-        ensures { MatchBool result (length self.now.answers ≡ most_answers_held)
-            (length self.now.answers < most_answers_held) }
+    // Whether one more answer can be held.
+    pub(crate) fn has_room(&self) -> bool
+        ensures { result ≡ true → HasRoom self.now.answers }
     {
-        self.answers.len() == MOST_ANSWERS_HELD
+        self.answers.len() < MOST_ANSWERS_HELD && !self.is_heavy()
+    }
+
+    // Whether the changes of held rounds have as many bytes as they may have, or more.
+    pub(crate) fn is_heavy(&self) -> bool
+        ensures { MatchBool result (most_bytes_held ≤ bytes_in self.now.answers)
+            (bytes_in self.now.answers < most_bytes_held) }
+    {
+        MOST_BYTES_HELD <= self.bytes
+    }
+
+    // How many answers are held.
+    pub(crate) fn len(&self) -> usize
+        ensures { result ≡ length self.now.answers }
+    {
+        self.answers.len()
     }
 
     // Holds one more answer.
@@ -92,25 +104,61 @@ impl Held {
         requires { length self.old.answers < most_answers_held }
         ensures { self.new ≡ held_is (self.old.answers ++ answer ∷ []) self.old.output }
     {
+        self.bytes += answer.bytes();
         self.answers.push_back_reserved(answer);
     }
 
-    pub(crate) fn first(&self) -> First
-        ensures { IsFirst self.now.answers result }
+    // Whether the first answer is known.
+    pub(crate) fn first_is_known(&self) -> bool
+        ensures { MatchBool result (FirstIsKnown self.now.answers) (FirstWaits self.now.answers) }
     {
         match self.answers.front() {
-            None => First::Missing,
-            Some(HeldAnswer::Waiting(place, _, _)) => First::Waits(*place),
-            Some(HeldAnswer::Known(_)) => First::Ready,
+            Some(HeldAnswer::Known(_)) => true,
+            _ => false,
         }
     }
 
-    // Makes this reply the answer that waits for the round of this place.
-    pub(crate) fn fill(&mut self, place: usize, reply: Reply)
-        requires { (asked : DeskIs) × OneWaits place asked self.old.answers }
+    // The place for which the first answer waits, if it does.
+    pub(crate) fn first_place(&self) -> Option<usize>
+        ensures { IfSome result (λ place. FirstIsFor place self.now.answers) }
+    {
+        match self.answers.front() {
+            Some(HeldAnswer::Waiting(place, _, _)) => Some(*place),
+            _ => None,
+        }
+    }
+
+    // The command to which this answer is the reply, if it waits for the place.
+    pub(crate) fn waiting_at(&self, at: usize, place: usize) -> Option<Command>
+        requires { at < length self.now.answers }
+        ensures { NoneWaits place (take at self.now.answers)
+            → MatchOption result (NoneWaits place (take (at + 1) self.now.answers))
+            (λ command. FirstIsAt place command at self.now.answers) }
+    {
+        self.answers[at].command_of(place)
+    }
+
+    // Which answer is the first that waits for the place.
+    pub(crate) fn first_of(&self, place: usize) -> usize
+        requires { (command : Command) × FirstIs place command self.now.answers }
+        ensures { (command : Command) → FirstIs place command self.now.answers
+            → FirstIsAt place command result self.now.answers }
+    {
+        for at in 0..self.answers.len() {
+            if self.waiting_at(at, place).is_some() {
+                return at;
+            }
+        }
+        unreachable!()
+    }
+
+    // Makes this reply the answer that is the first to wait for the place.
+    pub(crate) fn fill(&mut self, at: usize, place: usize, reply: Reply)
+        requires { (command : Command) × FirstIsAt place command at self.old.answers }
         ensures { self.new ≡ held_is (filled place reply self.old.answers) self.old.output }
     {
-        fill(&mut self.answers, place, reply);
+        self.bytes += bytes_of_reply(&reply);
+        self.answers[at].answer(reply);
     }
 
     // Adds the first answer, which is known, to the text to be written. If memory runs out, the answer is lost, and
@@ -119,12 +167,13 @@ impl Held {
         requires { FirstIsKnown self.old.answers }
         ensures first { (first : HeldAnswer) × (self.old.answers ≡ first ∷ self.new.answers) }
         ensures put { OnOk result ((first : HeldAnswer) → self.old.answers ≡ first ∷ self.new.answers
-            → (marks : ℕ → Bool) → self.new.output ≡ self.old.output ++ text_of_answer (answer_in marks first)) }
+            → self.new.output ≡ self.old.output ++ known_text first) }
     {
         let Some(HeldAnswer::Known(answer)) = self.answers.front() else {
             unreachable!()
         };
         let put = answer.put(&mut self.output);
+        self.bytes -= bytes_of_line(answer);
         let _answered = self.answers.pop_front();
         put
     }
@@ -145,19 +194,40 @@ impl Held {
 }
 
 impl HeldAnswer {
-    // Whether the answer is the reply to the round of this place.
-    fn waits_for(&self, place: usize) -> bool
-        ensures { result ≡ waits_for place self.now }
+    // The answer to a command that was given this reply, or that waits for one.
+    pub(crate) fn to(place: usize, name: Name, command: Command, reply: Option<Reply>) -> HeldAnswer
+        ensures { result ≡ held_answer place name command reply }
     {
-        match self {
-            HeldAnswer::Waiting(waiting, _, _) => *waiting == place,
-            _ => false,
+        match reply {
+            Some(reply) => HeldAnswer::Known(LineAnswer::Replied(name, reply)),
+            None => HeldAnswer::Waiting(place, name, command),
         }
     }
 
-    // Answers the round with this reply.
+    // The command to which it is the reply, if it waits for the place.
+    fn command_of(&self, place: usize) -> Option<Command>
+        ensures { MatchOption result (waits_for place self.now ≡ false)
+            (λ command. IsWaiting place command self.now) }
+    {
+        match self {
+            HeldAnswer::Waiting(other, _, command) if *other == place => Some(*command),
+            _ => None,
+        }
+    }
+
+    // How many bytes of text the changes in it have.
+    fn bytes(&self) -> u64
+        ensures { result ≡ bytes_of_answer self.now }
+    {
+        match self {
+            HeldAnswer::Known(answer) => bytes_of_line(answer),
+            HeldAnswer::Waiting(..) => 0,
+        }
+    }
+
+    // Answers the command with this reply.
     fn answer(&mut self, reply: Reply)
-        requires { (place : ℕ) × (waits_for place self.old ≡ true) }
+        requires { (place : ℕ) × (command : Command) × IsWaiting place command self.old }
         ensures { self.new ≡ answered reply self.old }
     {
         let HeldAnswer::Waiting(_, name, _) = self else {
@@ -165,20 +235,4 @@ impl HeldAnswer {
         };
         *self = HeldAnswer::Known(LineAnswer::Replied(*name, reply));
     }
-}
-
-// Makes this reply the answer that waits for the round of this place.
-fn fill(answers: &mut VecDeque<HeldAnswer>, place: usize, reply: Reply)
-    requires { (asked : DeskIs) × OneWaits place asked answers.old.items }
-    ensures filled { answers.new.items ≡ filled place reply answers.old.items }
-    ensures length { deque_len answers.new ≡ deque_len answers.old }
-    ensures capacity { deque_capacity answers.new ≡ deque_capacity answers.old }
-{
-    for at in 0..answers.len() {
-        if answers[at].waits_for(place) {
-            answers[at].answer(reply);
-            return;
-        }
-    }
-    unreachable!()
 }

@@ -25,11 +25,16 @@
 //!
 //! # How it works
 //!
+//! A command of a tenant whose round is away, or a round for which the queue has no room, waits among the held answers,
+//! in the place of its own answer: there each tenant has a queue of its own (`held.rt`), and the lines of others are
+//! answered meanwhile. What the held answers come to is one fold over them (`reckon` in `specs/inner/Held.antt`).
+//!
 //! The clerk waits in one loop alone (`waiting.rt`): for input, while an answer is missing and a read would wait
-//! (`Source::is_ready`); for the turn of a line; and at the end for all answers. A line has its turn when its tenant's
-//! round is back, even one that retires the tenant; when fewer than 1,024 answers are held; and, if it is a round, when
-//! the queue has room. Each time before it rests, the clerk has written all answers that are known with none missing
-//! before them: a clause of the one function that rests (`Serving::rest`). The writer is flushed at the end alone.
+//! (`Source::is_ready`); for the turn of a line; and at the end for all answers. A line has its turn when fewer than
+//! 1,024 answers are held, the changes of held rounds have fewer than 4 MB of text and, if it retires a tenant, no
+//! command of that one waits. At each look the tenants that are back are given what waited for them (`returning.rt`).
+//! Each time before it rests, the clerk has written all answers that are known with none missing before them: a clause
+//! of the one function that rests (`Serving::rest`). The writer is flushed at the end alone.
 //!
 //! A worker without a round looks 16 times, the last one awake 512 times, the clerk 1,024 times. Then they sleep:
 //!
@@ -41,7 +46,7 @@
 //! - `Desk::ask` at a full queue: sleeps until a worker takes a round; woken by the queue
 //!
 //! A round wakes a worker at once only if all workers rest or four rounds wait; else a wake is owed (why:
-//! docs/DECISIONS.md). `Desk::ask` *rings* at once; the clerk rings before each read, after 256 looks in any wait, and
+//! docs/DECISIONS.md). `Desk::ask` *rings* at once; the clerk rings before each read, after each 256 looks in vain, and
 //! before it sleeps: if a wake is owed and a round still waits, one worker wakes. One that takes a round right after
 //! its sleep calls another while rounds wait. So after a ring no worker sleeps on while a round waits.
 //! `specs/Bell.antt` states this as a rule over the bell's words, and each step of callers and workers is proved to
@@ -58,6 +63,7 @@
 
 mod bell;
 mod bell_rule;
+mod change_bytes;
 mod clerk;
 mod close;
 mod desk_states;
@@ -67,12 +73,14 @@ mod ending;
 mod halls;
 mod held;
 mod places;
+mod returning;
 mod seating;
 mod service;
 mod serving;
 mod setting;
 mod team;
 mod tenancy;
+mod unsettled;
 mod waiting;
 mod workers;
 

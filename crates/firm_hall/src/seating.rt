@@ -56,5 +56,5 @@ fn open_state(
     // A life is at most 2^40 commands, and no more were given, so ticket numbers never run out.
     prove!(tenant.limits().life() <= 1 << 40);
     prove!(tenant.life_left() <= 1 << 40);
-    Ok(DeskState::Home(Desk::at(place, tenant)))
+    Ok(DeskState::Home(Desk::at(place, tenant), false))
 }

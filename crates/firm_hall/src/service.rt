@@ -2,7 +2,7 @@
 ghost use Rattle.std.specs.Prelude.{◌≡◌, ℕ, ◌+◌, ◌≤◌, ◌^◌, List, Option, [], All, IfOk, IfErr, OnOk, false, length};
 ghost use Rattle.std.specs.Thread.{IsSync};
 ghost use Rattle.firm_table.specs.Openings.{places_opened};
-ghost use Rattle.firm_table.specs.Service.{Stopped, StoppedFrom, device};
+ghost use Rattle.firm_table.specs.Service.{Stopped, StoppedFrom, between, device};
 ghost use Rattle.firm_text.specs.Rosters.{most_places};
 ghost use Rattle.firm_hall.specs.Counts.{ServedWith, ServedWithFrom};
 ghost use Rattle.firm_hall.specs.inner.Ending.{AreOf, Ran};
@@ -25,11 +25,12 @@ use std::thread::Threads;
 
 /// Answers the lines of an input of at most `most` bytes, 2^32 at most, for the tenants of the roster, which are
 /// admitted first, and for those that the operator admits later, up to 64 at a time. 1 to 8 workers solve their rounds,
-/// each on its own thread and each round after passing the gate. Answers are written in the order of their lines. Waits
-/// for a round only if the next line is for its tenant or retires it, if 1,024 answers are held, if the next line is a
-/// round and 8 rounds wait for workers, at the end of the input, or before a read for which the reader is not ready;
-/// meanwhile it writes each answer once it and those before it are known. Flushes the writer only at the end, so a
-/// buffering writer holds replies back until then.
+/// each on its own thread and each round after passing the gate. Answers are written in the order of their lines. A
+/// line for a tenant whose round is away waits for that round, and those of others behind it are answered meanwhile.
+/// The service itself waits for a round only if the next line retires its tenant, if 1,024 answers are held or the
+/// changes of held rounds have 4 MB of text, at the end of the input, or before a read for which the reader is not
+/// ready; meanwhile it writes each answer once it and those before it are known. Flushes the writer only at the end, so
+/// a buffering writer holds replies back until then.
 ///
 /// On `Ok` a read has found the end of the input, and what was written is the output for all of it. After a fault it is
 /// a prefix of the output for the bytes that were read. `Read` and `Write` mean that a call of the reader or the writer
@@ -139,8 +140,8 @@ fn serve_with<S: Source, W: Sink, R: Threads + Wait + Sync, G: Gate + Sync>(
     requires reader { S.read_failed reader.old ≡ false }
     requires writer { W.write_failed writer.old ≡ false }
     ensures ran { Ran (places_opened clerk.entry.setting.opening) most
-        (device (S.left reader.old) (S.left reader.new) (S.read_failed reader.new))
-        (device (W.written writer.old) (W.written writer.new) (W.write_failed writer.new)) result.0 }
+        (between S.left S.read_failed reader.old reader.new)
+        (between W.written W.write_failed writer.old writer.new) result.0 }
     ensures desks { IfOk result.0 (λ ended. AreOf clerk.entry.setting.hall.now.id ended.desks.items ended.empty.items) }
     ensures places { IfOk result.0 (λ ended. length ended.desks.items + length ended.empty.items ≡ most_places) }
     ensures reports { All (λ report. report.queue ≡ team.entry.hall.now.id) result.1.items }
@@ -160,8 +161,8 @@ fn serve_with<S: Source, W: Sink, R: Threads + Wait + Sync, G: Gate + Sync>(
             ensures reads { result.2.ghost_name ≡ reader.entry.ghost_name }
             ensures writes { result.3.ghost_name ≡ writer.entry.ghost_name }
             ensures ran { Ran (places_opened clerk.entry.setting.opening) most
-                (device (S.left reader.entry.now) (S.left result.2.now) (S.read_failed result.2.now))
-                (device (W.written writer.entry.now) (W.written result.3.now) (W.write_failed result.3.now)) result.0 }
+                (between S.left S.read_failed reader.entry.now result.2.now)
+                (between W.written W.write_failed writer.entry.now result.3.now) result.0 }
             ensures desks { IfOk result.0
                 (λ ended. AreOf clerk.entry.setting.hall.now.id ended.desks.items ended.empty.items) }
             ensures places { IfOk result.0
@@ -197,8 +198,8 @@ fn serve_all<S: Source, W: Sink, R: Wait>(
     requires reader { S.read_failed reader.old ≡ false }
     requires writer { W.write_failed writer.old ≡ false }
     ensures ran { Ran (places_opened clerk.entry.setting.opening) most
-        (device (S.left reader.old) (S.left reader.new) (S.read_failed reader.new))
-        (device (W.written writer.old) (W.written writer.new) (W.write_failed writer.new)) result }
+        (between S.left S.read_failed reader.old reader.new)
+        (between W.written W.write_failed writer.old writer.new) result }
     ensures desks { IfOk result (λ ended. AreOf clerk.entry.setting.hall.now.id ended.desks.items ended.empty.items) }
     ensures places { IfOk result (λ ended. length ended.desks.items + length ended.empty.items ≡ most_places) }
 {

@@ -1,24 +1,25 @@
 //! Lines are answered in order at the desks, while rounds are away.
-ghost use Rattle.std.specs.Prelude.{◌≡◌, ℕ, ◌<◌, ◌++◌, ◌∷◌, All, IfErr, IfOk, IfSome, IsSome, List, MatchBool, OnErr};
+ghost use Rattle.std.specs.Prelude.{◌≡◌, ◌≢◌, ℕ, ◌<◌, ◌++◌, ◌∷◌, All, IfErr, IfOk, IfSome, List, MatchBool, OnErr};
 ghost use Rattle.std.specs.Prelude.{OnOk, Option, Some, [], false, length, true};
 ghost use Rattle.firm_text.specs.Inputs.{input_lines};
 ghost use Rattle.firm_text.specs.Registers.{IsRegister, place_in};
 ghost use Rattle.firm_text.specs.Rosters.{most_places};
+ghost use Rattle.firm_rules.specs.declared.commands.Command.TheVariants.{Round};
 ghost use Rattle.firm_text.specs.declared.inputs.Line.TheVariants.{For};
 ghost use Rattle.firm_table.specs.Places.{Place};
 ghost use Rattle.firm_table.specs.Openings.{places_opened};
-ghost use Rattle.firm_table.specs.Service.{BeginsAnswersFrom};
-ghost use Rattle.firm_table.specs.inner.Faults.{IsWritingFault};
+ghost use Rattle.firm_table.specs.Service.{BeginsAnswersFrom, IsWritingFault};
 ghost use Rattle.firm_rounds.specs.Passes.{new_puts};
-ghost use Rattle.firm_hall.specs.inner.Held.{FirstIsKnown, FirstWaits, most_answers_held};
+ghost use Rattle.firm_hall.specs.inner.Held.{FirstIsKnown, FirstWaits, HasRoom, most_answers_held};
 ghost use Rattle.firm_hall.specs.inner.Serving.{Begins, Follows, HasTurn, IsBackAt, IsOpen, IsWrittenOut, Keeps};
 ghost use Rattle.firm_hall.specs.inner.Serving.{Passes, Takes, TellsAll, place_of_line};
 
 use crate::desk_states::DeskState;
 use crate::halls::Hall;
-use crate::held::{First, Held, HeldAnswer};
+use crate::held::{Held, HeldAnswer};
 use crate::seating::open_states;
 use crate::setting::Setting;
+use crate::unsettled::Unsettled;
 use crate::waiting::Turn;
 use firm_rounds::PutPass;
 use firm_rules::{Command, Name};
@@ -38,6 +39,7 @@ pub(crate) struct Serving {
     pub(crate) register: Register,
     pub(crate) desk_states: Vec<DeskState>,
     pub(crate) held: Held,
+    pub(crate) unsettled: Unsettled,
 }
 
 impl Model for Serving {
@@ -71,6 +73,7 @@ impl Serving {
             register: setting.opening.register(),
             desk_states,
             held,
+            unsettled: Unsettled::none(),
         })
     }
 
@@ -98,24 +101,18 @@ impl Serving {
         // Laws: of one more line.
         answers_add_up();
         let place = self.place_of(&line);
-        let mut turn = Turn {
-            place,
-            is_round: matches!(line, Line::For(_, Command::Round)),
-            hall: setting.hall,
-        };
+        let mut turn = Turn { place };
         self.take_turn(setting, writer, &mut turn)?;
-        self.take_line(setting, line, place);
+        self.take_line(setting, line);
         Ok(())
     }
 
-    // The place that a line is for, if a tenant has it.
+    // The place of the tenant that a line waits for.
     fn place_of(&self, line: &Line) -> Option<usize>
         ensures place { result ≡ place_of_line self.now.register line.now }
         ensures within { IfSome result (λ place. place < most_places) }
-        ensures sound { IsSome result → IsRegister self.now.register }
     {
         match line {
-            Line::For(name, _) => self.register.place_of(*name),
             Line::Operator(OperatorLine::Retire(name)) => self.register.place_of(*name),
             _ => None,
         }
@@ -126,9 +123,10 @@ impl Serving {
         &mut self,
         setting: &Setting<'_, R>,
         writer: &mut W,
-        turn: &mut Turn<'_>,
+        turn: &mut Turn,
     ) -> Result<(), ServeFault>
-        requires { W.write_failed writer.old ≡ false }
+        requires writer { W.write_failed writer.old ≡ false }
+        requires open { IsOpen setting.now.hall.now.id self.old }
         ensures told { OnOk result (Passes self.old self.new (W.written writer.old) (W.written writer.new)) }
         ensures come { OnOk result (HasTurn turn.old.place self.new) }
         ensures begins { Begins self.old (W.written writer.old) (W.written writer.new) }
@@ -143,25 +141,19 @@ impl Serving {
     }
 
     // Takes a line, whose turn it is, and holds its answer.
-    fn take_line<R: Wait>(&mut self, setting: &Setting<'_, R>, line: Line, place: Option<usize>)
+    fn take_line<R: Wait>(&mut self, setting: &Setting<'_, R>, line: Line)
         requires open { IsOpen setting.now.hall.now.id self.old }
-        requires place { place ≡ place_of_line self.old.register line }
-        requires within { IfSome place (λ at. at < most_places) }
-        requires sound { IsSome place → IsRegister self.old.register }
-        requires turn { HasTurn place self.old }
+        requires turn { HasTurn (place_of_line self.old.register line) self.old }
         ensures takes { Takes self.old self.new line }
         ensures hall { self.new.queue ≡ self.old.queue }
     {
-        // Laws: of one more line, and of the marks that replies tell.
+        // Laws: of one more line.
         answers_add_up();
         match line {
             Line::Nothing => {}
             Line::Long => self.held.push(HeldAnswer::Known(LineAnswer::LineTooLong)),
             Line::Nameless => self.held.push(HeldAnswer::Known(LineAnswer::UnknownTenant)),
-            Line::For(name, command) => match place {
-                None => self.held.push(HeldAnswer::Known(LineAnswer::UnknownTenant)),
-                Some(place) => self.command(setting, place, name, command),
-            },
+            Line::For(name, command) => self.command(setting, name, command),
             Line::Operator(request) => {
                 let reply = self.obey(setting.alloc, request);
                 self.held
@@ -170,8 +162,40 @@ impl Serving {
         }
     }
 
-    // Gives a command to the tenant of the place, which is at home.
-    fn command<R: Wait>(
+    // Gives a command to the tenant of this name, if it is there.
+    fn command<R: Wait>(&mut self, setting: &Setting<'_, R>, name: Name, command: Command)
+        requires open { IsOpen setting.now.hall.now.id self.old }
+        requires room { length self.old.answers < most_answers_held }
+        ensures takes { Takes self.old self.new (For name command) }
+        ensures hall { self.new.queue ≡ self.old.queue }
+    {
+        // Laws: of one more line.
+        answers_add_up();
+        let Some(place) = self.register.place_of(name) else {
+            self.held.push(HeldAnswer::Known(LineAnswer::UnknownTenant));
+            return;
+        };
+        if !self.can_take(setting.hall, place, &command) {
+            self.hold(place, name, command);
+        } else if is_round(&command) {
+            self.take(setting, place, name, command);
+        } else {
+            self.tell(setting, place, name, command);
+        }
+    }
+
+    // Whether the tenant of the place is home with no command waiting, and the queue has room for its round.
+    fn can_take(&self, hall: &Hall, place: usize, command: &Command) -> bool
+        requires { place < most_places }
+        ensures { result ≡ true → IsBackAt place self.now.desk_states }
+    {
+        self.is_back(place) && (!is_round(command) || hall.has_room())
+    }
+
+    // Gives a command to the tenant of the place, which is at home. Out of line, so that lines other than rounds do not
+    // pay for its locals.
+    #[inline(never)]
+    fn take<R: Wait>(
         &mut self,
         setting: &Setting<'_, R>,
         place: usize,
@@ -190,21 +214,54 @@ impl Serving {
         // Laws: of one more line, and of the marks that replies tell.
         answers_add_up();
         replies_tell_their_marks();
-        let answer = self.desk_states[place].take(setting, place, name, command);
-        self.held.push(answer);
+        let reply = self.desk_states[place].take(setting, &command);
+        self.unsettled.set(place, reply.is_none());
+        self.held.push(HeldAnswer::to(place, name, command, reply));
     }
 
-    // Whether the first held answer is known, after a look if it waits for a round.
-    fn first_is_known(&mut self) -> bool
-        ensures follows { Follows self.old self.new }
-        ensures keeps { Keeps self.old self.new }
-        ensures first { MatchBool result (FirstIsKnown self.new.answers) (FirstWaits self.new.answers) }
+    // The same for a command that is not a round, whose reply is known at once.
+    fn tell<R: Wait>(
+        &mut self,
+        setting: &Setting<'_, R>,
+        place: usize,
+        name: Name,
+        command: Command,
+    )
+        requires open { IsOpen setting.now.hall.now.id self.old }
+        requires place { place < most_places }
+        requires sound { IsRegister self.old.register }
+        requires found { place_in self.old.register name ≡ Some place }
+        requires back { IsBackAt place self.old.desk_states }
+        requires room { length self.old.answers < most_answers_held }
+        requires other { command ≢ Round }
+        ensures takes { Takes self.old self.new (For name command) }
+        ensures hall { self.new.queue ≡ self.old.queue }
     {
-        match self.held.first() {
-            First::Missing => false,
-            First::Ready => true,
-            First::Waits(place) => self.look_at(place),
-        }
+        // Laws: of one more line, and of the marks that replies tell.
+        answers_add_up();
+        replies_tell_their_marks();
+        let reply = self.desk_states[place].tell(setting, command);
+        self.held
+            .push(HeldAnswer::Known(LineAnswer::Replied(name, reply)));
+    }
+
+    // Holds a command for the tenant of the place, whose round is away or finds no room in the queue. Out of line, for
+    // the same reason.
+    #[inline(never)]
+    fn hold(&mut self, place: usize, name: Name, command: Command)
+        requires place { place < most_places }
+        requires sound { IsRegister self.old.register }
+        requires found { place_in self.old.register name ≡ Some place }
+        requires room { length self.old.answers < most_answers_held }
+        ensures takes { Takes self.old self.new (For name command) }
+        ensures hall { self.new.queue ≡ self.old.queue }
+    {
+        // Laws: of one more line, and of the marks that replies tell.
+        answers_add_up();
+        replies_tell_their_marks();
+        self.desk_states[place].set_waiting(true);
+        self.unsettled.set(place, true);
+        self.held.push(HeldAnswer::Waiting(place, name, command));
     }
 
     // Puts the first held answer, which is known, after the text to be written.
@@ -224,15 +281,20 @@ impl Serving {
         ensures keeps { OnOk result (Keeps self.old self.new) }
         ensures first { OnOk result (FirstWaits self.new.answers) }
     {
-        while self.first_is_known() {
+        while self.held.first_is_known() {
             self.put_first()?;
         }
         Ok(())
     }
 
-    /// Writes the known answers, up to the first that waits for a round.
-    pub(crate) fn write_out<W: Sink>(&mut self, writer: &mut W) -> Result<(), ServeFault>
-        requires { W.write_failed writer.old ≡ false }
+    /// Looks at the rounds that are away, and writes the known answers, up to the first that waits.
+    pub(crate) fn write_out<R: Wait, W: Sink>(
+        &mut self,
+        setting: &Setting<'_, R>,
+        writer: &mut W,
+    ) -> Result<(), ServeFault>
+        requires writer { W.write_failed writer.old ≡ false }
+        requires open { IsOpen setting.now.hall.now.id self.old }
         ensures told { OnOk result (Passes self.old self.new (W.written writer.old) (W.written writer.new)) }
         ensures written_out { OnOk result (IsWrittenOut self.new) }
         ensures begins { Begins self.old (W.written writer.old) (W.written writer.new) }
@@ -240,6 +302,7 @@ impl Serving {
         ensures well { OnOk result (W.write_failed writer.new ≡ false) }
         ensures follows { Follows self.old self.new }
     {
+        self.look(setting);
         let Ok(()) = self.put_known() else {
             return Err(ServeFault::Memory);
         };
@@ -253,19 +316,34 @@ impl Serving {
         self.held.is_empty()
     }
 
-    /// Whether as many answers are held as may be.
-    pub(crate) fn is_full(&self) -> bool
-        ensures { MatchBool result (length self.now.answers ≡ most_answers_held)
-            (length self.now.answers < most_answers_held) }
+    /// Whether one more answer can be held.
+    pub(crate) fn has_room(&self) -> bool
+        ensures { result ≡ true → HasRoom self.now.answers }
     {
-        self.held.is_full()
+        self.held.has_room()
     }
 
-    /// Whether no round is away from the place.
+    /// How many answers are held.
+    pub(crate) fn count(&self) -> usize {
+        self.held.len()
+    }
+
+    /// Whether the place is empty, or its tenant at home with no command waiting.
     pub(crate) fn is_back(&self, place: usize) -> bool
         requires { place < most_places }
         ensures { result ≡ true → IsBackAt place self.now.desk_states }
     {
         self.desk_states[place].is_back()
+    }
+}
+
+// Whether the command is a round. In line, since each line pays for it.
+#[inline(always)]
+fn is_round(command: &Command) -> bool
+    ensures { MatchBool result (command.now ≡ Round) (command.now ≢ Round) }
+{
+    match command {
+        Command::Round => true,
+        _ => false,
     }
 }

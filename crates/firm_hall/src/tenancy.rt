@@ -1,11 +1,10 @@
-//! Which tenant has which place: tenants are admitted, come home with their rounds and leave. Nothing here waits.
-ghost use Rattle.std.specs.Prelude.{◌≡◌, ◌<◌, MatchBool, Some};
+//! Which tenant has which place: tenants are admitted and leave. Nothing here waits.
+ghost use Rattle.std.specs.Prelude.{◌≡◌, ◌<◌, Some};
 ghost use Rattle.firm_text.specs.Registers.{place_in};
 ghost use Rattle.firm_text.specs.Rosters.{most_places};
 ghost use Rattle.firm_text.specs.declared.operator.OperatorLine.TheVariants.{Admit, Retire};
 ghost use Rattle.firm_text.specs.declared.operator.OperatorReply.TheVariants.{Retired};
-ghost use Rattle.firm_hall.specs.inner.Held.{FirstIsFor, FirstIsKnown, FirstWaits};
-ghost use Rattle.firm_hall.specs.inner.Serving.{Follows, IsBackAt, IsBackIf, Keeps, Obeys, place_of_request};
+ghost use Rattle.firm_hall.specs.inner.Serving.{IsBackAt, IsBackIf, Obeys, place_of_request};
 
 use crate::serving::Serving;
 use firm_rules::{Limits, Name};
@@ -51,7 +50,7 @@ impl Serving {
         OperatorReply::Refused(OperatorRefusal::Memory)
     }
 
-    // Retires a tenant, none of whose rounds is away.
+    // Retires a tenant, none of whose commands waits or is away.
     fn retire(&mut self, name: Name) -> OperatorReply
         requires back { IsBackIf (place_in self.old.register name) self.old.desk_states }
         ensures obeys { Obeys self.old self.new (Retire name) result }
@@ -82,25 +81,5 @@ impl Serving {
             unreachable!()
         };
         self.desk_states[place].retire();
-    }
-
-    // Whether no round is away from the place, after a look at one that is. If it was answered, the answer that waited
-    // for it is then known; if not, nothing changes.
-    pub(crate) fn look_at(&mut self, place: usize) -> bool
-        requires { place < most_places }
-        ensures back { MatchBool result (IsBackAt place self.new.desk_states) (self.new ≡ self.old) }
-        ensures follows { Follows self.old self.new }
-        ensures keeps { Keeps self.old self.new }
-        ensures first { FirstIsFor place self.old.answers
-            → MatchBool result (FirstIsKnown self.new.answers) (FirstWaits self.new.answers) }
-    {
-        if self.desk_states[place].is_back() {
-            return true;
-        }
-        let Some(reply) = self.desk_states[place].look() else {
-            return false;
-        };
-        self.held.fill(place, reply);
-        true
     }
 }

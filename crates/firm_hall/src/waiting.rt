@@ -1,13 +1,12 @@
-//! Waiting: until what it waits for has come, the clerk writes what it knows, looks, and rests.
-ghost use Rattle.std.specs.Prelude.{◌≡◌, ◌<◌, ℕ, Bool, IfErr, List, MatchBool, OnOk, Option, false, length, true};
+//! Waiting: until what it waits for has come, the clerk looks at the rounds that are away, writes what it knows, and
+//! rests.
+ghost use Rattle.std.specs.Prelude.{◌≡◌, ◌<◌, ℕ, Bool, IfErr, List, OnOk, Option, false, true};
 ghost use Rattle.std.specs.Option.{ForSome};
 ghost use Rattle.firm_text.specs.Rosters.{most_places};
-ghost use Rattle.firm_table.specs.inner.Faults.{IsWritingFault};
-ghost use Rattle.firm_hall.specs.inner.Held.{most_answers_held};
-ghost use Rattle.firm_hall.specs.inner.Serving.{Begins, Follows, HasTurn, IsFinished, IsWrittenOut, Keeps, Passes};
+ghost use Rattle.firm_table.specs.Service.{IsWritingFault};
+ghost use Rattle.firm_hall.specs.inner.Serving.{Begins, Follows, HasTurn, IsFinished, IsOpen, IsWrittenOut, Passes};
 ghost use Rattle.firm_hall.specs.inner.Serving.{ServingIs};
 
-use crate::halls::Hall;
 use crate::serving::Serving;
 use crate::setting::Setting;
 use crossbeam_utils::sync::{EventCount, Key};
@@ -18,7 +17,10 @@ use std::alloc::Global;
 use std::hint::spin_loop;
 use std::sync::{Arc, Wait};
 
-// After this many looks in vain, some microseconds, a worker is woken for the rounds in the queue if a wake is owed.
+// A look that goes over all places counts as so many at one tray, since it takes as long.
+const LOOKS_OF_SEVERAL: u32 = 16;
+
+// After each so many looks in vain, some microseconds, a worker is woken for the rounds in the queue if a wake is owed.
 const LOOKS_BEFORE_RING: u32 = 256;
 
 /// What the clerk waits for.
@@ -32,23 +34,17 @@ pub(crate) trait Awaited {
     /// What holds once it has come.
     ghost has_come: { Self.Kept → ServingIs → Type 0 };
 
-    /// Whether it has come, after a look. If not, nothing has changed, and what makes it come notifies `answers` of the
-    /// hall, or the waker.
-    fn look(&mut self, serving: &mut Serving, waker: Option<&Arc<EventCount, Global>>) -> bool
-        requires { IsWrittenOut serving.old }
-        ensures come { MatchBool result (has_come (kept self.old) serving.new) (serving.new ≡ serving.old) }
-        ensures follows { Follows serving.old serving.new }
-        ensures keeps { Keeps serving.old serving.new }
+    /// Whether it has come. If not, what makes it come notifies `answers` of the hall, or the waker.
+    fn look(&mut self, serving: &Serving, waker: Option<&Arc<EventCount, Global>>) -> bool
+        requires { IsWrittenOut serving.now }
+        ensures come { result ≡ true → has_come (kept self.old) serving.now }
         ensures kept { kept self.new ≡ kept self.old };
 }
 
-/// The turn of a line: its answer can be held, no round is away from the place that it is for, if it is for one, and a
-/// round finds room in the queue.
+/// The turn of a line: its answer can be held, and no command waits for the tenant that it retires, if it retires one.
 #[derive(Drop)]
-pub(crate) struct Turn<'h> {
+pub(crate) struct Turn {
     pub(crate) place: Option<usize>,
-    pub(crate) is_round: bool,
-    pub(crate) hall: &'h Hall,
     ghost within: { ForSome place (λ at. at < most_places) },
 }
 
@@ -62,12 +58,12 @@ pub(crate) struct Input<'r, S> {
 #[derive(Drop)]
 pub(crate) struct End;
 
-impl Turn<'_> {
-    /// Whether it has come, as far as can be known without a look at a round.
+impl Turn {
+    /// Whether it has come.
     pub(crate) fn is_there(&self, serving: &Serving) -> bool
         ensures { result ≡ true → HasTurn self.now.place serving.now }
     {
-        if !self.has_room(serving) {
+        if !serving.has_room() {
             return false;
         }
         match self.place {
@@ -75,30 +71,17 @@ impl Turn<'_> {
             Some(place) => serving.is_back(place),
         }
     }
-
-    // Whether there is room for the answer and, if it is a round, in the queue. That stays so: nobody else puts rounds.
-    fn has_room(&self, serving: &Serving) -> bool
-        ensures { result ≡ true → length serving.now.answers < most_answers_held }
-    {
-        !serving.is_full() && (!self.is_round || self.hall.has_room())
-    }
 }
 
-impl Awaited for Turn<'_> {
+impl Awaited for Turn {
     ghost Kept = { Option ℕ };
 
     ghost kept = { λ turn. turn.place };
 
     ghost has_come = { HasTurn };
 
-    fn look(&mut self, serving: &mut Serving, _waker: Option<&Arc<EventCount, Global>>) -> bool {
-        if !self.has_room(serving) {
-            return false;
-        }
-        match self.place {
-            None => true,
-            Some(place) => serving.look_at(place),
-        }
+    fn look(&mut self, serving: &Serving, _waker: Option<&Arc<EventCount, Global>>) -> bool {
+        self.is_there(serving)
     }
 }
 
@@ -110,7 +93,7 @@ impl<S: Source> Awaited for Input<'_, S> {
 
     ghost has_come = { λ _ serving. IsWrittenOut serving };
 
-    fn look(&mut self, serving: &mut Serving, waker: Option<&Arc<EventCount, Global>>) -> bool {
+    fn look(&mut self, serving: &Serving, waker: Option<&Arc<EventCount, Global>>) -> bool {
         if serving.is_idle() {
             return true;
         }
@@ -125,20 +108,22 @@ impl Awaited for End {
 
     ghost has_come = { λ _ serving. IsFinished serving };
 
-    fn look(&mut self, serving: &mut Serving, _waker: Option<&Arc<EventCount, Global>>) -> bool {
+    fn look(&mut self, serving: &Serving, _waker: Option<&Arc<EventCount, Global>>) -> bool {
         serving.is_idle()
     }
 }
 
 impl Serving {
-    /// Waits for this. Meanwhile writes each answer once it and all before it are known.
+    /// Waits for this. Meanwhile gives each tenant that is back the commands that waited for it, and writes each answer
+    /// once it and all before it are known.
     pub(crate) fn wait<R: Wait, W: Sink, A: Awaited>(
         &mut self,
         setting: &Setting<'_, R>,
         writer: &mut W,
         awaited: &mut A,
     ) -> Result<(), ServeFault>
-        requires { W.write_failed writer.old ≡ false }
+        requires writer { W.write_failed writer.old ≡ false }
+        requires open { IsOpen setting.now.hall.now.id self.old }
         ensures told { OnOk result (Passes self.old self.new (W.written writer.old) (W.written writer.new)) }
         ensures come { OnOk result (A.has_come (A.kept awaited.old) self.new) }
         ensures kept { A.kept awaited.new ≡ A.kept awaited.old }
@@ -152,27 +137,46 @@ impl Serving {
         for _ in setting.rt.forever() {
             // Whatever the looks that follow miss comes after the announcement and so ends the sleep.
             let announced = (LOOKS_BEFORE_SLEEP <= looks).then(|| answers.prepare_wait());
-            self.write_out(writer)?;
+            let count = self.count();
+            self.write_out(setting, writer)?;
             let waker = announced.is_some().then_some(answers);
             if awaited.look(self, waker) {
                 return Ok(());
             }
-            looks = self.rest(setting, announced, looks);
+            // A look after which fewer answers are held was not in vain.
+            let is_vain = self.count() == count;
+            looks = self.rest(setting, announced, looks, is_vain);
         }
         unreachable!()
     }
 
-    // Rests between two looks; sleeps if a sleep was announced. The clerk rests nowhere else, and here each answer that
-    // could be written by its order has been written. Returns the number of looks in vain since the last sleep.
-    fn rest<R: Wait>(&self, setting: &Setting<'_, R>, announced: Option<Key<'_>>, looks: u32) -> u32
+    // Rests between two looks, if the one before was in vain; sleeps if a sleep was announced. The clerk rests nowhere
+    // else, and here each answer that could be written by its order has been written. Returns the number of looks in
+    // vain since the last sleep, or the last that was not.
+    fn rest<R: Wait>(
+        &self,
+        setting: &Setting<'_, R>,
+        announced: Option<Key<'_>>,
+        looks: u32,
+        is_vain: bool,
+    ) -> u32
         requires { IsWrittenOut self.now }
     {
+        if !is_vain {
+            return 0;
+        }
         let Some(key) = announced else {
-            if looks == LOOKS_BEFORE_RING {
+            let more = if self.unsettled.are_several() {
+                LOOKS_OF_SEVERAL
+            } else {
+                1
+            };
+            let next = looks.saturating_add(more);
+            if looks / LOOKS_BEFORE_RING < next / LOOKS_BEFORE_RING {
                 setting.hall.bell().ring();
             }
             spin_loop();
-            return looks.saturating_add(1);
+            return next;
         };
         // While it sleeps, no round of its own waits unheard.
         setting.hall.bell().ring();

@@ -12,7 +12,7 @@ use Rattle.firm_hall.specs.declared.desk_states.DeskState.TheVariants.{Home, Awa
 
 -- what stands at a place is of this hall, and no round is away from it
 abbrev pub IsOf : QueueId → DeskState → Type 0
-IsOf id (Home desk) = desk.queue ≡ id
+IsOf id (Home desk waits) = desk.queue ≡ id
 IsOf id (Away asked) = ⊥
 IsOf id (Empty place) = place.queue ≡ id
 IsOf id Gone = ⊥

@@ -1,21 +1,62 @@
 -- The answers that a hall holds while it serves.
-use Rattle.std.specs.Prelude.{◌≡◌, ℕ, ◌==◌, Bool, true, false, List, [], ◌∷◌, map, MatchBool, if◌then◌else◌}
+use Rattle.std.specs.Prelude.{◌≡◌, ℕ, zero, suc, ◌+◌, ◌<◌, ◌==◌, Bool, true, false, List, [], ◌∷◌, ◌++◌, MatchBool}
+use Rattle.std.specs.Prelude.{Option, Some, None, if◌then◌else◌, length, min, slice_index_or, slice_set}
 use Rattle.std.specs.List.{flat_map}
-use Rattle.firm_rules.specs.declared.commands.Command.TheVariants.{Round}
+use Rattle.firm_rules.specs.Book.{Book}
+use Rattle.firm_rules.specs.declared.commands.Command.{Command}
+use Rattle.firm_rules.specs.declared.replies.Outcome.{Outcome}
+use Rattle.firm_rules.specs.declared.replies.Outcome.TheVariants.{Round}
 use Rattle.firm_rules.specs.declared.replies.Reply.{Reply}
-use Rattle.firm_tenant.specs.Step.{step}
+use Rattle.firm_rules.specs.declared.rounds.Change.{Change}
+use Rattle.firm_text.specs.Replies.{change_words, spaced}
+use Rattle.firm_tenant.specs.Step.{step, is_memory}
 use Rattle.firm_table.specs.Answers.{text_of_answer}
 use Rattle.firm_table.specs.declared.answers.LineAnswer.{LineAnswer}
 use Rattle.firm_table.specs.declared.answers.LineAnswer.TheVariants.{Replied}
-use Rattle.firm_hall.specs.Desks.{DeskIs}
-use Rattle.firm_hall.specs.declared.held.First.{First}
-use Rattle.firm_hall.specs.declared.held.First.TheVariants.{Missing, Ready, Waits}
+use Rattle.firm_rounds.specs.Rounds.{weigh}
+use Rattle.firm_hall.specs.Counts.{round_in}
 use Rattle.firm_hall.specs.declared.held.HeldAnswer.{HeldAnswer}
 use Rattle.firm_hall.specs.declared.held.HeldAnswer.TheVariants.{Known, Waiting}
 
 -- at most this many answers are held
 abbrev pub most_answers_held : ℕ
 most_answers_held = 1024
+
+-- and no line is taken while the changes of held rounds have so many bytes of text
+abbrev pub most_bytes_held : ℕ
+most_bytes_held = 4000000
+
+-- how many bytes a change has in its round's reply
+abbrev pub bytes_of_change : Change → ℕ
+bytes_of_change change = length (flat_map spaced (change_words change))
+
+-- and all changes of a round; no more than so many count
+abbrev pub bytes_of_changes : List Change → ℕ
+bytes_of_changes changes = min (weigh bytes_of_change changes) 4294967296
+
+abbrev pub bytes_of_outcome : Outcome → ℕ
+bytes_of_outcome (Round cost changes) = bytes_of_changes changes
+bytes_of_outcome _ = 0
+
+abbrev pub bytes_of_reply : Reply → ℕ
+bytes_of_reply reply = bytes_of_outcome reply.outcome
+
+-- the same of a known answer, and of a held one
+abbrev pub bytes_of_line : LineAnswer → ℕ
+bytes_of_line (Replied name reply) = bytes_of_reply reply
+bytes_of_line _ = 0
+
+abbrev pub bytes_of_answer : HeldAnswer → ℕ
+bytes_of_answer (Known answer) = bytes_of_line answer
+bytes_of_answer (Waiting place name command) = 0
+
+abbrev pub bytes_in : List HeldAnswer → ℕ
+bytes_in answers = weigh bytes_of_answer answers
+
+-- one more answer can be held
+pub record HasRoom (answers : List HeldAnswer) : Type 0 where
+  pub few : length answers < most_answers_held
+  pub light : bytes_in answers < most_bytes_held
 
 -- the held answers, in the order of their lines, and the text still to be written before them
 pub record HeldIs : Type 0 where
@@ -25,14 +66,19 @@ pub record HeldIs : Type 0 where
 abbrev pub held_is : List HeldAnswer → List ℕ → HeldIs
 held_is answers output = record { answers = answers; output = output }
 
--- whether an answer is the reply to the round that is away from the place
+-- the answer to a command that was given this reply, or that waits for one
+abbrev pub held_answer : ℕ → List ℕ → Command → Option Reply → HeldAnswer
+held_answer place name command None = Waiting place name command
+held_answer place name command (Some reply) = Known (Replied name reply)
+
+-- whether an answer waits for the place
 abbrev pub waits_for : ℕ → HeldAnswer → Bool
-waits_for place (Waiting other name asked) = other == place
+waits_for place (Waiting other name command) = other == place
 waits_for place (Known answer) = false
 
 -- an answer, with this reply if it waits
 abbrev pub answered : Reply → HeldAnswer → HeldAnswer
-answered reply (Waiting place name asked) = Known (Replied name reply)
+answered reply (Waiting place name command) = Known (Replied name reply)
 answered reply (Known answer) = Known answer
 
 -- the answers, with this reply for the first that waits for the place
@@ -41,50 +87,85 @@ filled place reply [] = []
 filled place reply (answer ∷ rest) =
     if waits_for place answer then answered reply answer ∷ rest else answer ∷ filled place reply rest
 
--- a held answer, once its round is answered with the mark of its place
-abbrev pub answer_in : (ℕ → Bool) → HeldAnswer → LineAnswer
-answer_in marks (Waiting place name asked) = Replied name (step asked.value.book Round (marks place)).0
-answer_in marks (Known answer) = answer
+-- the text of a known answer
+abbrev pub known_text : HeldAnswer → List ℕ
+known_text (Waiting place name command) = []
+known_text (Known answer) = text_of_answer answer
 
--- the text of the held answers
-abbrev pub held_text : (ℕ → Bool) → List HeldAnswer → List ℕ
-held_text marks answers = flat_map text_of_answer (map (answer_in marks) answers)
+-- whether memory is refused to a command, and whether a round that is refused memory was asked all the same
+abbrev pub Mark : Type 0
+Mark = Bool × Bool
+
+-- The books of the tenants at their places, the text to be written and the number of rounds asked, when the commands to
+-- which these answers reply are done.
+pub record Reckoned : Type 0 where
+  pub books : List (Option Book)
+  pub text : List ℕ
+  pub asked : ℕ
+
+-- 1 for a round that was asked, which only one without life or memory is not
+abbrev pub asks : Command → Reply → Bool → ℕ
+asks command reply asked =
+    if is_memory reply then (if asked then round_in command reply else 0) else round_in command reply
+
+-- these, once a command of the tenant at a place with this book is done
+abbrev pub reckon_command : Mark → ℕ → List ℕ → Command → Reckoned → Option Book → Reckoned
+reckon_command mark place name command before None = before
+reckon_command mark place name command before (Some book) =
+    record {
+      books = slice_set before.books place (Some (step book command mark.0).1);
+      text = before.text ++ text_of_answer (Replied name (step book command mark.0).0);
+      asked = before.asked + asks command (step book command mark.0).0 mark.1;
+    }
+
+-- these, with one more answer
+abbrev pub reckon_one : Mark → Reckoned → HeldAnswer → Reckoned
+reckon_one mark before (Known answer) =
+    record { books = before.books; text = before.text ++ text_of_answer answer; asked = before.asked }
+reckon_one mark before (Waiting place name command) =
+    reckon_command mark place name command before (slice_index_or before.books place None)
+
+-- these, with all held answers, each with its mark
+abbrev pub reckon : (ℕ → Mark) → Reckoned → List HeldAnswer → Reckoned
+reckon marks before [] = before
+reckon marks before (answer ∷ rest) = reckon (λ n. marks (suc n)) (reckon_one (marks 0) before answer) rest
 
 -- no answer waits for the place
 abbrev pub NoneWaits : ℕ → List HeldAnswer → Type 0
 NoneWaits place [] = Unit {0}
 NoneWaits place (answer ∷ rest) = (waits_for place answer ≡ false) × NoneWaits place rest
 
--- an answer waits for this round
-abbrev pub IsFor : DeskIs → HeldAnswer → Type 0
-IsFor asked (Waiting place name known) = known.value ≡ asked
-IsFor asked (Known answer) = ⊥
+-- an answer waits for the place and is the reply to this command
+abbrev pub IsWaiting : ℕ → Command → HeldAnswer → Type 0
+IsWaiting place command (Waiting other name given) = (other ≡ place) × (given ≡ command)
+IsWaiting place command (Known answer) = ⊥
 
--- one answer waits for the round that is away from the place
-abbrev pub OneWaits : ℕ → DeskIs → List HeldAnswer → Type 0
-OneWaits place asked [] = ⊥
-OneWaits place asked (answer ∷ rest) =
-    MatchBool (waits_for place answer) (IsFor asked answer × NoneWaits place rest) (OneWaits place asked rest)
+-- the first answer that waits for the place is the reply to this command
+abbrev pub FirstIs : ℕ → Command → List HeldAnswer → Type 0
+FirstIs place command [] = ⊥
+FirstIs place command (answer ∷ rest) =
+    MatchBool (waits_for place answer) (IsWaiting place command answer) (FirstIs place command rest)
+
+-- and it is this answer
+abbrev pub FirstIsAt : ℕ → Command → ℕ → List HeldAnswer → Type 0
+FirstIsAt place command at [] = ⊥
+FirstIsAt place command zero (answer ∷ rest) = IsWaiting place command answer
+FirstIsAt place command (suc at) (answer ∷ rest) =
+    (waits_for place answer ≡ false) × FirstIsAt place command at rest
 
 -- the first held answer waits, or none is held
 abbrev pub FirstWaits : List HeldAnswer → Type 0
 FirstWaits [] = Unit {0}
-FirstWaits (Waiting place name asked ∷ rest) = Unit {0}
+FirstWaits (Waiting place name command ∷ rest) = Unit {0}
 FirstWaits (Known answer ∷ rest) = ⊥
 
 -- the first held answer is known
 abbrev pub FirstIsKnown : List HeldAnswer → Type 0
 FirstIsKnown [] = ⊥
-FirstIsKnown (Waiting place name asked ∷ rest) = ⊥
+FirstIsKnown (Waiting place name command ∷ rest) = ⊥
 FirstIsKnown (Known answer ∷ rest) = Unit {0}
 
--- the first held answer waits for the round of this place
+-- the first held answer waits for this place
 abbrev pub FirstIsFor : ℕ → List HeldAnswer → Type 0
 FirstIsFor place [] = ⊥
 FirstIsFor place (answer ∷ rest) = waits_for place answer ≡ true
-
--- what a look at the first answer tells
-abbrev pub IsFirst : List HeldAnswer → First → Type 0
-IsFirst answers Missing = answers ≡ []
-IsFirst answers Ready = FirstIsKnown answers
-IsFirst answers (Waits place) = FirstIsFor place answers

@@ -1,10 +1,9 @@
 -- How far a serving hall has come.
-use Rattle.std.specs.Prelude.{◌≡◌, ℕ, ◌<◌, ◌≤◌, Bool, true, false, List, [], ◌∷◌, ◌++◌, Option, Some, None}
+use Rattle.std.specs.Prelude.{◌≡◌, ℕ, ◌-◌, ◌<◌, ◌≤◌, Bool, true, false, List, [], ◌∷◌, ◌++◌, Option, Some, None}
 use Rattle.std.specs.Prelude.{suc, map, length, option_map, slice_index_or}
 use Rattle.std.specs.Option.{is_some}
 use Rattle.firm_rules.specs.Book.{Book}
 use Rattle.firm_rules.specs.declared.commands.Command.TheVariants.{Round}
-use Rattle.firm_tenant.specs.Step.{step}
 use Rattle.firm_text.specs.Inputs.{input_lines}
 use Rattle.firm_text.specs.Registers.{place_in}
 use Rattle.firm_text.specs.Rosters.{most_places}
@@ -17,14 +16,13 @@ use Rattle.firm_text.specs.declared.registers.Entry.{Entry}
 use Rattle.firm_table.specs.Places.{Place, book_of}
 use Rattle.firm_table.specs.Output.{answers_from}
 use Rattle.firm_table.specs.Tenants.{tenants_are}
-use Rattle.firm_table.specs.inner.Line.{State, state_is}
-use Rattle.firm_table.specs.inner.Progress.{Told}
+use Rattle.firm_table.specs.Progress.{State, Told, state_is}
 use Rattle.firm_rounds.specs.Rounds.{weigh}
 use Rattle.firm_rounds.specs.Passes.{QueueId}
 use Rattle.firm_hall.specs.Counts.{Counted}
-use Rattle.firm_hall.specs.Desks.{desk_is, place_is}
-use Rattle.firm_hall.specs.inner.Held.{HeldIs, most_answers_held, held_text, NoneWaits, OneWaits, FirstWaits}
-use Rattle.firm_hall.specs.inner.DeskStates.{IsBack}
+use Rattle.firm_hall.specs.Desks.{DeskIs, desk_is, place_is}
+use Rattle.firm_hall.specs.inner.Held.{FirstIs, FirstWaits, HasRoom, HeldIs, Mark, NoneWaits, Reckoned, reckon}
+use Rattle.firm_hall.specs.inner.DeskStates.{IsAway, IsBack, IsHome}
 use Rattle.firm_hall.specs.declared.desk_states.DeskState.{DeskState}
 use Rattle.firm_hall.specs.declared.desk_states.DeskState.TheVariants.{Home, Away, Empty, Gone}
 use Rattle.firm_table.specs.declared.answers.LineAnswer.TheVariants.{ToOperator}
@@ -50,29 +48,33 @@ serving_is queue register desk_states held =
       output = held.output;
     }
 
--- the book at a place, once the rounds that are away are answered, each with the mark of its place
-abbrev pub book_at : (ℕ → Bool) → DeskState → Option Book
-book_at marks (Home desk) = Some desk.book
-book_at marks (Away asked) = Some (step asked.book Round (marks asked.place)).1
-book_at marks (Empty place) = None
-book_at marks Gone = None
+-- the book at a place, before the first command that waits for it or is away is done
+abbrev pub book_at : DeskState → Option Book
+book_at (Home desk waits) = Some desk.book
+book_at (Away asked) = Some asked.book
+book_at (Empty place) = None
+book_at Gone = None
 
--- the state of the tenants, once those rounds are answered
-abbrev pub state_with : (ℕ → Bool) → List Place → List Entry → List DeskState → List HeldAnswer → List ℕ → State
-state_with marks opening register desk_states answers output =
-    state_is opening (tenants_are register (map (book_at marks) desk_states)) (output ++ held_text marks answers)
-
--- how many rounds were asked at a place, by all its tenants
+-- how many rounds were asked at a place, by all its tenants, without one that is away
 abbrev pub asked_at : DeskState → ℕ
-asked_at (Home desk) = desk.put
-asked_at (Away asked) = asked.put
+asked_at (Home desk waits) = desk.put
+asked_at (Away asked) = asked.put - 1
 asked_at (Empty place) = place.put
 asked_at Gone = 0
+
+-- the books, the text to be written and the number of rounds asked, before the held answers
+abbrev pub before_held : List DeskState → List ℕ → Reckoned
+before_held desk_states output =
+    record { books = map book_at desk_states; text = output; asked = weigh asked_at desk_states }
+
+-- the state of the tenants, once these are done
+abbrev pub state_after : List Place → List Entry → Reckoned → State
+state_after opening register reckoned = state_is opening (tenants_are register reckoned.books) reckoned.text
 
 -- what stands at a place that has a tenant with this book, or none, and was given so often; no round was asked there
 abbrev pub opened_at : QueueId → ℕ → ℕ → Option Book → DeskState
 opened_at queue place admissions None = Empty (place_is queue place 0 admissions)
-opened_at queue place admissions (Some book) = Home (desk_is queue place 0 admissions book)
+opened_at queue place admissions (Some book) = Home (desk_is queue place 0 admissions book) false
 
 -- what stands at this place before the first line
 abbrev pub opening_state : QueueId → ℕ → Place → DeskState
@@ -85,7 +87,7 @@ opening_states queue at (place ∷ rest) = opening_state queue at place ∷ open
 
 -- whether a tenant has the place, and how often it was given
 abbrev pub desk_state_counts : DeskState → Bool × ℕ
-desk_state_counts (Home desk) = (true, desk.admissions)
+desk_state_counts (Home desk waits) = (true, desk.admissions)
 desk_state_counts (Away asked) = (true, asked.admissions)
 desk_state_counts (Empty place) = (false, place.admissions)
 desk_state_counts Gone = (false, 0)
@@ -94,12 +96,20 @@ desk_state_counts Gone = (false, 0)
 abbrev pub place_counts : Entry → Bool × ℕ
 place_counts place = (is_some place.tenant, place.admissions)
 
--- the desk of this hall and place is at home and no answer waits for it; or its round is away and one answer waits for
--- it; or the place is empty
+-- the round of this hall and place is away, asked by a tenant that had life for it, and an answer waits for it
+pub record IsAskedAt (queue : QueueId) (place : ℕ) (answers : List HeldAnswer) (asked : DeskIs) : Type 0 where
+  pub queue_is : asked.queue ≡ queue
+  pub place_is : asked.place ≡ place
+  pub some : 1 ≤ asked.put
+  pub left : asked.book.given < asked.book.rows.limits.life
+  pub first : FirstIs place Round answers
+
+-- the desk of this hall and place is at home, and no answer waits for it unless it says so; or its round is away; or
+-- the place is empty
 abbrev pub DeskStateIs : QueueId → ℕ → List HeldAnswer → DeskState → Type 0
-DeskStateIs queue place answers (Home desk) = (desk.queue ≡ queue) × (desk.place ≡ place) × NoneWaits place answers
-DeskStateIs queue place answers (Away asked) = (asked.queue ≡ queue) × (asked.place ≡ place)
-    × OneWaits place asked answers
+DeskStateIs queue place answers (Home desk waits) =
+    (desk.queue ≡ queue) × (desk.place ≡ place) × (waits ≡ false → NoneWaits place answers)
+DeskStateIs queue place answers (Away asked) = IsAskedAt queue place answers asked
 DeskStateIs queue place answers (Empty empty) = (empty.queue ≡ queue) × (empty.place ≡ place) × NoneWaits place answers
 DeskStateIs queue place answers Gone = ⊥
 
@@ -111,7 +121,7 @@ pub record AreDeskStates (queue : QueueId) (answers : List HeldAnswer) (desk_sta
 
 -- an answer that waits does so for a place that exists
 abbrev pub IsPlaced : HeldAnswer → Type 0
-IsPlaced (Waiting place name asked) = place < most_places
+IsPlaced (Waiting place name command) = place < most_places
 IsPlaced (Known answer) = Unit {0}
 
 abbrev pub ArePlaced : List HeldAnswer → Type 0
@@ -136,18 +146,22 @@ IsOpen id serving = serving.queue ≡ id
 abbrev pub IsReserved : {A : Type 0} → List A → ℕ → Type 0
 IsReserved items capacity = (items ≡ []) × (most_places ≤ capacity)
 
--- The lines of this text were answered. However memory is granted to the rounds that are away, what was written and
--- what is held are then the output for these lines; and as many rounds were asked as the lines ask for.
+-- The lines of this text were answered. However memory is granted to the commands that are still to be done, what was
+-- written and what is held are then the output for these lines; and as many rounds were asked as the lines ask for.
 pub record Tells (state : State) (asked : ℕ) (text : List ℕ) (written now : Option (List ℕ)) : Type 0 where
   pub told : Told state text written now
   pub counted : Counted asked told.lines (answers_from state.opening told.lines)
+
+abbrev pub TellsReckoned : List Place → List Entry → Reckoned → List ℕ → Option (List ℕ) → Option (List ℕ) → Type 0
+TellsReckoned opening register reckoned text written now =
+    Tells (state_after opening register reckoned) reckoned.asked text written now
 
 abbrev pub TellsParts : List Place → List Entry → List DeskState → List HeldAnswer → List ℕ → List ℕ
     → Option (List ℕ)
     → Option (List ℕ) → Type 0
 TellsParts opening register desk_states answers output text written now =
-    (marks : ℕ → Bool)
-    → Tells (state_with marks opening register desk_states answers output) (weigh asked_at desk_states) text written now
+    (marks : ℕ → Mark)
+    → TellsReckoned opening register (reckon marks (before_held desk_states output) answers) text written now
 
 -- the same for a whole service
 abbrev pub TellsAll : List Place → ServingIs → List ℕ → Option (List ℕ) → Option (List ℕ) → Type 0
@@ -195,10 +209,20 @@ abbrev pub Begins : ServingIs → Option (List ℕ) → Option (List ℕ) → Ty
 Begins old now later = (opening : List Place) (text : List ℕ) (written : Option (List ℕ))
     → TellsAll opening old text written now → Begun opening text written later
 
--- no round is away from the place
+-- the place is empty, or its tenant at home with no command waiting
 abbrev pub IsBackAt : ℕ → List DeskState → Type 0
 IsBackAt place desk_states = (default : DeskState) → place < most_places
     → IsBack (slice_index_or desk_states place default)
+
+-- the tenant of the place is at home
+abbrev pub IsHomeAt : ℕ → List DeskState → Type 0
+IsHomeAt place desk_states = (default : DeskState) → place < most_places
+    → IsHome (slice_index_or desk_states place default)
+
+-- a round is away from the place
+abbrev pub IsAwayAt : ℕ → List DeskState → Type 0
+IsAwayAt place desk_states = (default : DeskState) → place < most_places
+    → IsAway (slice_index_or desk_states place default)
 
 -- the place whose tenant a request of the operator waits for
 abbrev pub place_of_request : List Entry → OperatorLine → Option ℕ
@@ -211,18 +235,18 @@ abbrev pub place_of_line : List Entry → Line → Option ℕ
 place_of_line register Nothing = None
 place_of_line register Long = None
 place_of_line register Nameless = None
-place_of_line register (For name command) = place_in register name
+place_of_line register (For name command) = None
 place_of_line register (Operator request) = place_of_request register request
 
--- no round is away from the place, if there is one
+-- the same, if there is such a place
 abbrev pub IsBackIf : Option ℕ → List DeskState → Type 0
 IsBackIf None desk_states = Unit {0}
 IsBackIf (Some place) desk_states = IsBackAt place desk_states
 
--- a line that waits for the tenant of this place, or for none, has its turn: the tenant is home, and its answer can be
--- held
+-- a line that waits for the tenant of this place, or for none, has its turn: the tenant is home with no command
+-- waiting, and its answer can be held
 pub record HasTurn (place : Option ℕ) (serving : ServingIs) : Type 0 where
-  pub room : length serving.answers < most_answers_held
+  pub room : HasRoom serving.answers
   pub back : IsBackIf place serving.desk_states
 
 -- no known answer is left unwritten before the first that waits

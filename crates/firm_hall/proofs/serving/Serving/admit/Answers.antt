@@ -8,8 +8,8 @@ pub returns-in-Err-clause-obeys : goal.returns-in-Err-clause-obeys
 returns-in-Err-clause-obeys c =
     let s = c.self.inside in
     rw (← c.self.view_is, c.in-Err.ensures.unchanged)
-    (λ opening. admission_refused c.answers_add_up.ensures.one_more c.answers_add_up.ensures.not_admitted opening
-    s.register s.desk_states.items s.held.answers s.held.output c.args.name c.args.limits c.in-Err.refusal
+    (λ opening. admission_refused c.answers_add_up.ensures.one_more opening s.register s.desk_states.items
+    s.held.answers s.held.output c.answers_add_up.ensures.not_admitted c.args.name c.args.limits c.in-Err.refusal
     (sym c.in-Err.ensures.place))
 
 pub admit-requires-2 : goal.admit-requires-2
@@ -30,10 +30,9 @@ returns-then-admit-clause-obeys c =
     c.self.invariant.fits c.in-Ok.place before _ c.in-Ok.ensures.within c.index_mut.ensures.value c.args.name
     c.args.limits last admitted in
     rw (← c.self.view_is, c.in-Ok.ensures.admitted)
-    (λ opening. admission_told c.answers_add_up.ensures.one_more c.answers_add_up.ensures.admitted opening s.register
-    s.desk_states.items _ s.held.answers s.held.output c.args.name c.args.limits c.in-Ok.place
-    (sym c.in-Ok.ensures.place)
-    change.asked change.books)
+    (λ opening. admission_told c.answers_add_up.ensures.one_more opening s.register s.desk_states.items s.held.answers
+    s.held.output c.answers_add_up.ensures.admitted _ c.args.name c.args.limits c.in-Ok.place
+    (sym c.in-Ok.ensures.place) change.none change.asked change.books)
 
 pub invariant_of-self-then-admit : goal.invariant_of-self-then-admit
 invariant_of-self-then-admit c =
@@ -59,6 +58,6 @@ returns-clause-obeys c =
     let back = c.undo.ensures s.register c.args.name
     (record { given = sym c.in-Ok.ensures.place; led = c.in-Ok.ensures.admitted }) in
     rw (← c.self.view_is, whole, back)
-    (λ opening. admission_found_no_memory c.answers_add_up.ensures.one_more c.answers_add_up.ensures.no_memory opening
-    s.register s.desk_states.items s.held.answers s.held.output c.args.name c.args.limits c.in-Ok.place
+    (λ opening. admission_found_no_memory c.answers_add_up.ensures.one_more opening s.register s.desk_states.items
+    s.held.answers s.held.output c.answers_add_up.ensures.no_memory c.args.name c.args.limits c.in-Ok.place
     (sym c.in-Ok.ensures.place))

@@ -17,10 +17,11 @@ pub returns-clause-keeps : goal.returns-clause-keeps
 returns-clause-keeps c =
     let s = c.self.inside in
     let first = c.put_first.ensures.first in
+    let known : FirstIsKnown s.held.answers = rw (← c.self.view_is) at c.requires in
     rw (← c.self.view_is)
     (on_ok_weaker c.put_first.result
     (λ put. popped_keeps s.hall.value.id s.register s.desk_states.items s.held c.put_first.new.self first.0 first.1
-    (put first.0 first.1)) c.put_first.ensures.put)
+    known (put first.0 first.1)) c.put_first.ensures.put)
 
 pub returns-clause-fewer : goal.returns-clause-fewer
 returns-clause-fewer c =

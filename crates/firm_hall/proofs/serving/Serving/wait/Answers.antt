@@ -8,8 +8,7 @@ returns-in_err-write_out-clause-begins g c opening text written told =
 
 pub returns-then-look-clause-told : goal.returns-then-look-clause-told
 returns-then-look-clause-told g c opening text written told =
-    c.look.ensures.keeps opening text written _
-    (c.in_ok-write_out.ensures.told opening text written (c.loop.invariant.passes opening text written told))
+    c.in_ok-write_out.ensures.told opening text written (c.loop.invariant.passes opening text written told)
 
 pub returns-then-look-clause-begins : goal.returns-then-look-clause-begins
 returns-then-look-clause-begins g c opening text written told =
@@ -17,17 +16,15 @@ returns-then-look-clause-begins g c opening text written told =
 
 pub returns-then-look-clause-come : goal.returns-then-look-clause-come
 returns-then-look-clause-come g c =
-    let come = rw c.loop.invariant.kept at c.look.ensures.come in rw c.if-look.true at come
+    let come = rw c.loop.invariant.kept at c.look.ensures.come in come c.if-look.true
 
 pub loop-preserved : goal.loop-preserved
 loop-preserved g c =
     let i = c.loop.invariant in
     let wrote = c.in_ok-write_out.ensures in
-    let looked = c.look.ensures in
     record {
       well = wrote.well;
-      kept = looked.kept ∙ i.kept;
-      follows = follows_then i.follows (follows_then wrote.follows looked.follows);
-      passes = λ opening text written told. looked.keeps opening text written _
-          (wrote.told opening text written (i.passes opening text written told));
+      kept = c.look.ensures.kept ∙ i.kept;
+      follows = follows_then i.follows wrote.follows;
+      passes = λ opening text written told. wrote.told opening text written (i.passes opening text written told);
     }

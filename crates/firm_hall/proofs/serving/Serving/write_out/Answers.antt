@@ -15,7 +15,7 @@ pub returns-in_default-clause-begins : goal.returns-in_default-clause-begins
 returns-in_default-clause-begins g c = nothing_written c.args.self.now _
 
 pub returns-in_default-clause-follows : goal.returns-in_default-clause-follows
-returns-in_default-clause-follows g c = c.put_known.ensures.follows
+returns-in_default-clause-follows g c = follows_then c.look.ensures.follows c.put_known.ensures.follows
 
 pub returns-clause-told : goal.returns-clause-told
 returns-clause-told g c =
@@ -23,7 +23,8 @@ returns-clause-told g c =
     let e = c.write.ensures in
     on_ok_weaker c.write.result
     (λ passes. λ opening text written told. passes opening text written
-    (rw (← c.self.view_is) at (c.in-Ok.ensures.keeps opening text written _ told)))
+    (rw (← c.self.view_is) at (c.in-Ok.ensures.keeps opening text written _
+    (c.look.ensures.keeps opening text written _ told))))
     (wrote c.write.result s.hall.value.id s.register s.desk_states.items s.held c.write.new.self _ _ e.ok e.empty
     e.answers
     e.err).passes
@@ -35,11 +36,12 @@ returns-clause-begins g c opening text written told =
     (wrote c.write.result s.hall.value.id s.register s.desk_states.items s.held c.write.new.self _ _ e.ok e.empty
     e.answers
     e.err).begins opening text written
-    (rw (← c.self.view_is) at (c.in-Ok.ensures.keeps opening text written _ told))
+    (rw (← c.self.view_is) at (c.in-Ok.ensures.keeps opening text written _
+    (c.look.ensures.keeps opening text written _ told)))
 
 pub returns-clause-follows : goal.returns-clause-follows
 returns-clause-follows g c =
-    follows_then {between = c.put_known.new.self} c.put_known.ensures.follows
+    follows_then {between = c.put_known.new.self} (follows_then c.look.ensures.follows c.put_known.ensures.follows)
     (rw (← c.self.view_is)
     (record { same_hall = refl; same_register = refl; fewer = rw c.write.ensures.answers (omega arith) }))
 

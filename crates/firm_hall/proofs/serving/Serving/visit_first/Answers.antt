@@ -1,0 +1,9 @@
+use Rattle.firm_hall.specs.inner.Held.{FirstIsFor}
+use Rattle.firm_hall.proofs.HeldAnswers.{first_low}
+use Rattle.firm_hall.proofs.serving.Serving.visit_first.Goals as goal
+
+pub visit-requires-clause-place : goal.visit-requires-clause-place
+visit-requires-clause-place g c =
+    let s = c.self.inside in
+    let here : FirstIsFor c.in-Some.place s.held.answers = rw c.in-Some.is at c.first_place.ensures in
+    first_low c.in-Some.place s.held.answers here c.self.invariant.placed
