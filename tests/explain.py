@@ -1,13 +1,13 @@
 """Asks firm_explain from outside: its lines without the reasons are firm's, and tests/certificates takes its reasons.
 
 usage: tools/run tests/explain.py [--quick] [--program FILE] [--explain FILE] [WORD..]
-Reasons of each kind of stream at 3,000 tasks and 1,000 machines are accepted, also with --all, --why and --machine, and
-those of 3,000 random streams and of 400 with noise; 1,000 outputs with one number changed are not, nor by --claims a
-comment line removed, doubled, moved or with another word, nor replies changed, cut off or without their reasons, nor
-another placement of the same cost, whatever order is given for it. Numbers that docs/EXPLAIN.md calls exact are, by a
-search over all placements of 300 streams. Also --tenant, statuses, pieces, failed writes, refused and constant memory,
-and time. With words only the checks whose names have one of them. Each check has a line; the exit status is 1 where one
-failed. The long run takes some ten minutes. It needs a C compiler for refuse.c.
+Reasons of each kind of stream at 3,000 tasks and 1,000 machines are accepted, also with --all, --why, --machine and
+--rows, and those of 3,000 random streams and of 400 with noise; 1,000 outputs with one number changed are not, nor by
+--claims a comment line removed, doubled, moved or with another word, nor replies changed, cut off or without their
+reasons, nor another placement of the same cost, whatever order is given for it. Numbers that docs/EXPLAIN.md calls
+exact are, by a search over all placements of 300 streams. Also --tenant, statuses, pieces, failed writes, refused and
+constant memory, and time. With words only the checks whose names have one of them. Each check has a line; the exit
+status is 1 where one failed. The long run takes some ten minutes. It needs a C compiler for refuse.c.
 """
 
 from __future__ import annotations
@@ -92,13 +92,24 @@ class Written:
         self.folder.cleanup()
 
 
+def said_of(words: list[str]) -> str:
+    """What the checker says."""
+    try:
+        return str(CHECKER.main(words))
+    except SystemExit as reason:
+        return str(reason.code)
+
+
 def judge(stream: Stream, output: bytes, *words: str) -> str:
     """What the checker says of an output: how many rounds are shown, or what is not so. The words are its options."""
     with Written(stream, output) as paths:
-        try:
-            return str(CHECKER.main([*paths, *words]))
-        except SystemExit as reason:
-            return str(reason.code)
+        return said_of([*paths, *words])
+
+
+def judge_alone(output: bytes, *words: str) -> str:
+    """The same of an output, or of a part of one, by its rows alone."""
+    with Written(Stream(b"", b""), output) as paths:
+        return said_of(["--rows", paths[-1], *words])
 
 
 def require_refused(stream: Stream, output: bytes, what: object, *words: str) -> None:
@@ -136,10 +147,11 @@ def explained(options: Options, stream: Stream, *words: str) -> bytes:
 
 
 def require_shown(stream: Stream, output: bytes, *words: str) -> None:
-    """Asks that the checker takes each round, and each word of its reasons."""
+    """Asks that the checker takes each round and each word of its reasons, where there are rows by these alone too."""
     count = rounds_in(output)
-    said = judge(stream, output, "--claims", *words)
-    require(said == f"shown first: {count} of {count} rounds", said)
+    said = [judge(stream, output, "--claims", *words)]
+    said += [judge_alone(output, "--claims", *words)] if "--rows" in words else []
+    require(set(said) == {f"shown first: {count} of {count} rounds"}, said)
 
 
 def size_of(options: Options) -> tuple[int, int]:
@@ -155,7 +167,7 @@ def stream_of(kind: str, tasks: int, machines: int, seed: int = 1) -> Stream:
 def kind_is_shown(options: Options, kind: str) -> None:
     """The rounds of a kind of bench/rounds.py's streams, with every option."""
     stream = stream_of(kind, *size_of(options))
-    for words in ("", "--all", "--why t7 --machine 4"):
+    for words in ("", "--all", "--why t7 --machine 4", "--rows"):
         explained(options, stream, *words.split())
 
 
@@ -167,16 +179,21 @@ def repeated(stream: Stream, times: int) -> Stream:
 
 
 def kind_is_quick(options: Options, kind: str) -> None:
-    """The processor time of a stream, repeated until firm takes a second, is at most three times that of firm."""
+    """The processor time of a stream, repeated until firm takes a second, is at most three times that of firm.
+
+    So it is with rows; the last number, with all choices of a task, may be any.
+    """
     once = stream_of(kind, *size_of(options))
     seconds = min(run_timed([options.firm], once).seconds for _ in range(3))
     stream = repeated(once, math.ceil(TIMED_SECONDS / seconds))
     firm = min(run_timed([options.firm], stream).seconds for _ in range(2))
-    runs = [run_timed([options.explain], stream) for _ in range(2)]
-    explain = min(run.seconds for run in runs)
-    require(runs[0].output.count(b"\n# least: ") == rounds_in(runs[0].output), "rounds without reasons")
-    print(f"| {kind} | {firm:.2f} s | {explain:.2f} s | {explain / firm:.1f} |", flush=True)
-    require(explain <= MOST_TIMES * firm, f"{explain:.2f} s, and firm {firm:.2f} s")
+    times = []
+    for words in ("", "--rows", "--why t7"):
+        runs = [run_timed([options.explain, *words.split()], stream) for _ in range(2)]
+        times.append(min(run.seconds for run in runs) / firm)
+        require(runs[0].output.count(b"\n# least: ") == rounds_in(runs[0].output), "rounds without reasons")
+    print(f"| {kind} | {firm:.2f} | {' | '.join(f'{time:.1f}' for time in times)} |", flush=True)
+    require(max(times[:2]) <= MOST_TIMES, times)
 
 
 def has_roster(stream: Stream) -> bool:
@@ -196,6 +213,7 @@ def small_stream(seed: int, noise: bool = False) -> Stream:
 def random_words(draw: random.Random) -> list[str]:
     """Options of firm_explain."""
     words = ["--all"] if draw.random() < 0.3 else []
+    words += ["--rows"] if draw.random() < 0.3 else []
     words += ["--why", draw.choice(["a", "b", "n1", "n2", "x-1"])] if draw.random() < 0.5 else []
     return words + (["--machine", str(draw.randint(1, 64))] if draw.random() < 0.5 else [])
 
@@ -443,7 +461,7 @@ def least_placements(tenant: Any, cost: int) -> Iterator[dict[str, Choice]]:
             return
         for choice in [*tenant.slots, None]:
             if choice is None or load[choice] < tenant.slots[choice]:
-                more = tenant.cost_of(names[number], choice) + (tenant.spread * load[choice] if choice else 0)
+                more = tenant.cost_of(names[number], choice) + (tenant.slot_cost(load[choice]) if choice else 0)
                 to[names[number]] = choice
                 if choice:
                     load[choice] += 1
@@ -510,7 +528,7 @@ def least_cost(tenant: Any, slots: Mapping[str, int], fixed: Mapping[str, Choice
                 place(number + 1, cost + more)
             elif load[choice] < slots[choice]:
                 load[choice] += 1
-                place(number + 1, cost + more + tenant.spread * (load[choice] - 1))
+                place(number + 1, cost + more + tenant.slot_cost(load[choice] - 1))
                 load[choice] -= 1
 
     place(0, 0)
@@ -571,11 +589,11 @@ def slots_are_exact(found: Any) -> Iterator[str]:
     load = Counter(found.to.values())
     for machine, slots in tenant.slots.items():
         saved = cost - least_cost(tenant, {**tenant.slots, machine: slots + 1}, {})
-        require(saved == max(0, low[machine] - slots * tenant.spread), f"a slot more of {machine} saves {saved}")
+        require(saved == max(0, low[machine] - tenant.slot_cost(slots)), f"a slot more of {machine} saves {saved}")
         yield "slots more"
         if load[machine] == slots:
             lost = least_cost(tenant, {**tenant.slots, machine: slots - 1}, {}) - cost
-            require(lost == high[machine] - (slots - 1) * tenant.spread, f"a slot less of {machine} costs {lost}")
+            require(lost == high[machine] - tenant.slot_cost(slots - 1), f"a slot less of {machine} costs {lost}")
             yield "slots less"
     saved = cost - least_cost(tenant, {**tenant.slots, "": 1}, {})
     said = next(line for line in found.comments if line.startswith("# one more machine of 1 slots would save at most "))
@@ -662,7 +680,7 @@ def refused_memory(options: Options) -> None:
 
     Then each line is answered as by firm, to which memory is refused for the same lines, and each round has reasons.
     """
-    stream, asked = faulty_stream(), ["--why", "x", "--machine", "2"]
+    stream, asked = faulty_stream(), ["--rows", "--why", "x", "--machine", "2"]
     whole = run_timed([options.explain, *asked], stream).output
     with tempfile.TemporaryDirectory(prefix="firm-") as folder, program.Roster(stream.roster) as path:
         runs = faults.Runs(faults.Options(options.explain, "", "", None, 0), folder)
@@ -697,7 +715,7 @@ def ends_at(whole: bytes, size: int) -> bytes:
 
 def failed_writes(options: Options, sizes: tuple[int, ...]) -> None:
     """Each write failed in turn: status 5, and after the reasons that could not be written the replies alone."""
-    stream, asked = faulty_stream(), ["--why", "x", "--machine", "2"]
+    stream, asked = faulty_stream(), ["--rows", "--why", "x", "--machine", "2"]
     whole = run_timed([options.explain, *asked], stream).output
     ends = {ends_at(whole, size) for size in range(len(whole))}
     with tempfile.TemporaryDirectory(prefix="firm-") as folder, program.Roster(stream.roster) as path:

@@ -28,9 +28,12 @@ struct Book {
     std::vector<int> slots;
     std::vector<Task> rows;
 
+    // What a task costs in a machine's slot of this number, counted from 0.
+    Number slot_cost(Number slot) const { return slot * spread; }
+
     Number cost(const Task& task, int choice, int load) const {
         if (choice < 0) return task.waiting;
-        return spread * load + (task.own == choice ? 0 : (task.own >= 0 ? churn : 0) + (is_remote(task, choice) ? remote : 0));
+        return slot_cost(load) + (task.own == choice ? 0 : (task.own >= 0 ? churn : 0) + (is_remote(task, choice) ? remote : 0));
     }
 
     // The task prefers machines, and this is none of them.
@@ -64,7 +67,7 @@ static Number least(const Book& book, int first, const std::vector<int>& load) {
     std::vector<Graph::Node> machine;
     for (int place = 0; place < book.machines; ++place) {
         machine.push_back(graph.addNode());
-        for (int task = load[place]; task < book.slots[place]; ++task) join(machine[place], sink, book.spread * task);
+        for (int task = load[place]; task < book.slots[place]; ++task) join(machine[place], sink, book.slot_cost(task));
     }
     for (int place = first; place < book.tasks; ++place) {
         const Task& task = book.rows[place];

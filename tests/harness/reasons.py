@@ -31,10 +31,6 @@ class Tenant(Protocol):
     """The rows of a tenant, as tests/certificates keeps them."""
 
     @property
-    def spread(self) -> int:
-        ...
-
-    @property
     def churn(self) -> int:
         ...
 
@@ -44,6 +40,9 @@ class Tenant(Protocol):
 
     @property
     def tasks(self) -> Mapping[str, Task]:
+        ...
+
+    def slot_cost(self, slot: int) -> int:
         ...
 
     def load_cost(self, tasks: int) -> int:
@@ -72,6 +71,11 @@ class Round(Protocol):
         ...
 
     @property
+    def rows(self) -> Sequence[str]:
+        """The lines of its rows, which tests/certificates judges."""
+        ...
+
+    @property
     def comments(self) -> Sequence[str]:
         ...
 
@@ -86,6 +90,7 @@ class Asked(NamedTuple):
     why: str | None = None
     machine: int | None = None
     all: bool = False
+    rows: bool = False
 
 
 def read_options(words: Sequence[str]) -> Asked:
@@ -94,6 +99,7 @@ def read_options(words: Sequence[str]) -> Asked:
     parser.add_argument("--why", metavar="TASK")
     parser.add_argument("--machine", type=int, metavar="SLOTS")
     parser.add_argument("--all", action="store_true")
+    parser.add_argument("--rows", action="store_true")
     return Asked(**vars(parser.parse_args(words)))
 
 
@@ -105,6 +111,8 @@ def fault_by(words: Sequence[str]) -> Callable[[Round], str]:
         where, is_asked = " ".join(found.reply[:2]), asked.tenant in (None, found.reply[0])
         if is_asked and not found.comments:
             return f"{where}: no reasons"
+        if bool(found.rows) != (asked.rows and is_asked):
+            return f"{where}: {'rows that are not asked for' if found.rows else 'no rows'}"
         for wanted, line in zip_longest(reasons(found, asked) if is_asked else (), found.comments):
             if wanted != line:
                 return f"{where}: {line}; it should be {wanted}"
@@ -280,7 +288,7 @@ class Market:
         """What one more machine, which no task prefers, would save at most, and the tasks that would go there."""
         worth = {name: self.paid(name, self.to[name], rents) - self.cost_on_new(name) for name in self.to}
         steps = enumerate(sorted(worth, key=lambda name: -worth[name])[:slots])
-        saved = {name: worth[name] - load * self.tenant.spread for load, name in steps}
+        saved = {name: worth[name] - self.tenant.slot_cost(load) for load, name in steps}
         takers = [name for name in saved if saved[name] > 0]
         line = f"# one more machine of {slots} slots would save at most {sum(saved[name] for name in takers)}"
         return line + (f": for {' '.join(takers)}" if takers else "")

@@ -63,7 +63,7 @@ def cost_of(tenant: Tenant, placement: Placement) -> int:
         if machine is None:
             cost += tenant.waiting_cost(task)
             continue
-        cost += tenant.limits.spread * load[machine] + tenant.placing_cost(task, machine)
+        cost += tenant.slot_cost(load[machine]) + tenant.placing_cost(task, machine)
         load[machine] += 1
     is_legal = all(load[machine] <= slots for machine, slots in tenant.machines.items())
     require(is_legal, "more tasks than slots")
@@ -102,7 +102,7 @@ def network(tenant: Tenant) -> Network:
     for name, slots in tenant.machines.items():
         machine = node["machine", name]
         arcs.append(Arc(HUB, machine, slots, 0))
-        arcs += [Arc(machine, SINK, 1, place * tenant.limits.spread) for place in range(slots)]
+        arcs += [Arc(machine, SINK, 1, tenant.slot_cost(place)) for place in range(slots)]
     arcs += [Arc(node["job", name], SINK, tenant.limits.nodes, 0) for name in tenant.jobs]
     for name, task in tenant.tasks.items():
         own = node["task", name]

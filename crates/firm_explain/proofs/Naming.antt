@@ -1,9 +1,13 @@
 -- What the words ask for, and how the program ends.
-use Rattle.std.proofs.Common.{◌≡◌, ℕ, List, [], codes, refl, subst}
-use Rattle.std.specs.Prelude.{◌^◌, Bool, true, IfErr, IfOk, IfSome, MatchResult, OnOk, Option, Result, Ok, Err}
-use Rattle.clap.specs.Words.{AddsArg, app_of, is_simple, is_simple_and_free, new_app}
+use Rattle.std.proofs.Common.{◌≡◌, ◌∙◌, ℕ, List, [], ap, codes, refl, subst}
+use Rattle.std.specs.Prelude.{◌^◌, Bool, true, false, IfErr, IfOk, IfSome, MatchResult, OnOk, Option, Some, None}
+use Rattle.std.specs.Prelude.{Result, Ok, Err}
+use Rattle.clap.proofs.WalkLemmas.{one_text-rows}
+use Rattle.clap.specs.Words.{AddsArg, app_of, found_of, is_simple, is_simple_and_free, matches_of, new_app, one_of}
+use Rattle.clap.specs.Words.{one_text, rows_of}
 use Rattle.clap.specs.declared.builder.arg.Arg.{Arg}
 use Rattle.clap.specs.declared.builder.command.Command.{Command}
+use Rattle.clap.specs.declared.parser.matches.ArgMatches.{ArgMatches}
 use Rattle.firm_rules.specs.Names.{is_name}
 use Rattle.firm_table.specs.Places.{Place}
 use Rattle.firm_table.specs.Service.{Device, ServedFrom, StoppedFrom}
@@ -16,29 +20,47 @@ use Rattle.firm_program.specs.Runs.{NotServed, ServesFile}
 use Rattle.firm_program.specs.declared.faults.Fault.{Fault}
 use Rattle.firm_program.specs.declared.words.Named.{Named}
 use Rattle.firm_explain.specs.CommandLine.{AskAmiss, AskFor, Gives, IsNoName, NoTask, NoTenant, NotOneFile}
-use Rattle.firm_explain.specs.CommandLine.{all_option, command_line, faults_in, machine_option, tenant_option}
-use Rattle.firm_explain.specs.CommandLine.{why_option}
+use Rattle.firm_explain.specs.CommandLine.{all_option, command_line, faults_in, machine_option, rows_option}
+use Rattle.firm_explain.specs.CommandLine.{IsFlag, rows_given, tenant_option, why_option}
 use Rattle.firm_explain.specs.Program.{LosesReasons, StopsExplaining, StopsServing}
 use Rattle.firm_explain.specs.declared.options.Given.{Given}
 use Rattle.firm_explain.specs.inner.Asking.{AsksFor, EndsAs, IsCommandLine, MisasksFor, NotOne, NoTaskNamed}
 use Rattle.firm_explain.specs.inner.Asking.{NoTenantNamed}
 
--- a command of no argument, to which these six are added in turn
-pub is_command_line : (bare one two three four five : Command) (roster state tenant why machine all : Arg) {E : Type 0}
+-- a command of no argument, to which these seven are added in turn
+pub is_command_line : (bare one two three four five six : Command) (roster state tenant why machine all rows : Arg)
+    {E : Type 0}
     (result : Result Command E) → app_of bare ≡ new_app (codes "firm_explain")
     → HasRule roster_option roster → HasRule state_option state → HasRule tenant_option tenant
-    → HasRule why_option why → HasRule machine_option machine → HasRule all_option all
+    → HasRule why_option why → HasRule machine_option machine → HasRule all_option all → HasRule rows_option rows
     → AddsArg bare roster one → AddsArg one state two → AddsArg two tenant three → AddsArg three why four
-    → AddsArg four machine five → IfOk result (AddsArg five all)
+    → AddsArg four machine five → AddsArg five all six → IfOk result (AddsArg six rows)
     → IfOk result IsCommandLine
-is_command_line bare one two three four five roster state tenant why machine all (Err error) app
-    r s t w m a first second third fourth fifth last = tt
-is_command_line bare one two three four five roster state tenant why machine all (Ok command) app
-    r s t w m a first second third fourth fifth last =
+is_command_line bare one two three four five six roster state tenant why machine all rows (Err error) app
+    r s t w m a o first second third fourth fifth sixth last = tt
+is_command_line bare one two three four five six roster state tenant why machine all rows (Ok command) app
+    r s t w m a o first second third fourth fifth sixth last =
     let named = adds_option _ why_option three four why (adds_option _ tenant_option two three tenant
     (adds_option _ state_option one two state (adds_option _ roster_option bare one roster app r first) s second)
     t third) w fourth in
-    adds_option _ all_option five command all (adds_option _ machine_option four five machine named m fifth) a last
+    let short = adds_option _ machine_option four five machine named m fifth in
+    adds_option _ rows_option six command rows (adds_option _ all_option five six all short a sixth) o last
+
+-- what is read of a flag is what the words say of it
+pub is_flag : (words : List (List ℕ)) (m : ArgMatches) (flag : Bool)
+    → rows_of (found_of m) ≡ matches_of command_line words
+    → (one_text (found_of m) (codes "rows") ≡ None → flag ≡ false)
+    → (one_text (found_of m) (codes "rows") ≡ Some (codes "true") → flag ≡ true)
+    → (one_text (found_of m) (codes "rows") ≡ Some (codes "false") → flag ≡ false)
+    → IsFlag (rows_given words) flag
+is_flag words m flag found none set not_set =
+    let same : one_text (found_of m) (codes "rows") ≡ rows_given words =
+    one_text-rows (found_of m) (codes "rows") ∙ ap (one_of (codes "rows")) found in
+    record {
+      set = λ e. set (same ∙ e);
+      not_set = λ e. not_set (same ∙ e);
+      not_given = λ e. none (same ∙ e);
+    }
 
 pub simple_and_free : is_simple_and_free command_line ≡ true
 simple_and_free = refl

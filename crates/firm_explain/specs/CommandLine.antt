@@ -1,7 +1,7 @@
 -- What the words of a command line ask for.
-use Rattle.std.specs.Prelude.{◌≡◌, ℕ, true, false, IfSome, List, Option, Some, codes, pos}
+use Rattle.std.specs.Prelude.{◌≡◌, ℕ, Bool, true, false, IfSome, List, Option, Some, None, codes, pos}
 use Rattle.std.specs.Borrow.{Bor}
-use Rattle.clap.specs.Words.{App, Rule, Kinds, fault_of, new_app, new_rule, with_rule}
+use Rattle.clap.specs.Words.{App, Rule, Kinds, fault_of, matches_of, new_app, new_rule, one_of, with_rule}
 use Rattle.clap.specs.declared.builder.action.ArgAction.TheVariants.{SetTrue}
 use Rattle.clap.specs.declared.builder.value_parser.ValueParser.TheVariants.{Signed}
 use Rattle.firm_rules.specs.Names.{is_name}
@@ -20,18 +20,26 @@ why_option = option_of (codes "why")
 abbrev pub machine_option : Rule
 machine_option = record (option_of (codes "machine")) { parser = Some (Signed (pos 1) (pos 64)) }
 
--- `--all`, which has no value
+-- `--all` and `--rows`, which have no value
+abbrev pub flag_option : List ℕ → Rule
+flag_option name = record (new_rule name) { long = Some name; action = Some SetTrue }
+
 abbrev pub all_option : Rule
-all_option = record (new_rule (codes "all")) { long = Some (codes "all"); action = Some SetTrue }
+all_option = flag_option (codes "all")
+
+abbrev pub rows_option : Rule
+rows_option = flag_option (codes "rows")
 
 -- the options that name a file, and those that name a tenant and a task
 abbrev pub with_names : App → App
 with_names app =
     with_rule (with_rule (with_rule (with_rule app roster_option) state_option) tenant_option) why_option
 
--- the command line, with these six options; `clap` gives it `--help`
+-- the command line, with these seven options; `clap` gives it `--help`
 abbrev pub command_line : App
-command_line = with_rule (with_rule (with_names (new_app (codes "firm_explain"))) machine_option) all_option
+command_line =
+    with_rule (with_rule (with_rule (with_names (new_app (codes "firm_explain"))) machine_option) all_option)
+    rows_option
 
 -- why these words, the first of which is the program's name, are refused: a request for the help, or faults. The crate
 -- `clap` defines which words are which
@@ -44,6 +52,16 @@ tenant_given words = value_given command_line (codes "tenant") words
 
 abbrev pub task_given : List (List ℕ) → Option (List ℕ)
 task_given words = value_given command_line (codes "why") words
+
+-- what the words say of `--rows`, as `clap` reads it
+abbrev pub rows_given : List (List ℕ) → Option (List ℕ)
+rows_given words = one_of (codes "rows") (matches_of command_line words)
+
+-- whether a flag is set, by what words say of it
+pub record IsFlag (given : Option (List ℕ)) (flag : Bool) : Type 0 where
+  pub set : given ≡ Some (codes "true") → flag ≡ true
+  pub not_set : given ≡ Some (codes "false") → flag ≡ false
+  pub not_given : given ≡ None → flag ≡ false
 
 -- the words give these paths of a roster and of a state, and these words for a tenant and a task
 pub record Gives (words : List (List ℕ)) (roster state tenant task : Option (Bor (List ℕ))) : Type 0 where

@@ -1,3 +1,4 @@
 pub mod CommandLine
 pub mod Program
+pub mod RoundRows
 pub mod inner

@@ -1,15 +1,21 @@
 //! The watcher of the rounds, which writes their reasons.
 
+ghost use Rattle.std.specs.Prelude.{◌≡◌, false, IfSome, Ok, OnOk, Some};
+ghost use Rattle.firm_rules.specs.Placement.{Case as CaseRow};
+ghost use Rattle.firm_explain.specs.RoundRows.{AwaitsRound, BeginsWith};
+
 use crate::options::Request;
 use crate::reasons::put_reasons;
+use crate::rows::put_rows;
 use firm_rents::placement_of;
-use firm_rules::{Case, Name, Rows};
+use firm_rules::{Case, Name, RecentCosts, Rows};
 use firm_table::Watcher;
 use firm_text::{Sink, write_all};
 use std::alloc::{AllocError, Global};
 use std::mem;
 
-/// Writes the reasons of rounds as comment lines. After a failed write, writes no more.
+/// Writes the reasons of rounds as comment lines, behind their rows if these are asked for. After a failed write it
+/// writes no more.
 #[derive(Drop)]
 pub(crate) struct Explainer<'w, W: Sink> {
     alloc: Global,
@@ -17,7 +23,9 @@ pub(crate) struct Explainer<'w, W: Sink> {
     request: Request,
     // What the round asked for is about, if it is to be explained; an error if memory was refused.
     case: Result<Option<Case>, AllocError>,
-    // Reused, so that the texts of all rounds take only the memory of the longest.
+    // The lines of the rows before that round, and those of its reasons. Reused, so that the texts of all rounds take
+    // only the memory of the longest.
+    rows: Vec<u8>,
     text: Vec<u8>,
     has_failed: bool,
 }
@@ -29,6 +37,7 @@ impl<'w, W: Sink> Explainer<'w, W> {
             writer,
             request,
             case: Ok(None),
+            rows: Vec::new(alloc),
             text: Vec::new(alloc),
             has_failed: false,
         }
@@ -39,41 +48,68 @@ impl<'w, W: Sink> Explainer<'w, W> {
         self.has_failed
     }
 
-    // Writes the reasons of the placement that these rows have, for a round of the case.
-    fn explain(&mut self, rows: &Rows, case: &Case) -> Result<(), AllocError> {
+    // Keeps the rows before a round, if they are asked for, and gives what the round is about.
+    fn await_round(
+        &mut self,
+        name: Name,
+        rows: &Rows,
+        costs: RecentCosts,
+        given: u64,
+    ) -> Result<Option<Case>, AllocError>
+        ensures same { self.new.request ≡ self.old.request }
+        ensures awaits { AwaitsRound result self.new.rows.items self.new.request.rows name
+            (record { rows = rows.now; costs = costs; given = given }) }
+    {
+        self.rows.clear();
+        if self.request.rows {
+            put_rows(&mut self.rows, name, rows, costs, given)?;
+        }
+        Ok(Some(Case::of(self.alloc, rows)?))
+    }
+
+    // Writes the reasons of the placement that these rows have, for a round of the case, behind the rows before it.
+    fn explain(&mut self, rows: &Rows, case: &Case) -> Result<(), AllocError>
+        ensures { OnOk result (self.new.has_failed ≡ false
+            → BeginsWith (W.written self.old.writer.now) (W.written self.new.writer.now) self.old.rows.items) }
+    {
         let placement = placement_of(self.alloc, rows)?;
         put_reasons(&mut self.text, rows, case, &placement, self.request)?;
         self.write_out();
         Ok(())
     }
 
-    // Writes the text.
-    fn write_out(&mut self) {
+    // Writes the rows and the reasons.
+    fn write_out(&mut self)
+        ensures { self.new.has_failed ≡ false
+            → BeginsWith (W.written self.old.writer.now) (W.written self.new.writer.now) self.old.rows.items }
+    {
         if !self.has_failed {
-            self.has_failed = write_all(self.writer, &self.text).is_err();
+            self.has_failed = write_all(self.writer, &self.rows).is_err()
+                || write_all(self.writer, &self.text).is_err();
         }
         self.text.clear();
     }
 }
 
 impl<W: Sink> Watcher for Explainer<'_, W> {
-    fn before_round(&mut self, name: Name, rows: &Rows) {
+    ghost awaits = { λ explainer. AwaitsRound explainer.case explainer.rows.items explainer.request.rows };
+
+    fn before_round(&mut self, name: Name, rows: &Rows, costs: RecentCosts, given: u64) {
         self.case = if self.request.is_of(name) {
-            case_of(self.alloc, rows)
+            self.await_round(name, rows, costs, given)
         } else {
             Ok(None)
         };
     }
 
-    fn after_round(&mut self, name: Name, rows: &Rows) -> Result<(), AllocError> {
+    fn after_round(&mut self, name: Name, rows: &Rows) -> Result<(), AllocError>
+        ensures { OnOk result ((case : CaseRow) → self.old.case ≡ Ok (Some case) → self.new.has_failed ≡ false
+            → BeginsWith (W.written self.old.writer.now) (W.written self.new.writer.now) self.old.rows.items) }
+    {
         let _ = name;
         match mem::replace(&mut self.case, Ok(None))? {
             Some(case) => self.explain(rows, &case),
             None => Ok(()),
         }
     }
-}
-
-fn case_of(alloc: Global, rows: &Rows) -> Result<Option<Case>, AllocError> {
-    Ok(Some(Case::of(alloc, rows)?))
 }

@@ -16,8 +16,12 @@
 //!   written, and reasons could not be.
 //!
 //! The words ask for none: they name no file, or two, or a tenant or a task that is no name; or they were answered as
-//! firm_program has it. Then nothing was read. A failed write to the sink of faults changes no status. No contract says
-//! what goes to the sink of reasons, nor what other options do.
+//! firm_program has it. Then nothing was read. A failed write to the sink of faults changes no status. This contract
+//! doesn't say what goes to the sink of reasons, nor what other options do.
+//!
+//! With `--rows` what is written for a round begins with the rows of its tenant's book before it, in the words of a
+//! state (`specs/RoundRows.antt`): the service shows the watcher that book, the watcher keeps its text (`awaits` of
+//! `Watcher`) and writes it in front of the reasons (private `after_round`), and takes its case from the same rows.
 //!
 //! A `Market` is a round that is explained: by its ghost fields its placement is legal, the low and the high rents show
 //! it to be least, and no low rent is above the high one. `Market::of` has `firm_rents` check all that, else the
@@ -69,6 +73,7 @@ mod order_line;
 mod parts;
 mod program;
 mod reasons;
+mod rows;
 mod text;
 mod why;
 mod witness;

@@ -2,10 +2,9 @@
 
 ghost use Rattle.std.specs.Prelude.{◌≡◌, ◌+◌, ◌<◌, true, length};
 ghost use Rattle.firm_rules.specs.Placement.{is_legal};
-ghost use Rattle.firm_rents.specs.Rents.{AreRents, CostsAtLeast, Show, rent};
+ghost use Rattle.firm_rents.specs.Rents.{AreRents, CostsAtLeast, IsBelow, Show, rent};
 ghost use Rattle.firm_rules.specs.Placement.{choice_at, task_at};
 ghost use Rattle.firm_rents.specs.TwoTables.{more_by_both};
-ghost use Rattle.firm_rents.specs.inner.Bounds.{IsBelow};
 
 use firm_rents::{Rents, Shown, excess, high_rents, low_rents, shows_least};
 use firm_rules::{Case, Choice, Rows, legality_is_judged};

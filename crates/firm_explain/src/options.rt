@@ -1,11 +1,11 @@
-//! The command line: `firm_explain --roster FILE [--tenant NAME] [--why TASK] [--machine SLOTS] [--all]`, or with
-//! `--state FILE` in the roster's place.
+//! The command line: `firm_explain --roster FILE [--tenant NAME] [--why TASK] [--machine SLOTS] [--all] [--rows]`, or
+//! with `--state FILE` in the roster's place.
 
-ghost use Rattle.std.specs.Prelude.{IfOk, MatchOption, MatchResult, map};
+ghost use Rattle.std.specs.Prelude.{◌≡◌, IfOk, MatchOption, MatchResult, map};
 ghost use Rattle.clap.specs.Words.{FailsBy};
 ghost use Rattle.firm_program.specs.Options.{HasRule, text_of};
-ghost use Rattle.firm_explain.specs.CommandLine.{all_option, faults_in, machine_option, tenant_option, why_option};
-ghost use Rattle.firm_explain.specs.CommandLine.{Gives, IsNoName};
+ghost use Rattle.firm_explain.specs.CommandLine.{all_option, faults_in, machine_option, rows_option, tenant_option};
+ghost use Rattle.firm_explain.specs.CommandLine.{Gives, IsFlag, IsNoName, rows_given, why_option};
 ghost use Rattle.firm_explain.specs.inner.Asking.{AsksFor, IsCommandLine, IsNameIfGiven, MisasksFor};
 
 use clap::{Arg, ArgAction, Command, Error, value_parser};
@@ -29,6 +29,8 @@ pub(crate) struct Given<'a> {
     pub(crate) machine: Option<u8>,
     /// Whether each task that waits has a line.
     pub(crate) all: bool,
+    /// Whether the rows before a round have lines.
+    pub(crate) rows: bool,
 }
 
 /// What is asked of the rounds that are explained.
@@ -42,6 +44,8 @@ pub(crate) struct Request {
     pub(crate) machine: Option<Slots>,
     /// Whether each task that waits has a line.
     pub(crate) all: bool,
+    /// Whether the rows before a round have lines.
+    pub(crate) rows: bool,
 }
 
 impl Request {
@@ -65,7 +69,8 @@ impl<'a> Asked<'a> {
     /// What these words ask for. The fault says that they name not one file to open with, or that the word for a
     /// tenant or a task is no name.
     pub(crate) fn of(given: &Given<'a>) -> Result<Asked<'a>, Fault>
-        ensures { MatchResult result (λ asked. AsksFor given.now asked.named) (MisasksFor given.now) }
+        ensures asked { MatchResult result (λ asked. AsksFor given.now asked.named) (MisasksFor given.now) }
+        ensures rows { IfOk result (λ asked. asked.request.rows ≡ given.now.rows) }
     {
         let named = Named::one_of(given.roster, given.state)?;
         let Some(tenant) = name_of(given.tenant) else {
@@ -79,6 +84,7 @@ impl<'a> Asked<'a> {
             why,
             machine: slots_of(given.machine),
             all: given.all,
+            rows: given.rows,
         };
         Ok(Asked { named, request })
     }
@@ -110,12 +116,14 @@ pub(crate) fn read<'a, S: AsStr>(alloc: Global, words: &'a [S]) -> Result<Given<
     ensures faults { FailsBy (faults_in (map S.text words.entry.now)) result }
     ensures given { IfOk result (λ given.
         Gives (map S.text words.entry.now) given.roster given.state given.tenant given.why) }
+    ensures rows { IfOk result (λ given. IsFlag (rows_given (map S.text words.entry.now)) given.rows) }
 {
     let matches = command_line(alloc)?.try_get_matches_from(words)?;
     let roster = matches.get_str("roster");
     let state = matches.get_str("state");
     let tenant = matches.get_str("tenant");
     let why = matches.get_str("why");
+    let rows = matches.get_flag("rows");
     Ok(Given {
         roster,
         state,
@@ -123,6 +131,7 @@ pub(crate) fn read<'a, S: AsStr>(alloc: Global, words: &'a [S]) -> Result<Given<
         why,
         machine: matches.get_one::<u8>("machine"),
         all: matches.get_flag("all"),
+        rows,
     })
 }
 
@@ -136,7 +145,8 @@ fn command_line<'a>(alloc: Global) -> Result<Command<'a>, AllocError>
         .arg(tenant_option(alloc))?
         .arg(why_option(alloc))?
         .arg(machine_option(alloc))?
-        .arg(all_option(alloc))
+        .arg(all_option(alloc))?
+        .arg(rows_option(alloc))
 }
 
 fn tenant_option<'a>(alloc: Global) -> Arg<'a>
@@ -175,4 +185,13 @@ fn all_option<'a>(alloc: Global) -> Arg<'a>
         .long("all")
         .action(ArgAction::SetTrue)
         .help("Gives each task that waits a line of its own")
+}
+
+fn rows_option<'a>(alloc: Global) -> Arg<'a>
+    ensures { HasRule rows_option result }
+{
+    Arg::new(alloc, "rows")
+        .long("rows")
+        .action(ArgAction::SetTrue)
+        .help("Gives the rows of each round, by which it can be checked alone")
 }

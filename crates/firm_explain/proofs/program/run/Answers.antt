@@ -11,16 +11,16 @@ returns-in-Err g c =
 pub returns-in-Err-of : goal.returns-in-Err-of
 returns-in-Err-of g c =
     AsksAmiss c.in-Ok.ensures.faults
-    (misasks _ c.in-Ok.given _ c.in-Ok.ensures.faults c.in-Ok.ensures.given c.in-Err-of.ensures)
-    (c.tell.ensures ∙ misasked c.in-Ok.given _ c.in-Err-of.ensures)
+    (misasks _ c.in-Ok.given _ c.in-Ok.ensures.faults c.in-Ok.ensures.given c.in-Err-of.ensures.asked)
+    (c.tell.ensures ∙ misasked c.in-Ok.given _ c.in-Err-of.ensures.asked)
     (record { unread = refl; unwritten = refl; reads = c.requires.reader; writes = c.requires.replies })
 
 pub returns-in-Ok-serve_file : goal.returns-in-Ok-serve_file
 returns-in-Ok-serve_file g c =
-    Explains _ (asks _ c.in-Ok.given _ c.in-Ok.ensures.faults c.in-Ok.ensures.given c.in-Ok-of.ensures) refl
+    Explains _ (asks _ c.in-Ok.given _ c.in-Ok.ensures.faults c.in-Ok.ensures.given c.in-Ok-of.ensures.asked) refl
     c.in-Ok-serve_file.ensures
 
 pub returns-in-Err-serve_file : goal.returns-in-Err-serve_file
 returns-in-Err-serve_file g c =
-    Stops _ (asks _ c.in-Ok.given _ c.in-Ok.ensures.faults c.in-Ok.ensures.given c.in-Ok-of.ensures)
+    Stops _ (asks _ c.in-Ok.given _ c.in-Ok.ensures.faults c.in-Ok.ensures.given c.in-Ok-of.ensures.asked)
     c.in-Err-serve_file.fault c.tell-in-Err-serve_file.ensures c.in-Err-serve_file.ensures

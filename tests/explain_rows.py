@@ -1,0 +1,217 @@
+"""Asks firm_explain --rows from outside: each round stands on its rows alone, for tests/certificates and for firm.
+
+usage: tools/run tests/explain_rows.py [--quick] [--program FILE] [--explain FILE] [WORD..]
+A round that is cut out of an output is taken by `tests/certificates --rows`, and firm that opens with its rows answers
+it alike. A number of the round changed, in its rows, reply or reasons, is refused where it bears on the round, and so
+are rows removed, doubled, moved or of another round, and reasons without rows; in a whole output any other row than the
+commands give is refused. With words only the checks whose names have one of them. Each check has a line; the exit
+status is 1 where one failed.
+"""
+
+from __future__ import annotations
+
+import argparse
+import re
+import tempfile
+from functools import partial
+from typing import Iterator
+
+from explain import (
+    EXPLAIN,
+    Options,
+    Stream,
+    explained,
+    has_roster,
+    judge,
+    judge_alone,
+    run_timed,
+    small_stream,
+    worked_stream,
+)
+from harness import program
+from harness.checks import Check, Suite, require, run_script, run_suites
+
+NO_STATE = b""  # is what firm answers where no state has the rows
+NUMBER = re.compile(rb"(?<![\w-])\d+(?![\w-])")
+
+
+def rows_stream() -> Stream:
+    """A stream in which tasks run, wait, have waited as long as counts, and prefer machines."""
+    roster = b"tenant,nodes,arcs,life,spread,churn,remote,patience\nalpha,60,400,1000000,3,5,2,2\n"
+    rows = (
+        "machine m1 2; machine m2 1; machine m3 1; job web 12; job batch 4; job late 1; task web w1 m2; task batch b1"
+    )
+    more = "task batch b2 m3 m1; round; task late l1; round; round; task web w2; task web w3 m1; round; drain m3; round"
+    return Stream(roster, "".join(f"alpha {line}\n" for line in f"{rows}; {more}".split("; ")).encode())
+
+
+def rounds_of(output: bytes) -> list[bytes]:
+    """Each round of an output, with its comment lines."""
+    return re.findall(rb"^[a-z0-9-]+ \d+ ok round .*\n(?:#.*\n)*", output, re.MULTILINE)
+
+
+def answered_alone(options: Options, found: bytes) -> bytes:
+    """What firm answers to the round where it opens with the rows."""
+    reply, *comments = found.splitlines()
+    rows = [line[2:] for line in comments[: next(at for at, line in enumerate(comments) if b"# rows " in line)]]
+    state = [b"firm state 1", b"place admissions 1", *rows, b"rows %d" % (len(rows) + 1)]
+    with tempfile.NamedTemporaryFile(prefix="firm-") as file:
+        file.write(b"\n".join(state) + b"\n")
+        file.flush()
+        return program.run_words([options.firm, "--state", file.name], reply.split()[0] + b" round\n").output
+
+
+def rows_in(found: bytes) -> list[bytes]:
+    """The lines of a round's rows."""
+    lines = found.splitlines(keepends=True)[1:]
+    return lines[: 1 + next(at for at, line in enumerate(lines) if line.startswith(b"# rows "))]
+
+
+def numbers_changed(text: bytes) -> Iterator[tuple[str, bytes]]:
+    """Each text with one of its numbers changed, and what was changed."""
+    for number in NUMBER.finditer(text):
+        value = int(number.group())
+        for other in {value + 1, max(0, value - 1)} - {value}:
+            start = text[: number.start()]
+            what = f"{start.rpartition(b'#')[2].decode()}{value} as {other}"
+            yield what, start + b"%d" % other + text[number.end() :]
+
+
+def rows_changed(rows: list[bytes]) -> Iterator[tuple[str, list[bytes]]]:
+    """The rows with a line removed or doubled, or two lines in the other order."""
+    for at, row in enumerate(rows):
+        yield f"without {row!r}", rows[:at] + rows[at + 1 :]
+        yield f"twice {row!r}", rows[: at + 1] + rows[at:]
+        if rows[at + 1 :]:
+            yield f"later {row!r}", [*rows[:at], rows[at + 1], row, *rows[at + 2 :]]
+
+
+def require_refused_alone(text: bytes, what: object, *words: str) -> None:
+    said = judge_alone(text, *words)
+    require(said.startswith("NOT SHOWN"), f"{what}: {said}")
+
+
+def stand_alone(options: Options, output: bytes, *words: str) -> None:
+    """Each round of an output, cut out, is taken by its rows, and firm answers it from them."""
+    for found in rounds_of(output):
+        said = judge_alone(found, *words)
+        require(said == "shown first: 1 of 1 rounds", said)
+        answer = answered_alone(options, found)
+        require(answer == found.splitlines(keepends=True)[0], f"{answer!r} from the rows of {found!r}")
+
+
+def rounds_stand_alone(options: Options) -> None:
+    """Rounds of which the rows have each word that a row can have."""
+    for stream in (rows_stream(), worked_stream()):
+        output = explained(options, stream, "--rows", "--all")
+        stand_alone(options, output)
+        stand_alone(options, output, "--claims", "--all")
+
+
+def random_rounds_stand_alone(options: Options, count: int) -> None:
+    """Rounds of random streams, of several tenants that come and go."""
+    rounds = 0
+    for seed in range(1, count + 1):
+        stream = small_stream(seed)
+        if has_roster(stream):
+            output = explained(options, stream, "--rows")
+            rounds += len(rounds_of(output))
+            stand_alone(options, output, "--claims")
+    require(rounds > count, rounds)
+
+
+def changes_are_refused(options: Options) -> None:
+    """No round passes alone with a number changed, but with rows by which firm answers alike; nor with a row less.
+
+    Many numbers of rows bear on no round, as those of the arena.
+    """
+    refused = 0
+    for stream in (rows_stream(), worked_stream()):
+        for found in rounds_of(explained(options, stream, "--rows", "--all")):
+            rows, start = rows_in(found), found.index(b"#")
+            end = start + sum(map(len, rows))
+            for what, other in numbers_changed(found[:start]):
+                require_refused_alone(other + found[start:], what)
+            for what, other in numbers_changed(found[end:]):
+                require_refused_alone(found[:end] + other, what, "--claims", "--all")
+            for what, other in numbers_changed(b"".join(rows)):
+                if judge_alone(found[:start] + other + found[end:], "--claims", "--all").startswith("NOT SHOWN"):
+                    refused += 1
+                else:
+                    require(answered_alone(options, found[:start] + other) in (found[:start], NO_STATE), what)
+            for what, others in rows_changed(rows):
+                if not what.startswith("later"):
+                    require_refused_alone(found[:start] + b"".join(others) + found[end:], what)
+    print(f"{refused} changed numbers of rows refused", flush=True)
+    require(refused > 100, refused)
+
+
+def other_rows_are_refused(options: Options) -> None:
+    """No round passes alone with the rows of another, without rows or with nothing but these."""
+    output = explained(options, rows_stream(), "--rows")
+    rounds = rounds_of(output)
+    for found in rounds:
+        rows, start = b"".join(rows_in(found)), found.index(b"#")
+        reply, reasons = found[:start], found[start + len(rows) :]
+        require_refused_alone(reply + reasons, "no rows")
+        require_refused_alone(reply + rows, "no reasons")
+        require_refused_alone(reply, "neither")
+        for another in rounds:
+            if another != found:
+                require_refused_alone(reply + b"".join(rows_in(another)) + reasons, "rows of another round")
+
+
+def whole_outputs_have_their_rows(options: Options) -> None:
+    """Beside the commands each row must be the one that they give."""
+    stream = rows_stream()
+    output = explained(options, stream, "--rows")
+    for found in rounds_of(output):
+        rows = rows_in(found)
+        text = b"".join(rows)
+        others = [(what, b"".join(changed)) for what, changed in rows_changed(rows)]
+        for what, other in [*others, *numbers_changed(text), ("no rows", b"")]:
+            changed = output.replace(found, found.replace(text, other, 1), 1)
+            words = ["--claims", "--rows"] if what == "no rows" else []
+            require(judge(stream, changed, *words).startswith("NOT SHOWN"), what)
+    require(judge(stream, output, "--claims").startswith("NOT SHOWN"), "rows that are not asked for")
+
+
+def one_tenant(options: Options) -> None:
+    """With --tenant the rounds of one tenant alone have rows."""
+    roster = b"tenant,nodes,arcs,life,spread,churn\na,9,24,100,1,2\nb,9,24,100,1,2\n"
+    text = b"".join(b"%c machine m 1\n%c job j 5\n%c task j t\n%c round\n" % (name, name, name, name) for name in b"ab")
+    stream = Stream(roster, text)
+    output = run_timed([options.explain, "--tenant", "b", "--rows"], stream).output
+    for said in (judge(stream, output, "--claims", "--rows", "--tenant", "b"), judge_alone(output, "--tenant", "b")):
+        require(said == "shown first: 1 of 2 rounds", said)
+    require_refused_alone(output, "a round without rows")
+
+
+def checks(options: Options) -> dict[str, Check]:
+    """Each check's name and what it runs; it passes where nothing is raised."""
+    return {
+        "rounds by their rows": partial(rounds_stand_alone, options),
+        "random rounds by their rows": partial(random_rounds_stand_alone, options, 40 if options.quick else 1000),
+        "changed rounds": partial(changes_are_refused, options),
+        "rows of other rounds": partial(other_rows_are_refused, options),
+        "rows beside commands": partial(whole_outputs_have_their_rows, options),
+        "one tenant's rows": partial(one_tenant, options),
+    }
+
+
+def main() -> int:
+    parser = argparse.ArgumentParser(description=(__doc__ or "").splitlines()[0])
+    parser.add_argument("words", nargs="*", metavar="WORD", help="only checks whose names have one of these words")
+    parser.add_argument("--quick", action="store_true", help="40 random streams in place of 1,000")
+    program.add_program(parser)
+    parser.add_argument("--explain", type=program.program_file, default=str(EXPLAIN), metavar="FILE")
+    given = parser.parse_args()
+    options = Options(given.quick, given.program, given.explain)
+    chosen = {
+        name: check for name, check in checks(options).items() if not given.words or any(w in name for w in given.words)
+    }
+    return run_suites(Suite(chosen))
+
+
+if __name__ == "__main__":
+    run_script(main)
