@@ -1,7 +1,7 @@
 //! Books, rows, tenants and registers that are restored as they stood.
 use super::rows::{with_job, with_machine, with_restored, with_task};
 use super::{admitted, limits, name, preferring, slots, weight};
-use BookFault::{Cost, Count, Life, Rounds};
+use BookFault::{Cost, Count, Crowded, Life, Rounds};
 use firm_rules::{
     Book, BookFault, Choice, Command, Name, Outcome, Preferred, RecentCosts, Reply, Rows, Task,
     legal,
@@ -121,6 +121,78 @@ fn a_wait_shows_its_rounds(rt: HostRuntime) {
     let_wait(&rt, &mut rows);
     let made = Book::new(rows, costs(5), 100);
     assert_eq!(rt; made.err(), Some(Rounds));
+}
+
+/// The spread and churn of two tasks of weight 10 on one machine, and what is wrong with them after two rounds.
+static CROWDS: [(u64, u64, Option<BookFault>); 4] = [
+    (11, 0, None),
+    (12, 2, None),
+    (12, 1, Some(Crowded)),
+    (13, 2, Some(Crowded)),
+];
+
+fn expect_crowd(
+    rt: &impl Abort,
+    alloc: Global,
+    spread: u64,
+    churn: u64,
+    wanted: Option<BookFault>,
+) {
+    let mut rows = Rows::new(alloc, limits(rt, &[8, 20, 100, spread, churn, 0]));
+    fill(rt, &mut rows);
+    settle(rt, &mut rows, &[Choice::On(1), Choice::On(1)]);
+    let made = Book::new(rows, costs(5), 100);
+    assert_eq!(rt; made.err(), wanted, "{spread} {churn}");
+}
+
+#[test]
+fn a_slot_costs_no_more_than_a_wait(rt: HostRuntime) {
+    for (spread, churn, wanted) in &CROWDS {
+        expect_crowd(&rt, rt.alloc(), *spread, *churn, *wanted);
+    }
+}
+
+/// The weight of a task that has waited for two rounds, churn, remote, and what is wrong beside one of weight 10.
+static BIDS: [(u64, u64, u64, Option<BookFault>); 6] = [
+    (10, 0, 0, None),
+    (11, 0, 0, Some(Crowded)),
+    (11, 2, 0, None),
+    (12, 2, 0, Some(Crowded)),
+    (14, 2, 3, None),
+    (15, 2, 3, Some(Crowded)),
+];
+
+fn expect_bid(
+    rt: &impl Abort,
+    alloc: Global,
+    heavy: u64,
+    numbers: (u64, u64),
+    wanted: Option<BookFault>,
+) {
+    let (churn, remote) = numbers;
+    let mut rows = Rows::new(alloc, limits(rt, &[8, 20, 100, 0, churn, remote]));
+    with_machine(rt, &mut rows, name(rt, b"m1"), slots(rt, 1)).expect(rt, "memory");
+    with_job(rt, &mut rows, name(rt, b"k"), weight(rt, 10)).expect(rt, "memory");
+    with_job(rt, &mut rows, name(rt, b"j"), weight(rt, heavy)).expect(rt, "memory");
+    with_task(
+        rt,
+        &mut rows,
+        name(rt, b"k"),
+        name(rt, b"x"),
+        Preferred::new(),
+    )
+    .expect(rt, "memory");
+    settle(rt, &mut rows, &[Choice::On(0)]);
+    with_restored(rt, &mut rows, task(rt, b"y", None, 2, &[])).expect(rt, "memory");
+    let made = Book::new(rows, costs(5), 100);
+    assert_eq!(rt; made.err(), wanted, "{heavy} {churn} {remote}");
+}
+
+#[test]
+fn a_slot_is_worth_no_more_to_a_task_that_waits(rt: HostRuntime) {
+    for (heavy, churn, remote, wanted) in &BIDS {
+        expect_bid(&rt, rt.alloc(), *heavy, (*churn, *remote), *wanted);
+    }
 }
 
 static TEXT: &[u8] = b"\

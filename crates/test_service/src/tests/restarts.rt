@@ -1,7 +1,7 @@
 //! Services that stop at any line, and go on from the text of their state.
 use super::admitted;
 use super::states::{read, text_of};
-use firm_rules::{Name, Rows};
+use firm_rules::{Name, RecentCosts, Rows};
 use firm_saved::{FaultKind, Saved, put_state};
 use firm_table::{
     MOST_INPUT, Opening, ServeFault, Tenants, Watcher, serve_one, serve_one_from, serve_to_state,
@@ -257,7 +257,7 @@ struct Counts {
 }
 
 impl Watcher for Counts {
-    fn before_round(&mut self, _name: Name, _rows: &Rows) {
+    fn before_round(&mut self, _name: Name, _rows: &Rows, _costs: RecentCosts, _given: u64) {
         self.before = self.before.saturating_add(1);
     }
 

@@ -1,7 +1,7 @@
 //! The text of a state, and what may be wrong with it.
 use FaultKind::{
-    ArenaArcs, ArenaNodes, BadName, BadNumber, Commands, Memory, NoRoom, NoSuchJob, NoSuchMachine,
-    Places, Repeated, Rounds, Row, Rows, Version,
+    ArenaArcs, ArenaNodes, BadName, BadNumber, Commands, Crowded, Memory, NoRoom, NoSuchJob,
+    NoSuchMachine, Places, Repeated, Rounds, Row, Rows, Version,
 };
 use firm_saved::{FaultKind, Saved, put_heading, put_place, put_row, put_state};
 use std::alloc::{AllocError, Global};
@@ -275,7 +275,7 @@ static OF_TENANTS: [Change; 27] = [
     ),
 ];
 
-static OF_ROWS: [Change; 35] = [
+static OF_ROWS: [Change; 36] = [
     (5, "machine m1 1\nmachine m1 1\n", (Repeated, 6)),
     (5, "machine M1 1\n", (BadName, 5)),
     (5, "machine m1 65\n", (BadNumber, 5)),
@@ -290,6 +290,11 @@ static OF_ROWS: [Change; 35] = [
     (7, "job J 10\n", (BadName, 7)),
     (7, "job j 0\n", (BadNumber, 7)),
     (7, "job j 10\nmachine m3 1\n", (Row, 8)),
+    (
+        7,
+        "job j 10\njob k 1\ntask k z at m2 prefers m1\n",
+        (Crowded, 9),
+    ),
     (8, "task j x at m1\ntask j x at m2\n", (Repeated, 9)),
     (8, "task j x at m1\ntask j z at m1\n", (NoRoom, 9)),
     (8, "task j x at m1\nmachine m3 1\n", (Row, 9)),
@@ -371,7 +376,7 @@ fn a_state_has_a_place_and_no_65th(rt: HostRuntime) {
     expect_fault(&rt, rt.alloc(), more.as_bytes(), Places, 66);
 }
 
-static FAULTS: [(FaultKind, u32, &str); 15] = [
+static FAULTS: [(FaultKind, u32, &str); 16] = [
     (Version, 1, "version"),
     (Row, 2, "row"),
     (BadName, 3, "name"),
@@ -387,6 +392,7 @@ static FAULTS: [(FaultKind, u32, &str); 15] = [
     (Rows, 13, "rows"),
     (Memory, 14, "memory"),
     (Rounds, 15, "rounds"),
+    (Crowded, 16, "crowded"),
 ];
 
 #[test]

@@ -295,6 +295,13 @@ fn only_a_lack_of_room_for_answers_waits_for_a_round_of_another(rt: HostRuntime)
 }
 
 #[test]
+fn lines_behind_one_that_waits_for_its_tenant_are_answered(rt: HostRuntime) {
+    let gate = HoldsUntilRead::new(1, true, LOOKS);
+    let answers = b"a 1 ok round cost 0\na 2 no 1 worn\nb 1 ok round cost 0\n";
+    assert!(rt; reads_on(&rt, &gate, b"a round\na\nb round\n", b"", answers));
+}
+
+#[test]
 fn input_that_comes_while_a_round_is_held_is_read(rt: HostRuntime) {
     let gate = HoldsUntilRead::new(0, false, LOOKS);
     let answers = b"a 1 ok round cost 0\nb 1 no 2 bad-command\n";
