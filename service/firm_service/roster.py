@@ -13,6 +13,11 @@ MOST_BYTES, MOST_TENANTS = 65_536, 64  # of a roster, as firm reads them
 LONGEST_PATIENCE = 1_000_000  # rounds; a tenant's, unless its record has another
 
 
+def slot_cost(spread: int, slot: int) -> int:
+    """What a task costs in a machine's slot of this number, counted from 0."""
+    return slot * spread
+
+
 @dataclass(frozen=True, slots=True)
 class Limits:
     """A tenant's record in a roster, or in the operator's line that admits it."""

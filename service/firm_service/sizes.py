@@ -4,7 +4,7 @@ from __future__ import annotations
 
 from dataclasses import dataclass, replace
 
-from .roster import FULL_HEADING, RANGES, Limits
+from .roster import FULL_HEADING, RANGES, Limits, slot_cost
 
 MOST_NODES, MOST_ARCS, MOST_LIFE = RANGES["nodes"][1], RANGES["arcs"][1], RANGES["life"][1]
 MOST_SLOTS, MOST_NEAR = 64, 4  # of a machine; preferred machines of a task
@@ -22,7 +22,7 @@ class Recipe:
 
     def least_weight(self, slots: int) -> int:
         """The weight from which no task waits beside a free slot of machines of this size."""
-        return max(1, (slots - 1) * self.spread + self.remote)
+        return max(1, slot_cost(self.spread, slots - 1) + self.remote)
 
 
 RECIPES = {

@@ -139,33 +139,60 @@ def changes(before: Book, later: Book) -> list[Change]:
         here, there = former.machine if former else None, task.machine
         if here != there:
             change = "starts" if here is None else "stops" if there is None else "moves"
-            found.append(Change(name, task.job, change, here, there))
+            found.append(Change(name, (former or task).job, change, here, there))
         elif former is None:
             found.append(Change(name, task.job, "waits", None, None))
     return found
 
 
 def of_weight(book: Book, name: str, weight: int) -> Book:
-    """The book where the task is of this weight, by a job of its own if its job has other tasks.
+    """A book of which a round is that of this book, were the task of this weight; it may get a job of its own.
 
-    Where not even the largest arena has room for that job, the rounds that the task has waited are raised instead: they
-    count as its weight does.
+    No round has passed over the task by this weight, so the rounds that it has waited stand in its weight too.
     """
     found = copy_of(book)
-    task, limits = found.tasks[name], found.limits
+    task, waited = found.tasks[name], found.waited(found.tasks[name])
+    if weight + waited > MOST_WEIGHT:
+        raise Refused("no-room", f"no weight stands for the {waited:,} rounds that {name} has waited, too")
     if sum(other.job == task.job for other in found.tasks.values()) == 1:
-        found.jobs[task.job] = weight
-    elif len(found.machines) + len(found.jobs) + len(found.tasks) + HUBS < MOST_NODES and arcs_of(found) < MOST_ARCS:
-        nodes, arcs = min(limits.nodes + 1, MOST_NODES), min(limits.arcs + 1, MOST_ARCS)
-        found.limits = replace(limits, nodes=nodes, arcs=arcs, life=max(limits.life, found.commands + 1))
-        found.number = b"%d" % (found.commands + 1)  # each row took a command
-        task.job = next(job for job in map("w{}".format, range(MOST_NODES)) if job not in found.jobs)
-        found.jobs[task.job] = weight
-    elif task.machine is None and found.waited(task) + weight - found.jobs[task.job] <= limits.patience:
-        task.waits_from -= weight - found.jobs[task.job]
+        found.jobs[task.job] = weight + waited
+    elif has_room(found) or leave_out_job(found):
+        task.job = add_job(found, weight + waited)
     else:
-        raise Refused("no-room", f"the arena of {limits.tenant} has no room to try another weight of {name}")
+        raise Refused("no-room", f"the arena of {found.limits.tenant} has no room for a job of {name} alone")
+    task.waits_from = found.rounds
     return found
+
+
+def has_room(book: Book) -> bool:
+    """Whether the largest arena has room for a further job."""
+    nodes = len(book.machines) + len(book.jobs) + len(book.tasks) + HUBS
+    return nodes < MOST_NODES and arcs_of(book) < MOST_ARCS
+
+
+def leave_out_job(book: Book) -> bool:
+    """Leaves out a job that no round needs, if there is one: without tasks, or with those of another of its weight."""
+    of_tasks = {task.job for task in book.tasks.values()}
+    first: dict[int, str] = {}
+    for job, weight in book.jobs.items():
+        other = first.setdefault(weight, job)
+        if other != job or job not in of_tasks:
+            for task in book.tasks.values():
+                task.job = other if task.job == job else task.job
+            del book.jobs[job]
+            return True
+    return False
+
+
+def add_job(book: Book, weight: int) -> str:
+    """Adds a job, in a larger arena if there is one; its name."""
+    limits = book.limits
+    nodes, arcs = min(limits.nodes + 1, MOST_NODES), min(limits.arcs + 1, MOST_ARCS)
+    book.limits = replace(limits, nodes=nodes, arcs=arcs, life=max(limits.life, book.commands + 1))
+    book.number = b"%d" % (book.commands + 1)  # each row took a command
+    name = next(name for name in map("w{}".format, range(MOST_NODES)) if name not in book.jobs)
+    book.jobs[name] = weight
+    return name
 
 
 def arcs_of(book: Book) -> int:

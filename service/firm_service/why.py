@@ -12,6 +12,7 @@ from dataclasses import dataclass
 
 from .books import Book
 from .refused import Refused
+from .roster import slot_cost
 from .trials import MOST_WEIGHT, Change, Trial, after, after_round, changes, of_weight, round_of
 
 CHANGES = {word: word for word in ("starts", "stays", "moves", "waits")} | {"preempted": "stops"}
@@ -65,6 +66,7 @@ class Reasons:
     free: int  # slots after the round
     cheapest: Free | None  # where the task waits beside free slots
     heavier: Heavier | None  # where it waits, and some weight has it run
+    untried: str | None  # why it is not known whether one does
 
 
 def reasons(state: str, book: Book, name: str) -> Reasons:
@@ -78,11 +80,19 @@ def reasons(state: str, book: Book, name: str) -> Reasons:
     comments = [line.removeprefix("# ") for line in comments]
     later = after(book, lines, [reply])
     machine = later.tasks[name].machine
+    least, untried = None, None
     # The line on all choices of the task stands below its rents.
     own = comments[next(place for place, line in enumerate(comments, 1) if line.startswith(f"{name}'s rents: "))]
     said, *claims = own.removeprefix(f"{name} ").split("; ")
     what, _, pays = said.partition(": ")
     others = [choice for claim in claims for choice in choices(claim, book.tasks[name].machine)]
+    if machine is None:
+        try:
+            least = heavier(book, later, name, others)
+        except Refused as refused:
+            if refused.name != "no-room":
+                raise
+            untried = str(refused)
     return Reasons(
         reply,
         list(about(comments, name)),
@@ -94,7 +104,8 @@ def reasons(state: str, book: Book, name: str) -> Reasons:
         later.slots,
         later.slots - later.running,
         None if machine else cheapest_free(book, later, name),
-        None if machine else heavier(book, later, name, others),
+        least,
+        untried,
     )
 
 
@@ -122,7 +133,7 @@ def cheapest_free(book: Book, later: Book, name: str) -> Free | None:
             is_home = machine == task.machine
             remote = limits.remote if task.prefers and machine not in task.prefers and not is_home else 0
             churn = limits.churn if task.machine and not is_home else 0
-            found.append(Free(machine, limits.spread * len(held.tasks), remote, churn))
+            found.append(Free(machine, slot_cost(limits.spread, len(held.tasks)), remote, churn))
     return min(found, key=lambda free: free.cost) if found else None
 
 

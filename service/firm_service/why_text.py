@@ -77,6 +77,8 @@ def slots(found: Reasons, is_past: bool) -> str:
 
 def heavier(found: Reasons, is_past: bool) -> str:
     least, run = found.heavier, "have run" if is_past else "run"
+    if found.untried:
+        return f"no other weight was tried: {found.untried}"
     if least is None:
         return f"by no weight up to {MOST_WEIGHT:,} would it {run}"
     others = [effect(change, is_past) for change in least.changes]

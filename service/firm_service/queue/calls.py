@@ -229,7 +229,7 @@ def status() -> Call[Status]:
 
 def is_readable(found: Task, follow: bool) -> bool:
     """Whether there is no point in waiting until the task has begun."""
-    return found.attempt > 0 or found.has_ended or not follow
+    return found.began is not None or found.has_ended or not follow
 
 
 @dataclass(slots=True)

@@ -541,7 +541,7 @@ class Requests:
         # An attempt may end before it has begun, as where firm moves its task: what is followed then is the next.
         is_next = follows and wanted is None
         while attempt is None or attempt.began is None and (attempt.is_open or is_next and task.outcome is None):
-            if not follows or wanted is not None or caller.is_gone() or task.outcome is not None:
+            if not follows or caller.is_gone() or task.outcome is not None:
                 raise Refused("no-output", f"{task.name} has not begun")
             await self._wait_a_moment()
             task = await self._current(task.name)

@@ -9,6 +9,7 @@ from dataclasses import dataclass, field
 from ..books import Book
 from ..lines import is_name
 from ..queue.backlog import TASK_ARCS, Room, reserve
+from ..roster import slot_cost
 from .reading import Job, Node, State, Use
 from .table import Drain, Partition
 
@@ -129,7 +130,7 @@ class Telling:
             return False
         if any(job.state is not State.RUNNING or job.name in book.tasks for job in jobs):
             return False
-        dearest = book.limits.spread * (len(jobs) - 1)
+        dearest = slot_cost(book.limits.spread, len(jobs) - 1)
         return book.limits.remote > dearest and min(partition.group(job).weight for job in jobs) > dearest
 
     def tasks(self) -> Iterator[str]:
