@@ -22,10 +22,10 @@ from harness.deployed import ID, SERVICE, Books, Shown, Status, bound, serve_vie
 
 AGENT = [sys.executable, str(SERVICE / "firm-agent")]
 Result = TypeVar("Result")
-LIMIT_SECONDS = 60.0  # for anything that is waited for
+LIMIT_SECONDS = 180.0  # for anything that is waited for
 SOON_SECONDS = 0.3  # in which something that must not happen would have happened
 LOOK_SECONDS = 0.03  # between two looks at what is waited for
-TOLD_LETTERS = 4000
+TOLD_LETTERS = 20_000
 ROSTER = b"tenant,nodes,arcs,life,spread,churn\nalpha,4000,60000,1000000000,0,0\n"
 ROUND = "ok round cost 0 "
 WAITS_FOR_GO = (
@@ -147,7 +147,7 @@ class Case:
         self.firmd.close()
         self.firmd.loop.call_soon_threadsafe(self.firmd.loop.stop)
         self.log.close()
-        shutil.rmtree(self.folder)
+        remove(self.folder)
 
     def say_rows(self) -> None:
         for row in self.rows:
@@ -225,10 +225,9 @@ class Case:
         return int(json.loads((self.run_folder(task, run) / "process").read_text())["pid"])
 
     def events(self, kind: str) -> list[dict[str, Any]]:
-        """The agent's events of a kind."""
-        return [
-            event for event in map(json.loads, self.text("state/events.jsonl").splitlines()) if event["event"] == kind
-        ]
+        """The agent's events of a kind, without a line that is being written."""
+        whole, _, _ = self.text("state/events.jsonl").rpartition("\n")
+        return [event for event in map(json.loads, whole.splitlines()) if event["event"] == kind]
 
     def until(self, holds: Callable[[], object], what: str) -> None:
         """Waits until something holds."""
@@ -240,6 +239,24 @@ class Case:
     def until_runs(self, *tasks: str) -> None:
         """Waits until the processes of just these tasks are there."""
         self.until(lambda: self.processes().keys() == set(tasks), f"running: {tasks}")
+
+    def until_begun(self, *tasks: str) -> None:
+        """The same, and until their commands have done so much as to write to their logs."""
+        self.until_runs(*tasks)
+        for task in tasks:
+            self.until(lambda: self.text(f"{task}.log"), f"{task} begins")
+
+
+def remove(folder: Path) -> None:
+    """Removes a folder, in which what has just been killed may still make a file."""
+    ends = time.monotonic() + LIMIT_SECONDS
+    while True:
+        try:
+            return shutil.rmtree(folder)
+        except OSError:
+            if time.monotonic() > ends:
+                raise
+            time.sleep(LOOK_SECONDS)
 
 
 def supervisors(claims: list[dict[str, Any]]) -> list[int]:

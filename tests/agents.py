@@ -26,11 +26,14 @@ from types import SimpleNamespace
 
 from agent_kit import AGENT, LIMIT_SECONDS, SOON_SECONDS, SSH, WAITS_FOR_GO, Case, is_there
 from harness.checks import Check, Missed, Skipped, Suite, print_skipped, require, run_script, run_suites
-from harness.deployed import NotAllowed, agent_machines, agent_queue, supervisor, work_of
+from harness.deployed import NotAllowed, agent_events, agent_machines, agent_queue, supervisor, work_of
+from harness.files import write_program
 from queue_stand_in import QueueStandIn, Row, clock
 
 AT_A_TIME = 8  # checks, which mostly wait
-LEASE_SECONDS = 3.0
+LEASE_SECONDS = 10.0  # where it is to end
+LONG_SECONDS = 120.0  # a lease that does not end, on a busy host too
+BUSY_SECONDS = 40  # at most, by which anything is late on a busy host
 TURNS = 16  # of a loop: a lost connection is taken in within fewer
 NOBODY = 65534
 ONCE = (  # the lock is that of all its processes, and gone with the last
@@ -48,12 +51,24 @@ time.time = jumping
 from firm_service import agent
 sys.exit(agent.main())
 """
+# A supervisor whose command's folder is on a disk that does not answer; a process of its own, for its child holds all
+# files that are open where it is forked.
+WAITS_FOR_DISK = """\
+import sys, time
+from firm_service import supervisor
+supervisor.become = lambda *_: time.sleep(600)
+request = supervisor.Request(sys.argv[1], limit=0.5)
+try:
+    supervisor.spawn(request, "true", supervisor.Bounds(request))
+except supervisor.Over as end:
+    print(end.why)
+"""
 
 
 class Cluster(Case):
     """Agents of one tenant, with a state each in a folder of their name, and the queue."""
 
-    def __init__(self, *tasks: str, lease: float = LEASE_SECONDS) -> None:
+    def __init__(self, *tasks: str, lease: float = LONG_SECONDS) -> None:
         super().__init__("", machines="")
         self.queue = QueueStandIn(self.folder, self.firmd, lease)
         self.agents: dict[str, subprocess.Popen[str]] = {}
@@ -122,6 +137,16 @@ class Cluster(Case):
 
         self.until(is_lost, f"{name} is silent for too long")
 
+    def until_acknowledged(self, name: str) -> None:
+        """Waits until an agent has written that the queue has heard of all that it is to be told."""
+
+        def is_written() -> bool:
+            events = [json.loads(line)["event"] for line in self.text(f"{name}/events.jsonl").splitlines()]
+            last = max(place for place, event in enumerate(events, 1) if event in agent_events.TOLD)
+            return bool(json.loads(self.text(f"{name}/{agent_events.CURSOR}") or '{"count": 0}')["count"] == last)
+
+        self.until(is_written, f"{name} has written what is acknowledged")
+
 
 def life() -> None:
     """A claimed task runs as words, in its folder, with its variables, and its end is told; the agent says no done."""
@@ -152,8 +177,7 @@ def not_started() -> None:
     and few. A pipe that nobody reads holds no run up."""
     with Cluster() as case:
         (case.folder / "plain").write_text("no program")
-        (case.folder / "bare").write_text("#!/no/such/shell\n")
-        (case.folder / "bare").chmod(0o755)
+        write_program(case.folder / "bare", "#!/no/such/shell\n")
         case.submit("a", ["./absent", "7"])
         case.submit("b", ["./plain"])
         case.submit("c", ["true"], dir="/no/such/folder")
@@ -185,15 +209,9 @@ def not_started() -> None:
 def held_up() -> None:
     """A command whose folder's disk does not answer ends with its time, before it has begun."""
     with Case("") as case:
-        request = supervisor.Request(str(case.folder), limit=0.5)
-        become, supervisor.become = supervisor.become, lambda *_: time.sleep(600)
-        try:
-            supervisor.spawn(request, "true", supervisor.Bounds(request))
-        except supervisor.Over as end:
-            return require(end.why == "timeout", end.why)
-        finally:
-            supervisor.become = become
-        raise Missed("it has begun")
+        words = [sys.executable, "-c", WAITS_FOR_DISK, str(case.folder)]
+        done = subprocess.run(words, stdin=subprocess.DEVNULL, capture_output=True, text=True, timeout=LONG_SECONDS)
+        require((done.stdout, done.returncode) == ("timeout\n", 0), done)
 
 
 def not_claimed() -> None:
@@ -227,13 +245,13 @@ def moved_between_agents() -> None:
 
 def two_for_one_machine() -> None:
     """A second agent for a machine is told so, tries again, and has the machine once the first is gone."""
-    with Cluster("a", lease=1.5) as case:
+    with Cluster("a", lease=4) as case:
         case.start_registered()
         case.start_agent("a2")
         taken = "the queue does not take this agent: machine-taken: the agent a1 has the machine m1"
         case.until(lambda: taken in case.told(), "it is told")
         case.firmd.round("start a m1")
-        case.until_runs("a")
+        case.until_begun("a")
         time.sleep(SOON_SECONDS)
         require(case.text("a.log") == "begin m1\n", "both have begun it")
         case.kill_agent("a1")
@@ -248,17 +266,17 @@ def two_for_one_machine() -> None:
 def lease_over(is_deaf: bool) -> None:
     """Without an agent runs end by themselves once the lease is over, deaf ones after their grace; it is told later."""
     trap = "trap '' TERM; " if is_deaf else ""
-    with Cluster() as case:
+    with Cluster(lease=LEASE_SECONDS) as case:
         case.submit("a", f"{trap}while :; do sleep 0.05; done", grace=1)
         case.start_registered()
         case.firmd.round("start a m1")
         case.until_told("running", "a")
+        case.until_runs("a")
         case.kill_agent("a1")
-        began = clock()
-        time.sleep(LEASE_SECONDS / 3)
-        require(case.processes().keys() == {"a"}, "it ended before the lease was over")
+        beat = case.queue.agents["a1"].answered
         case.until_runs()
-        require(clock() - began < LEASE_SECONDS + 3.5, f"it ran for {clock() - began:.1f} s")
+        ran = clock() - beat
+        require(LEASE_SECONDS / 3 < ran < LEASE_SECONDS + BUSY_SECONDS, f"it ran for {ran:.1f} s behind a beat")
         case.start_agent()
         ended = case.until_told("ended", "a")
         require((ended["asked"], ended["why"]) == (True, "lease"), ended)
@@ -267,12 +285,13 @@ def lease_over(is_deaf: bool) -> None:
 
 def stopped_for_long() -> None:
     """An agent stands still for longer than its lease: its tasks start elsewhere, and run once when it goes on."""
-    with Cluster("a", "b") as case:
+    with Cluster("a", "b", lease=LEASE_SECONDS) as case:
         case.start_registered()
         case.start_registered("a2", "m2=4")
         case.firmd.round("start a m1 start b m1")
         case.until_told("running", "b")
         case.until_told("running", "a")
+        case.until_begun("a", "b")
         case.agents["a1"].send_signal(signal.SIGSTOP)
         case.until_silent("a1")
         require(not case.processes(), f"{case.processes()} though the lease is over")
@@ -291,12 +310,12 @@ def stopped_for_long() -> None:
 
 def comes_back() -> None:
     """An agent that is back within its lease keeps its runs, but for those that the queue wants no longer."""
-    with Cluster("a", "b", "c", lease=15) as case:
+    with Cluster("a", "b", "c") as case:
         case.start_registered()
         case.firmd.round("start a m1 start b m1 start c m1")
         for task in "abc":
             case.until_told("running", task)
-        case.until_runs("a", "b", "c")  # a process that has just begun may show no variables yet
+        case.until_begun("a", "b", "c")  # a process that has just begun may show no variables yet
         before = case.processes()
         case.kill_agent("a1")
         case.go("b")
@@ -312,7 +331,7 @@ def comes_back() -> None:
 
 def lost_though_done() -> None:
     """A run that did its work after the queue had lost its agent counts for nothing: the task is begun again there."""
-    with Cluster("a") as case:
+    with Cluster("a", lease=LEASE_SECONDS) as case:
         case.start_registered()
         case.firmd.round("start a m1")
         case.until_told("running", "a")
@@ -327,7 +346,7 @@ def lost_though_done() -> None:
 
 def queue_away() -> None:
     """While the queue is away what runs goes on; events are told until they are acknowledged, and then no more."""
-    with Cluster("a", "b", lease=6) as case:
+    with Cluster("a", "b") as case:
         case.start_registered()
         case.firmd.round("start a m1 start b m1")
         case.until_told("running", "a")
@@ -345,7 +364,7 @@ def queue_away() -> None:
         require(case.until_told("ended", "a")["status"] == 0, "how a ended")
         case.go("b")
         case.until_told("ended", "b")
-        time.sleep(SOON_SECONDS)  # in which the agent writes that it is acknowledged; else it would be told again
+        case.until_acknowledged("a1")  # else it would be told again
         heard = len(case.queue.told)
         case.kill_agent("a1")
         case.queue.agents.clear()
@@ -357,24 +376,24 @@ def queue_away() -> None:
 
 def time_limit() -> None:
     """A run that is over its time gets SIGTERM, and after the grace SIGKILL; a day forth and back changes nothing."""
-    with Cluster() as case:
-        case.submit("a", ["sleep", "60"], time=1)
-        case.submit("b", "trap '' TERM; while :; do sleep 0.05; done", time=1, grace=1)
-        case.submit("c", WAITS_FOR_GO, time=60)
+    with Cluster(lease=LEASE_SECONDS) as case:
+        case.submit("a", ["sleep", "1000"], time=1)
+        case.submit("b", "trap '' TERM; while :; do sleep 0.05; done", time=4, grace=1)  # by then it is deaf
+        case.submit("c", WAITS_FOR_GO, time=1000)
         case.start_agent(before=[sys.executable, "-c", JUMPS])
         case.until(lambda: "a1" in case.queue.agents, "it is registered")
         case.firmd.round("start a m1 start b m1 start c m1")
         a, b = case.until_told("ended", "a"), case.until_told("ended", "b")
         require((a["asked"], a["why"], a["status"]) == (True, "timeout", 128 + signal.SIGTERM), a)
         require((b["asked"], b["why"], b["status"]) == (True, "timeout", 128 + signal.SIGKILL), b)
-        # By the agent, which hears of a start a little later than it is.
-        require(0.9 <= a["seconds"] < 1.9 and 1.9 <= b["seconds"] < 4, (a, b))
+        # By the agent, which hears of a start a little later than it is; much later where the host is busy.
+        require(0.9 <= a["seconds"] < BUSY_SECONDS and 4.9 <= b["seconds"] < BUSY_SECONDS, (a, b))
         time.sleep(LEASE_SECONDS)
         require(case.processes().keys() == {"c"}, "the clock has ended c")
         case.kill_agent("a1")
         began = clock()
         case.until_runs()
-        require(clock() - began < LEASE_SECONDS + 3, "the clock has made the lease longer")
+        require(clock() - began < LEASE_SECONDS + BUSY_SECONDS, "the clock has made the lease longer")
 
 
 def killed_supervisor() -> None:
@@ -429,7 +448,7 @@ def told_by_the_queue() -> None:
 
 def full_disk() -> None:
     """An agent on a full disk keeps its lease and its runs, begins nothing, and tells of all once there is room."""
-    with Cluster("a", "b") as case:
+    with Cluster("a", "b", lease=LEASE_SECONDS) as case:
         case.start_registered()
         case.firmd.round("start a m1")
         case.until_told("running", "a")
@@ -444,7 +463,7 @@ def full_disk() -> None:
         case.until_runs()
         require(case.until_told("ended", "a")["status"] == 0, "how a ended")
         resource.prlimit(agent, resource.RLIMIT_FSIZE, limits)
-        case.until_runs("b")
+        case.until_begun("b")
         require((case.text("a.log"), case.text("b.log")) == ("begin m1\nend\n", "begin m1\n"), "each was run once")
         require('"ended"' in case.text("a1/events.jsonl"), case.text("a1/events.jsonl"))
 
@@ -524,7 +543,7 @@ async def ends_behind(path: Path, turns: int) -> bool:
         for _ in range(turns):
             await asyncio.sleep(0)
         serving.cancel()
-        await asyncio.wait([serving], timeout=SOON_SECONDS)
+        await asyncio.wait([serving], timeout=LIMIT_SECONDS / TURNS)
         has_ended = serving.done()
         for task in (serving, *others):  # one that has lost its first end hears of another
             task.cancel()
@@ -582,10 +601,8 @@ def limits_written() -> None:
 
 def over_ssh() -> None:
     """Over ssh a run has its lease by the clock there, keeps it while the agent is there, and loses it without."""
-    with Cluster("a") as case:
-        ssh = case.folder / "ssh"
-        ssh.write_text(SSH.format(folder=case.folder))
-        ssh.chmod(0o755)
+    with Cluster("a", lease=LEASE_SECONDS) as case:
+        write_program(case.folder / "ssh", SSH.format(folder=case.folder))
         (case.folder / "host").mkdir()
         (case.folder / "machines.toml").write_text('[machines.m1]\nslots = 4\nssh = "host"\n')
         case.start_registered(machines=str(case.folder / "machines.toml"))
@@ -619,14 +636,14 @@ def faulty_command_lines() -> None:
             ["--table=t", "--socket=s", "--name=a"],
             ["--queue=q", "--table=t"],
         ):
-            done = subprocess.run([*AGENT, "run", "--view=v", "--state=s", *wrong], capture_output=True, timeout=60)
+            done = subprocess.run([*AGENT, "run", "--view=v", "--state=s", *wrong], capture_output=True, timeout=300)
             require(done.returncode == 2, f"{wrong}: {done}")
 
 
 def killed_at_any_moment(kills: int) -> None:
     """Agents, supervisors, the queue and firmd are killed: no two processes of a task at a time, and each is done."""
     names = [f"t{place}" for place in range(2 * kills)]
-    with Cluster(lease=2) as case:
+    with Cluster(lease=LEASE_SECONDS) as case:
         chance = random.Random(kills)
         for name in names:
             case.submit(name, ONCE)
@@ -661,7 +678,10 @@ def disturb(case: Cluster, chance: random.Random, agents: dict[str, str]) -> Non
         case.kill_agent(name)
         case.start_agent(name, agents[name])
     elif kind == 1:
-        claims = [json.loads(path.read_text()) for path in case.folder.glob("a?/runs/*/*/process")]
+        claims: list[Row] = []
+        for path in case.folder.glob("a?/runs/*/*/process"):
+            with contextlib.suppress(OSError):  # the run has ended meanwhile
+                claims.append(json.loads(path.read_text()))
         living = [claim["pid"] for claim in claims if claim and is_there(claim["pid"])]
         if living:
             with contextlib.suppress(ProcessLookupError):

@@ -41,6 +41,7 @@ from harness.deployed import (
     past_rounds,
     records,
     service_states,
+    sizes,
     text_of,
     trials,
     what_if,
@@ -259,6 +260,26 @@ def least_weights(setup: Setup) -> None:
                 except Missed as missed:
                     raise Missed(f"seed {seed}, task {name}: {missed}\n{text}") from None
     require(found > len(seeds(setup)) / 2, f"{found} least weights")
+
+
+def full_arenas() -> None:
+    """In the largest arena a further job takes the place of one that no round needs, where there is one."""
+    tasks = sizes.MOST_NODES - sizes.HUBS - 3
+    rows = [f"tenant alpha nodes {sizes.MOST_NODES} arcs {sizes.MOST_ARCS} life {10**6} spread 0 churn 0 remote 0"]
+    rows[0] += f" commands {tasks + 3}"
+    rows += ["costs", "machine m 1"]
+    for second, weight in (("job twin 5", 6), ("job own 9", None)):
+        jobs = ["job shared 5", second]
+        waiting = [f"task shared t{number} waits 0" for number in range(tasks - 1)]
+        every = ["place admissions 1", *rows, *jobs, *waiting, f"task {second.split()[1]} t{tasks} waits 0"]
+        book = book_of("\n".join(["firm state 1", *every, f"rows {len(every)}", ""]))
+        found = why.reasons(text_of(book), book, "t1")
+        if weight is None:
+            untried = "the arena of alpha has no room for a job of t1 alone"
+            require((found.heavier, found.untried) == (None, untried), found)
+        else:
+            least = found.heavier
+            require(least is not None and (least.weight, least.machine) == (weight, "m"), found)
 
 
 def has_least_weight(book: Book, name: str) -> bool:
@@ -597,13 +618,13 @@ def programs_are_bounded() -> None:
     """A program that doesn't end is stopped in time, and one that takes processor time or memory, by the system."""
     with tempfile.TemporaryDirectory(prefix="firm-") as name:
         for bound, script, said in [
-            ("MOST_SECONDS", "#!/bin/sh\nexec sleep 60\n", "took 1 s"),
+            ("MOST_SECONDS", "#!/bin/sh\nexec sleep 1000\n", "took 1 s"),
             ("MOST_PROCESSOR_SECONDS", "#!/bin/sh\nwhile :; do :; done\n", "1 s of processor time"),
         ]:
             stand_in = firmd_kit.stand_in(Path(name), script)
             words = [sys.executable, "-c", BOUNDED, bound]
             done = subprocess.run(
-                words, capture_output=True, text=True, env={**os.environ, "FIRM": stand_in}, timeout=60
+                words, capture_output=True, text=True, env={**os.environ, "FIRM": stand_in}, timeout=600
             )
             require(done.returncode == 0 and done.stdout.startswith("too-long") and said in done.stdout, done)
 
@@ -611,6 +632,7 @@ def programs_are_bounded() -> None:
 BOUNDED = """\
 import sys
 from firm_service import trials
+trials.MOST_SECONDS = 600
 setattr(trials, sys.argv[1], 1)
 trials.stand_behind()
 try:
@@ -688,6 +710,7 @@ async def ask_at_once(folder: Path) -> None:
 
 QUICK: list[Callable[[], None]] = [
     reasons_in_words,
+    full_arenas,
     programs_are_bounded,
     questions_take_turns,
     past_rounds_are_bounded,

@@ -29,7 +29,7 @@ from harness.checks import Suite, require, run_script, run_suites
 from queue_kills import Book, Submitter, judged_book
 from queue_kit import LIMIT_SECONDS, Case, Size
 
-LEASE_SECONDS, MARGIN_SECONDS = 6, 8
+LEASE_SECONDS, MARGIN_SECONDS = 6, 20  # so late may a supervisor be on a busy host
 END_SECONDS = 300.0  # for all that was submitted, once nothing is killed any more
 MOST_LIVE = 40  # tasks, beyond which nothing is submitted
 # The lock is the shell's alone, which ends with its supervisor.

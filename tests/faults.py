@@ -93,7 +93,7 @@ MANY = "; ".join(
 # (its slots are one), 1 for a job, 2 for a task.
 OF_FIRST_ROWS = {b"alpha machine m1 2": 7, b"alpha job j 5": 5, b"alpha task j a": 7}
 # Both blocks of the tenant's net among them, and the tables in which its rounds are proposed.
-OF_AN_ADMISSION = {b"+ admit b,6,20,5,0,0": 67}
+OF_AN_ADMISSION = {b"+ admit b,6,20,5,0,0": 68}
 
 STREAMS = {
     "one round": Stream(b"alpha,9,24,100,1,2\n", for_tenant("alpha", SPREAD)),

@@ -32,11 +32,11 @@ import queue_tables
 from harness import program
 from harness.checks import Check, Skipped, Suite, require, run_script, run_suites
 from harness.deployed import SERVICE, columns
-from queue_kit import FOREVER, Case, Client, Json, Setup, Size, asked_of_firm, claim_place
+from queue_kit import FOREVER, Case, Client, Json, Setup, Size, asked_of_firm, claim_place, numbers
 
 CHECKS_AT_A_TIME = 8  # they mostly wait
 FIRMCTL = [sys.executable, "-E", "-S", str(SERVICE / "firmctl")]  # as its first line has it
-LEASE_SECONDS = 4  # where agents must keep theirs on a busy host
+LEASE_SECONDS = 12  # where agents must keep theirs on a busy host
 
 # A task's life.
 
@@ -282,13 +282,16 @@ def weights(setup: Setup) -> None:
 def heavier(setup: Setup) -> None:
     """Heavy tasks that come while firm is full of lighter ones run before these, which run once, later."""
     with setup.case(size=Size(24, 100)).start() as case, case.client() as client:
+        case.world.is_held = True
         case.agent("a1", m1=2, m2=1)
-        client.submit("0.05", job="light", weight=1, array=[1, 60])
+        client.submit("0.15", job="light", weight=1, array=[1, 60])
         case.until(
             lambda: len(case.firm_tasks()) >= 12 and len(case.world.processes) >= 3, "firm is full, and they run"
         )
         for _ in range(4):
             client.submit("0.05", job="heavy", weight=100_000, array=[1, 4])
+        case.until(lambda: [*numbers(case.firm_tasks())].count(1) <= 6, "heavy ones take places of light ones")
+        case.world.is_held = False
         found = client.ask("wait", tasks=["1", "2", "3", "4", "5"])
         require(all(end["state"] == "done" for end in found.values()) and len(found) == 76, found)
         case.world.require_single()
@@ -368,7 +371,7 @@ def away(setup: Setup) -> None:
 
 def silence(setup: Setup) -> None:
     """Tasks of an agent that is silent for its lease start elsewhere, once; when it is back it ends nothing twice."""
-    with setup.case("--lease=1", "--margin=0.5").start() as case, case.client() as client:
+    with setup.case("--lease=10", "--margin=1").start() as case, case.client() as client:
         first = case.agent("a1", m1=2)
         client.submit(*FOREVER, array=[1, 2], grace=0)
         case.until(lambda: len(case.world.running()) == 2, "two run on m1")
@@ -410,7 +413,7 @@ def mute(setup: Setup) -> None:
 
 def registrations(setup: Setup) -> None:
     """Two agents for one machine, or of one name, are refused; one that is back takes over from itself."""
-    with setup.case("--lease=30").start() as case, case.client() as client:
+    with setup.case("--lease=300").start() as case, case.client() as client:
         agent = case.agent("a1", m1=2)
         client.submit(*FOREVER)
         case.until_state(client, "1", "running")
@@ -436,9 +439,9 @@ def registrations(setup: Setup) -> None:
 
 def lost_claim(setup: Setup) -> None:
     """A claim whose answer was lost is granted again to its token, and to no other."""
-    with setup.case("--lease=30").start() as case, case.client() as client, case.client() as agent:
+    with setup.case("--lease=300").start() as case, case.client() as client, case.client() as agent:
         granted = agent.ask("register", agent="a1", id="x", machines={"m1": 1}, runs=[])
-        require((granted["lease"], granted["beat"], granted["end"]) == (30, 10, []), granted)
+        require((granted["lease"], granted["beat"], granted["end"]) == (300, 100, []), granted)
         client.submit(*FOREVER, env={"A": "1"}, output="/tmp/%A-%a-%t-%%", array=[3, 3])
         place = claim_place(case)
         work = agent.ask("claim", token="aaaaaaaa", run=1, **place)["work"]

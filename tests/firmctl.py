@@ -26,11 +26,12 @@ from pathlib import Path
 
 import firmd_kit
 from web_pages import web_checks
-from front_kit import DAY, FIRMCTL, ROSTER, Viewer, front, http_ask, missing_of, samples_of, wait_until
+from front_kit import DAY, FIRMCTL, LIMIT_SECONDS, ROSTER, Viewer, front, http_ask, missing_of, samples_of, wait_until
 from harness import program, service
 from harness.checks import Check, Missed, Skipped, Suite, print_skipped, require, run_script, run_suites
 from harness.deployed import MOST_OF_USER, MOST_UNREAD, Book, Books
 from harness.deployed import gets_reply, roster
+from harness.ports import free_port
 from harness.program import ROOT
 from harness.small_streams import random_bad_roster, random_stream, with_noise
 
@@ -437,7 +438,7 @@ def json_is_printed() -> None:
         require(number == 2, f"the last reply of beta is {number}")
         started.say(b"alpha done a", b"alpha round", seconds=0.01)
         tasks = json.loads(firmctl("tasks", "alpha", "--json", "--state", state).output)["tasks"]
-        require(0 <= tasks[2]["seconds"] < 60 and tasks[2]["machine"] == "m1" and tasks[0]["seconds"] is None, tasks)
+        require(0 <= tasks[2]["seconds"] < 600 and tasks[2]["machine"] == "m1" and tasks[0]["seconds"] is None, tasks)
 
 
 def exit_statuses() -> None:
@@ -474,11 +475,16 @@ def firmctl_over_firmd(built: str) -> None:
         with firmd_kit.Client(daemon.operator) as client:
             replies = [client.ask(line) for line in DAY]
         require(replies[7] == b"alpha 8 ok round cost 1 start a m1 start b m1 start c m2", replies)
-        tasks = firmctl("tasks", "--state", str(daemon.state))
-        times = re.findall(r"  (\d+:\d\d)  ", tasks.output.decode())
-        require(len(times) == 5, tasks)
+
+        def times() -> list[str]:
+            tasks = firmctl("tasks", "--state", str(daemon.state))
+            return re.findall(r"  (\d+:\d\d)  ", tasks.output.decode())
+
+        require(wait_until(lambda: len(times()) == 5), "five tasks are shown")
         daemon.kill()
-        require(firmctl("tasks", "--state", str(daemon.state)).status == 3, "the socket of a dead firmd")
+        # Its viewer ends a moment later.
+        is_dead = wait_until(lambda: firmctl("tasks", "--state", str(daemon.state)).status == 3)
+        require(is_dead, "the socket of a dead firmd")
         daemon.start()
         for words, wanted in [(["tasks"], TASKS), (["machines"], MACHINES), (["lines", "alpha"], LINES)]:
             done = firmctl(*words, "--state", str(daemon.state))
@@ -505,8 +511,8 @@ def http_over_firmd(built: str) -> None:
     for address in ("host", "127.0.0.1:65536"):
         with setup.daemon("--http", address, roster=ROSTER) as daemon:
             daemon.refuses(2, "--http:", address)
-    with socket.create_server(("127.0.0.1", 0)) as taken:
-        port = taken.getsockname()[1]
+    port = free_port()
+    with socket.create_server(("127.0.0.1", port)):
         with setup.daemon("--http", f"127.0.0.1:{port}", roster=ROSTER) as daemon:
             daemon.refuses(7, f"cannot serve 127.0.0.1:{port}")
     with setup.daemon("--http", f"127.0.0.1:{port}", roster=ROSTER) as daemon:
@@ -514,6 +520,7 @@ def http_over_firmd(built: str) -> None:
         with firmd_kit.Client(daemon.operator) as client:
             for line in DAY:
                 client.ask(line)
+        require(wait_until(lambda: samples_of(port)["firm_lines_total", ""] == 14), "all lines are counted")
         samples = samples_of(port)
         wanted = {("firm_lines_total", ""): 14, ("firm_rounds_total", "tenant=alpha"): 2}
         wrong = {key: samples.get(key) for key, value in wanted.items() if samples.get(key) != value}
@@ -575,11 +582,11 @@ def watch_prints() -> None:
             require(wait_until(lambda: bool(started.shown.watchers)), "no watcher")
             started.say(b"alpha \x1b[2J", seconds=0.001)
             printed = program.opened(watching.stdout)
-            require(select.select([printed], [], [], 20)[0], "nothing is printed")
+            require(select.select([printed], [], [], LIMIT_SECONDS)[0], "nothing is printed")
             line = printed.readline().decode()
             require(re.fullmatch(r"\d\d:\d\d:\d\d  alpha \\x1b\[2J  ->  alpha 12 no 2 bad-command\n", line), line)
             started.stop()
-            _, told = watching.communicate(timeout=20)
+            _, told = watching.communicate(timeout=LIMIT_SECONDS)
             require(watching.returncode == 3 and b"has closed the connection" in told, told)
         finally:
             watching.kill()
@@ -611,7 +618,8 @@ def views_refuse() -> None:
         ):
             require(viewer.ask(request)["error"] == "no-such-tenant", request)
         require(viewer.ask({"ask": "book", "tenant": "beta"})["book"]["limits"]["life"] == 5, "the connection goes on")
-        viewer.send(b"x" * 100_000)
+        with contextlib.suppress(ConnectionError):  # it may be closed before all is sent
+            viewer.send(b"x" * 100_000)
         require(viewer.next() is None, "an endless line is held")
     with front() as started, contextlib.ExitStack() as stack:
         viewers = [stack.enter_context(Viewer(started.state)) for _ in range(MOST_OF_USER)]
@@ -624,7 +632,7 @@ def views_refuse() -> None:
 
 def is_answered(state: Path) -> bool:
     with contextlib.suppress(OSError), Viewer(state) as viewer:
-        return "status" in viewer.ask({"ask": "status"})
+        return "status" in (viewer.ask({"ask": "status"}) or ())
     return False
 
 

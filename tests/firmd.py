@@ -16,6 +16,7 @@ import signal
 import socket
 import stat
 import subprocess
+import sys
 import tempfile
 import threading
 import time
@@ -62,6 +63,16 @@ from harness import program, service
 from harness.checks import Suite, print_skipped, require, run_script, run_suites
 from harness.deployed import Books
 from harness.small_streams import random_stream
+
+
+HELD_SECONDS = 5.0  # below which nobody was held up; one that is waits for as long as the other does not read
+# A firmd that gives its clients more time to read what they were answered, at its end: they may be slow on a busy host.
+PATIENT = """\
+import sys
+from firm_service import clients, daemon
+clients.STOP_SECONDS = 60.0
+sys.exit(daemon.main())
+"""
 
 
 def many_clients(setup: Setup) -> None:
@@ -275,7 +286,7 @@ def slow_client(setup: Setup) -> None:
                 began = time.monotonic()
                 require(other.ask(b"beta show").startswith(b"beta %d ok " % (number + 1)), "another's reply")
                 seconds.append(time.monotonic() - began)
-            require(sorted(seconds)[90] < 0.5, f"another's replies took {sorted(seconds)[90]:.2f} s")
+            require(sorted(seconds)[90] < HELD_SECONDS, f"another's replies took {sorted(seconds)[90]:.2f} s")
             wait_for(lambda: b"left more than 100000 bytes of replies unread" in daemon.said(), "it is closed")
             *replies, last = slow.rest().splitlines()
             require(last.startswith(b"? unread-replies: more than 100000 bytes"), last)
@@ -408,6 +419,7 @@ def stops(setup: Setup) -> None:
     """SIGTERM and SIGINT: what was taken is answered, then each client is told, and the status is 0."""
     for number in (signal.SIGTERM, signal.SIGINT):
         with setup.daemon() as daemon:
+            daemon.words = [sys.executable, "-c", PATIENT]
             daemon.start()
             with daemon.client() as client, daemon.client() as idle:
                 client.send(b"alpha show\n" * 3_000)
@@ -470,7 +482,7 @@ def own_rounds(setup: Setup) -> None:
 SLOW = """\
 #!/bin/bash
 while IFS= read -r line; do
-    if [ "$line" = "beta slow" ]; then sleep 2; fi
+    if [ "$line" = "beta slow" ]; then until [ -e '{go}' ]; do sleep 0.05; done; fi
     printf '%s\\n' "$line"
 done | '{program}' "$@"
 """
@@ -478,20 +490,22 @@ done | '{program}' "$@"
 
 def rounds_of_another(setup: Setup) -> None:
     """A tenant that is retired while its round is asked for, and admitted anew, has its rounds as before."""
-    with setup.daemon("--after", "700") as daemon:
-        daemon.firm = stand_in(daemon.folder, SLOW.format(program=setup.program))
+    with setup.daemon("--after", "2000") as daemon:
+        go = daemon.folder / "go"
+        daemon.firm = stand_in(daemon.folder, SLOW.format(program=setup.program, go=go))
         daemon.start()
         with daemon.client() as client, Client(daemon.operator) as operator:
-            for line in ROWS[:3]:
-                require(client.ask(line).endswith(b" ok"), line)
-            operator.send(b"beta slow\n+ retire alpha\n")
-            require([operator.reply() for _ in range(2)][1] == b"+ ok retired alpha", "the operator")
+            # All at once, so that the retirement is taken before the round is due, however slow the host is.
+            operator.send(b"".join(line + b"\n" for line in [*ROWS[:3], b"beta slow", b"+ retire alpha"]))
+            wait_for(lambda: b"+ retire alpha\nalpha round\n" in daemon.journal(), "a round is asked for meanwhile")
+            go.touch()
+            require([operator.reply() for _ in range(5)][4] == b"+ ok retired alpha", "the operator")
             require(operator.ask(b"+ admit alpha,30,300,1000,1,2") == b"+ ok admitted alpha", "the operator")
             for line in ROWS[:3]:
                 require(client.ask(line).endswith(b" ok"), line)
             wait_for(lambda: client.ask(b"alpha where a").endswith(b" ok at m1"), "the task runs")
         daemon.stop()
-        require(b"+ retire alpha\nalpha round\n+ admit" in daemon.journal(), "a round was asked for meanwhile")
+        require(b"+ retire alpha\nalpha round\n+ admit" in daemon.journal(), "it was asked for before that")
 
 
 MEMORY_LINES = [

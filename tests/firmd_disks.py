@@ -2,19 +2,24 @@
 
 from __future__ import annotations
 
+import fcntl
 import os
+import select
 import shutil
 import stat
 import subprocess
 import sys
+import termios
 import time
 from collections.abc import Callable
 from contextlib import suppress
 from pathlib import Path
 
-from firmd_kit import FIRMD, NOBODY, ROWS, SHOWN, Daemon, Gone, Setup, stand_in, wait_for
+from firmd_kit import FIRMD, NOBODY, ROWS, SHOWN, Client, Daemon, Gone, Setup, stand_in, wait_for
 from harness.checks import Skipped, require
 from harness.deployed import SERVICE
+
+SOON_SECONDS = 0.2  # in which a reply that comes too early would be there
 
 
 def full_disk(setup: Setup, make_full: Callable[[Daemon], Callable[[], None]]) -> None:
@@ -190,18 +195,39 @@ def patch_sync(daemon: Daemon, action: str) -> Path:
 def group_commit(setup: Setup) -> None:
     """Lines that wait share a sync, and none is answered before its own."""
     with setup.daemon() as daemon:
-        log = patch_sync(daemon, "time.sleep(0.2)")
+        ends = daemon.folder / "ends"  # has a byte for each sync that may end
+        ends.touch()
+        log = patch_sync(daemon, f"while os.path.getsize({str(ends)!r}) < count: time.sleep(0.01)")
         daemon.start()
         clients = [daemon.client() for _ in range(20)]
-        began = time.monotonic()
         for client in clients:
             client.send(b"alpha show\n")
+        wait_for(lambda: not any(map(unread, clients)), "the lines are read")
+        synced = syncs = 0
+        while synced < 20:
+            syncs += 1
+            wait_for(lambda: log.read_text().count("fdatasync 0") == syncs, f"sync {syncs} begins")
+            written = daemon.journal().count(b"\n")
+            wait_for(lambda: answered(clients) >= synced, f"replies to {synced} lines")
+            time.sleep(SOON_SECONDS)
+            require(answered(clients) == synced, f"{answered(clients)} replies before the end of sync {syncs}")
+            ends.write_bytes(bytes(syncs))
+            synced = written
         replies = [client.reply() for client in clients]
-        seconds = time.monotonic() - began
         require(len(set(replies)) == 20, replies)
-        syncs = log.read_text().count("fdatasync 0")
-        require(1 <= syncs <= 3 and 0.2 * syncs <= seconds < 2, f"{syncs} syncs, {seconds:.2f} s")
+        require(syncs <= 3, f"{syncs} syncs")
+        ends.write_bytes(bytes(99))  # a stop syncs too
         daemon.stop()
+
+
+def unread(client: Client) -> bool:
+    """Whether firmd has not read all that was sent to it."""
+    return fcntl.ioctl(client.socket, termios.TIOCOUTQ, bytes(4)) != bytes(4)
+
+
+def answered(clients: list[Client]) -> int:
+    """How many have a reply."""
+    return len(select.select([client.socket for client in clients], [], [], 0)[0])
 
 
 def failed_sync(setup: Setup) -> None:

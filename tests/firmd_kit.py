@@ -19,6 +19,7 @@ from pathlib import Path
 from harness import program, service
 from harness.checks import require
 from harness.deployed import SERVICE
+from harness.files import write_program
 from harness.small_streams import Stream
 
 NO_LIMITS = service.Limits(2, 0, 1, 0, 0)
@@ -27,9 +28,10 @@ JOURNAL_TOOL = [sys.executable, str(SERVICE / "firm-journal")]
 CHECKS_AT_A_TIME = 4
 HEADING = b"tenant,nodes,arcs,life,spread,churn\n"
 ROSTER = HEADING + b"alpha,30,300,1000000000,1,2\nbeta,30,300,1000000000,0,3\n"
-START_SECONDS = 60
+START_SECONDS = 180  # for a start or an end, on a busy host
 NOBODY = 65534  # a user and a group without rights of their own
-REPLY_SECONDS = 20
+REPLY_SECONDS = 120  # for a reply, or anything else that is waited for, on a busy host
+LAST_LETTERS = 2_000  # of what a daemon has said, where a check fails
 ROWS = [
     b"alpha machine m1 2",
     b"alpha job j 10",
@@ -42,19 +44,20 @@ SHOWN = b"ok machines 1 jobs 1 tasks 1 running %d nodes 5 of 30 arcs 7 of 300"
 
 
 class Gone(Exception):
-    """The daemon has left, or closed the connection."""
+    """The daemon has left, or closed the connection; with what it said last."""
 
 
 class Client:
     """A connection to a socket of firmd."""
 
     def __init__(self, path: Path) -> None:
+        self.path = path
         self.socket = socket.socket(socket.AF_UNIX)
         self.socket.settimeout(REPLY_SECONDS)
         try:
-            self.socket.connect(str(path))
+            connect(self.socket, path)
         except OSError as error:
-            raise Gone from error
+            raise self.gone() from error
         self.received = b""
 
     def __enter__(self) -> Client:
@@ -63,11 +66,15 @@ class Client:
     def __exit__(self, *_: object) -> None:
         self.socket.close()
 
+    def gone(self) -> Gone:
+        """What is raised where the daemon has left; its errors are in its folder, as is that of its state."""
+        return Gone(f"{self.path.name}: {last_words(*self.path.parents[:2])}")
+
     def send(self, text: bytes) -> None:
         try:
             self.socket.sendall(text)
         except ConnectionError as error:
-            raise Gone from error
+            raise self.gone() from error
 
     def reply(self) -> bytes:
         """The next line, without its end."""
@@ -75,9 +82,9 @@ class Client:
             try:
                 more = self.socket.recv(65536)
             except ConnectionError as error:
-                raise Gone from error
+                raise self.gone() from error
             if not more:
-                raise Gone
+                raise self.gone()
             self.received += more
         line, self.received = self.received.split(b"\n", 1)
         return line
@@ -95,8 +102,28 @@ class Client:
 
     def end(self) -> bytes:
         """The same, once nothing more is asked."""
-        self.socket.shutdown(socket.SHUT_WR)
+        with suppress(OSError):  # it may have been closed
+            self.socket.shutdown(socket.SHUT_WR)
         return self.rest()
+
+
+def last_words(*folders: Path) -> str:
+    """What a daemon of one of these folders has said last, where that is known."""
+    logs = [folder / "errors" for folder in folders]
+    said = next((log.read_text(errors="replace") for log in logs if log.exists()), "")
+    return f"it said last: {said[-LAST_LETTERS:].strip()}"
+
+
+def connect(client: socket.socket, path: Path) -> None:
+    """Connects, and tries again where as many as may wait to be accepted already."""
+    ends = time.monotonic() + REPLY_SECONDS
+    while True:
+        try:
+            return client.connect(str(path))
+        except BlockingIOError:
+            if time.monotonic() > ends:
+                raise
+            time.sleep(0.01)
 
 
 @dataclass
@@ -197,13 +224,20 @@ class Setup:
 
     @contextmanager
     def daemon(self, *options: str, roster: bytes = ROSTER, firm: str | None = None) -> Iterator[Daemon]:
-        """A daemon in a new folder, which is not started yet; nothing of it is left behind."""
-        with tempfile.TemporaryDirectory(prefix="firmd-") as name:
+        """A daemon in a new folder, which is not started yet; nothing of it is left behind.
+
+        What a daemon had begun that is killed may still write for a moment, and so leave a part of the folder.
+        """
+        with tempfile.TemporaryDirectory(prefix="firmd-", ignore_cleanup_errors=True) as name:
             folder = Path(name)
             (folder / "roster.csv").write_bytes(roster)
             daemon = Daemon(folder, firm or self.program, list(options))
             try:
                 yield daemon
+            except Exception as error:
+                if daemon.process is not None:
+                    error.add_note(f"firmd, status {daemon.process.poll()}: {last_words(folder)}")
+                raise
             finally:
                 if daemon.process is not None and daemon.process.poll() is None:
                     daemon.kill()
@@ -220,15 +254,14 @@ class Setup:
 def stand_in(folder: Path, text: str) -> str:
     """A program in the place of firm."""
     path = folder / "stand-in"
-    path.write_text(text)
-    path.chmod(0o755)
+    write_program(path, text)
     return str(path)
 
 
 def wait_for(holds: Callable[[], bool], what: str, seconds: float = REPLY_SECONDS) -> None:
     ends = time.monotonic() + seconds
     while not holds():
-        require(time.monotonic() < ends, f"{what}, in time")
+        require(time.monotonic() < ends, f"{what}, in {seconds:g} s")
         time.sleep(0.005)
 
 

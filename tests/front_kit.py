@@ -23,6 +23,7 @@ from harness.deployed import SERVICE, Books, Shown, Status
 from harness.deployed import bound, serve_view
 
 FIRMCTL = SERVICE / "firmctl"
+LIMIT_SECONDS = 120  # for anything that is waited for, on a busy host
 ROSTER = b"tenant,nodes,arcs,life,spread,churn\nalpha,12,40,100,1,2\nbeta,8,30,5,0,3\n"
 DAY = b"""alpha machine m1 2
 alpha machine m2 1
@@ -60,7 +61,7 @@ class Front:
 
     def __enter__(self) -> Front:
         self.thread.start()
-        require(self.is_up.wait(20), "the stand-in does not start")
+        require(self.is_up.wait(LIMIT_SECONDS), "the stand-in does not start")
         return self
 
     def __exit__(self, *_: object) -> None:
@@ -72,7 +73,7 @@ class Front:
             self.thread.join()
 
     def run(self, work: Coroutine[Any, Any, Result]) -> Result:
-        return asyncio.run_coroutine_threadsafe(work, self.loop).result(20)
+        return asyncio.run_coroutine_threadsafe(work, self.loop).result(LIMIT_SECONDS)
 
     async def serve(self) -> None:
         """Serves until it is stopped; all connections are closed then."""
@@ -118,7 +119,7 @@ class Viewer:
 
     def __init__(self, state: Path) -> None:
         self.socket = socket.socket(socket.AF_UNIX)
-        self.socket.settimeout(10)
+        self.socket.settimeout(LIMIT_SECONDS)
         self.socket.connect(str(state / "view"))
         self.answers = self.socket.makefile("rb")
 
@@ -133,7 +134,11 @@ class Viewer:
         self.socket.sendall(text)
 
     def next(self) -> Any:
-        line = self.answers.readline()
+        """The next answer; None where the connection is closed, also with something that was not read there."""
+        try:
+            line = self.answers.readline()
+        except ConnectionError:
+            return None
         return json.loads(line) if line else None
 
     def ask(self, request: object) -> Any:
@@ -141,7 +146,7 @@ class Viewer:
         return self.next()
 
 
-def wait_until(holds: Callable[[], bool], seconds: float = 10) -> bool:
+def wait_until(holds: Callable[[], bool], seconds: float = LIMIT_SECONDS) -> bool:
     ends = time.monotonic() + seconds
     while not holds() and time.monotonic() < ends:
         time.sleep(0.01)
@@ -149,7 +154,7 @@ def wait_until(holds: Callable[[], bool], seconds: float = 10) -> bool:
 
 
 def http_ask(port: int, path: str, method: str = "GET", **headers: str) -> tuple[int, dict[str, str], bytes]:
-    connection = http.client.HTTPConnection("127.0.0.1", port, timeout=10)
+    connection = http.client.HTTPConnection("127.0.0.1", port, timeout=LIMIT_SECONDS)
     connection.request(method, path, headers=headers)
     answer = connection.getresponse()
     found = (answer.status, {name.lower(): value for name, value in answer.getheaders()}, answer.read())

@@ -26,10 +26,11 @@ from functools import cache, partial
 from pathlib import Path
 
 import firmd_kit
-from firmd_kit import FIRMD, ROWS, Client, Daemon, Gone, Setup, wait_for
+from firmd_kit import FIRMD, REPLY_SECONDS, ROWS, Client, Daemon, Gone, Setup, wait_for
 from harness import program
 from harness.checks import Check, Skipped, Suite, print_skipped, require, run_script, run_suites
 from harness.deployed import HIGH_WATER, TICK_SECONDS
+from harness.ports import free_port
 from journal_kit import MOVED, QUESTIONS
 
 CHECKS_AT_A_TIME = 4
@@ -37,6 +38,7 @@ UNREAD_LINES = 10_000
 NO_HTTP = f"neither {sys.executable} nor /usr/bin/python3 has aiohttp and prometheus_client"
 ALL_SECONDS = 120.0  # for a hundred thousand lines on a busy host
 SOON_SECONDS = 0.3  # in which something that must not happen would have happened
+PATIENT = ("--firm-timeout", "600")  # where a check has firm stand still
 REQUEST = b"GET /metrics HTTP/1.1\r\nHost: localhost\r\nAccept: text/html\r\nConnection: close\r\n\r\n"
 # Requests at which parsers have failed.
 REQUESTS = [
@@ -68,8 +70,7 @@ def with_http(daemon: Daemon) -> int:
     python = python_with_http()
     if python is None:
         raise Skipped(NO_HTTP)
-    with socket.create_server(("127.0.0.1", 0)) as free:
-        port = int(free.getsockname()[1])
+    port = free_port()
     daemon.words = [python, *daemon.words[1:]]
     daemon.options += ["--http", f"127.0.0.1:{port}"]
     return port
@@ -77,7 +78,7 @@ def with_http(daemon: Daemon) -> int:
 
 def faults_of(port: int) -> dict[str, float]:
     """The metric of faults by part."""
-    with urllib.request.urlopen(f"http://127.0.0.1:{port}/metrics", timeout=10) as answer:
+    with urllib.request.urlopen(f"http://127.0.0.1:{port}/metrics", timeout=REPLY_SECONDS) as answer:
         rows = [row for row in answer.read().decode().splitlines() if row.startswith("firm_faults_total{")]
     return {row.split('"')[1]: float(row.split()[-1]) for row in rows}
 
@@ -125,23 +126,23 @@ def names_of_changes(setup: Setup) -> None:
             for line in [b"alpha machine ok 1", b"alpha job j 10", b"alpha task j a", b"alpha task j b"]:
                 require(client.ask(line).endswith(b" ok"), line)
             wait_for(lambda: client.ask(b"alpha where a").endswith(b" at ok"), "a runs")
-            time.sleep(SOON_SECONDS)
-            rounds = daemon.journal().count(b" round\n")
-            for _ in range(5):
+            for _ in range(20):
                 require(client.ask(b"alpha where a").endswith(b" at ok"), "a runs")
                 time.sleep(0.02)
             time.sleep(SOON_SECONDS)
-            require(daemon.journal().count(b" round\n") == rounds, "rounds without a change")
+            _, _, behind = daemon.journal().partition(b"alpha task j b\n")
+            # One that was asked for before that line was answered, and one for it.
+            require(behind.count(b" round\n") <= 2, f"rounds without a change: {behind!r}")
         daemon.stop()
 
 
 # HTTP and views.
 
 
-def exchange(port: int, text: bytes) -> None:
-    """Sends a request, and reads what comes until the connection is closed, or for a moment."""
-    with suppress(OSError), socket.create_connection(("127.0.0.1", port), timeout=10) as client:
-        client.settimeout(0.5)
+def exchange(port: int, text: bytes, seconds: float = 0.5) -> None:
+    """Sends a request, and reads what comes until the connection is closed, or no more comes for some time."""
+    with suppress(OSError), socket.create_connection(("127.0.0.1", port), timeout=REPLY_SECONDS) as client:
+        client.settimeout(seconds)
         client.sendall(text)
         client.shutdown(socket.SHUT_WR)
         while client.recv(65536):
@@ -179,7 +180,7 @@ def hostile_requests(setup: Setup) -> None:
         with ThreadPoolExecutor(8) as pool:
             list(pool.map(partial(exchange, port), [fuzzed(draw) for _ in range(200 if setup.is_quick else 2_000)]))
         is_served(daemon)
-        require(faults_of(port)["http"] >= 1, faults_of(port))
+        wait_for(lambda: faults_of(port)["http"] >= 1, "a fault is counted")
         require(daemon.said().count(b"Traceback") <= 20, "each kind of fault is told once")
         ends_well(daemon)
 
@@ -250,7 +251,8 @@ def unforeseen_faults(setup: Setup) -> None:
             require(client.ask(b"alpha show").startswith(b"alpha 4 ok"), "other clients are answered")
         if port:
             for _ in range(2):
-                exchange(port, b"GET /tenants/alpha.json HTTP/1.1\r\nHost: localhost\r\nConnection: close\r\n\r\n")
+                page = b"GET /tenants/alpha.json HTTP/1.1\r\nHost: localhost\r\nConnection: close\r\n\r\n"
+                exchange(port, page, REPLY_SECONDS)
             wait_for(lambda: faults_of(port) == {"client": 3, "http": 2, "view": 4}, "each fault is counted")
         told = daemon.said().count(b"Traceback")
         require(told == (4 if port else 3), f"{told} told: {daemon.said().decode()}")
@@ -266,8 +268,8 @@ def crowd(path: Path, count: int) -> Iterator[None]:
     with ExitStack() as held:
         for _ in range(count):
             client = held.enter_context(socket.socket(socket.AF_UNIX))
-            client.settimeout(firmd_kit.REPLY_SECONDS)
-            client.connect(str(path))
+            client.settimeout(REPLY_SECONDS)
+            firmd_kit.connect(client, path)
         yield
 
 
@@ -435,7 +437,7 @@ def bounded_lines(setup: Setup) -> None:
     """Clients are not read while their tenant or socket is owed too many replies; others are, and all are answered."""
     text = (b"alpha show" + b" " * 240 + b"\n") * 1_000
     for bound in ("--most-waiting-of-tenant", "--most-unanswered-of-socket"):
-        with setup.daemon(bound, "200000") as daemon, ThreadPoolExecutor(30) as pool:
+        with setup.daemon(bound, "200000", *PATIENT) as daemon, ThreadPoolExecutor(30) as pool:
             daemon.options += ["--client", f"alpha={daemon.folder / 'alpha'}"]
             daemon.start()
             firm = daemon.firm_process()
@@ -482,7 +484,8 @@ def repeated_faults(setup: Setup) -> None:
             patch(daemon, f"from firm_service import {module}\n{module}.{name} = 'none'")
             daemon.start()
             with daemon.client() as client:
-                client.send(b"alpha show\n")
+                with suppress(Gone):  # where `accept` fails, it may have ended before this
+                    client.send(b"alpha show\n")
                 require(daemon.status() == 1, daemon.said())
             require(b"fails each time: TypeError" in daemon.said(), daemon.said())
 
@@ -523,6 +526,8 @@ def __init__(self, faults, original=relief.Relief.__init__):
     self._loop.add_signal_handler(signal.SIGUSR1, lack)
 clients.Client.choose_reading, relief.Relief.__init__ = choose_reading, __init__
 """
+# All lines of a client are taken, however many replies it has left unread when the later ones come.
+NEVER_HELD = "from firm_service import clients\nclients.HIGH_WATER = 1 << 30\n"
 FAILING = """\
 from firm_service import stream
 def fail(self, original=stream.Firm.{call}):
@@ -545,8 +550,11 @@ def refused_threads(setup: Setup) -> None:
 
 
 def successors_socket(setup: Setup) -> None:
-    """A firmd that ends slowly leaves the socket of its successor alone."""
+    """A firmd that ends slowly leaves the socket of its successor alone; a client that reads nothing delays no end for
+    long."""
     with setup.daemon() as daemon, setup.daemon() as other:
+        patch(daemon, NEVER_HELD + "clients.STOP_SECONDS = clients.LINGER_SECONDS = 600.0")
+        patch(other, NEVER_HELD)
         daemon.start()
         with daemon.client() as slow:
             slow.send(b"alpha show\n" * 8_000)  # whose replies are not read
@@ -560,10 +568,13 @@ def successors_socket(setup: Setup) -> None:
                 if b"ready" in other.said():
                     break
             require(daemon.running().poll() is None, "the first ends slowly")
-            require(daemon.status() == 0, daemon.said())
+        require(daemon.status() == 0, daemon.said())
         with Client(daemon.any) as client:
             require(client.ask(b"beta show").startswith(b"beta 1 ok"), "the successor serves")
-        other.stop()
+        with other.client() as slow:
+            slow.send(b"alpha show\n" * 8_000)
+            wait_for(lambda: other.journal().count(b"\n") == 8_001, "its lines are taken")
+            other.stop()
 
 
 CHECKS = [

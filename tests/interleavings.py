@@ -103,8 +103,7 @@ def change(form: str, *acts: Act) -> Steps:
 # What is left out changes nothing: the notifications of a queue with room for all rounds and of a clerk that is not
 # there, which find no waiter; answers and the stop word, where workers stay in their gates; and each read by which a
 # worker only decides whether to look once more. A load and an exchange of what it found are one step where the thread
-# looks again if the exchange fails: it then changed nothing, and might as well have come later. The clerk takes any
-# answer; that of the code waits for a certain one, and looks in vain where another is notified, as here for room.
+# looks again if the exchange fails: it then changed nothing, and might as well have come later.
 
 EVERYONE = 1 << 16
 ROOM, ANSWERS = "room ", "answers "  # the event counts of the queue and of the clerk
@@ -294,46 +293,35 @@ def shutter(hall: Hall) -> Steps:
 
 
 def hall_clerk(hall: Hall, rounds: int, away: int = 0) -> Steps:
-    """Puts rounds, each once there is room; then takes the answers, and shuts the hall."""
-    if (yield from has_come(hall, rounds)):
-        return clerk_behind(hall, rounds, away)
+    """Puts rounds, each once there is room, and takes the answers. Shuts the hall once all are back."""
+    rounds, away = yield from looks(hall, rounds, away)
+    if not rounds and not away:
+        return begin(shutter, hall)
     yield from ring(hall)
     return begin(waiting_clerk, hall, rounds, away)
 
 
 def waiting_clerk(hall: Hall, rounds: int, away: int) -> Steps:
-    """Sleeps until there is room for a round, or an answer."""
+    """Sleeps until there is room for a round that is left, or an answer, unless all are back."""
     key = yield from announce(ANSWERS)
-    is_there = hall.form != NO_LOOK and (yield from has_come(hall, rounds))
-    if not is_there:
+    if hall.form != NO_LOOK:
+        rounds, away = yield from looks(hall, rounds, away)
+    if rounds or away:
         yield from ring(hall)
-        yield from sleep_by(key, ANSWERS, "room" if rounds else "answers")
+        yield from sleep_by(key, ANSWERS, ROOM * (rounds > 0) + ANSWERS * (away > 0))
     del key
     yield from cancel(ANSWERS)
-    return clerk_behind(hall, rounds, away) if is_there else begin(hall_clerk, hall, rounds, away)
+    return begin(hall_clerk, hall, rounds, away) if rounds or away else begin(shutter, hall)
 
 
-def has_come(hall: Hall, rounds: int) -> Steps:
-    """Whether there is room for a round, if some are left; else whether there is an answer, which is taken."""
-    if not rounds:
-        return (yield pop("answers"))
-    waiting = yield load("waiting")
-    return waiting < hall.room
-
-
-def clerk_behind(hall: Hall, rounds: int, away: int) -> Thread:
-    """The clerk, for whom there is room or an answer."""
-    if rounds:
-        return begin(putting_clerk, hall, rounds, away)
-    return begin(hall_clerk, hall, 0, away - 1) if away > 1 else begin(shutter, hall)
-
-
-def putting_clerk(hall: Hall, rounds: int, away: int) -> Steps:
-    """Puts a round, and rings behind the last, before it reads."""
-    yield from put(hall)
-    if rounds == 1:
-        yield from ring(hall)
-    return begin(hall_clerk, hall, rounds - 1, away + 1)
+def looks(hall: Hall, rounds: int, away: int) -> Steps:
+    """Takes the answers that are there, and puts rounds while there is room; how many are left, and how many away."""
+    while away and (yield pop("answers")):
+        away -= 1
+    while rounds and (yield load("waiting")) < hall.room:
+        yield from put(hall)
+        rounds, away = rounds - 1, away + 1
+    return rounds, away
 
 
 def open_hall(form: str, hall: Hall) -> Model:
@@ -358,7 +346,7 @@ def is_hall_served(hall: Hall, words: Words, sleep: Sleep) -> object:
     if sleep.word == "wakes":
         return words["queue"] or words["stop"]
     if sleep.awaits:
-        return words["answers"] if sleep.awaits == "answers" else words["waiting"] < hall.room
+        return ANSWERS in sleep.awaits and words["answers"] or ROOM in sleep.awaits and words["waiting"] < hall.room
     return words["queue"] < hall.room
 
 

@@ -12,7 +12,6 @@ import argparse
 import os
 import random
 import signal
-import socket
 import subprocess
 import sys
 import tempfile
@@ -20,26 +19,29 @@ import time
 import unittest
 import urllib.request
 from collections.abc import Callable, Iterator, Sequence
-from contextlib import ExitStack, contextmanager, suppress
+from contextlib import AbstractContextManager, ExitStack, contextmanager, suppress
 from dataclasses import dataclass
 from functools import partial
 from pathlib import Path
 
-from firmd_kit import CHECKS_AT_A_TIME, FIRMD, ROSTER, Client, Daemon, Gone, Setup, wait_for
+from firmd_disks import unread
+from firmd_kit import CHECKS_AT_A_TIME, FIRMD, REPLY_SECONDS, ROSTER, Client, Daemon, Gone, Setup, wait_for
 from harness import program
 from harness.checks import Check, Suite, require, run_script, run_suites
+from harness.deployed import budgets
 from harness.program import ROOT
 from harness.small_streams import random_stream
-from hostile import with_http
+from hostile import PATIENT, with_http
 
 STAND_IN = str(ROOT / "tests" / "stand_in_firm.py")
 SHOW = b"beta show"
 # What another tenant's slowest request in a hundred may take beside a hog: twice what it takes alone, and this for a
 # host that does other work too, whose own pauses are longer than any of firmd's.
-SLACK_SECONDS, TRIES = 0.05, 3
+SLACK_SECONDS, TRIES = 0.05, 8
 MEMORY = "/dev/shm"
 SOON_SECONDS = 0.3
-LONGEST_SECONDS, ALL_SECONDS = 4, 10  # for one request, and for all that are measured together
+LONGEST_SECONDS, ALL_SECONDS = 60, 300  # for one request, and for all that are measured together
+HANGING_SECONDS = 5  # of a firm, after which it is killed
 
 # Sends one text again and again over some connections, and reads all replies; says how many it has.
 HOG = """\
@@ -71,7 +73,7 @@ def bound(daemon: Daemon, *tenants: str) -> None:
 @contextmanager
 def load(setup: Setup, *options: str, **environment: str) -> Iterator[Daemon]:
     """A daemon over the stand-in for firm, with a socket for each tenant."""
-    with setup.daemon(*options, firm=STAND_IN) as daemon:
+    with setup.daemon(*options, *PATIENT, firm=STAND_IN) as daemon:
         daemon.words = ["env", *(f"{name}={value}" for name, value in environment.items()), *FIRMD]
         bound(daemon, "alpha", "beta")
         yield daemon.start()
@@ -113,25 +115,32 @@ def slowest(client: Client, count: int) -> float:
     return sorted(seconds)[count * 99 // 100 - 1]
 
 
-def is_undisturbed(before: float, client: Client, count: int) -> None:
-    """Asks that another's requests take about as long as before; measures again where the host did other work."""
-    for attempt in range(1, TRIES + 1):
-        meanwhile = slowest(client, count)
-        told = f"{1e3 * meanwhile:.1f} ms instead of {1e3 * before:.1f}"
-        print(f"    another's slowest request in a hundred: {told}", flush=True)
-        if meanwhile <= 2 * before + SLACK_SECONDS:
-            return
-        require(attempt < TRIES, f"another's slowest request in a hundred took {told}")
+def is_undisturbed(before: float, client: Client, count: int) -> bool:
+    """Whether another's requests take about as long as before."""
+    meanwhile = slowest(client, count)
+    print(
+        f"    another's slowest request in a hundred: {1e3 * meanwhile:.1f} ms instead of {1e3 * before:.1f}",
+        flush=True,
+    )
+    return meanwhile <= 2 * before + SLACK_SECONDS
+
+
+def compare(client: Client, count: int, disturbing: Callable[[], AbstractContextManager[object]], more: float) -> None:
+    """Asks that another's requests take about as long, or some seconds more, while somebody disturbs as right before
+    that; measures both again where the host did other work meanwhile."""
+    for _ in range(TRIES):
+        before = slowest(client, count) + more
+        with disturbing():
+            if is_undisturbed(before, client, count):
+                return
+    require(False, f"another's slowest request in a hundred took more than it may, {TRIES} times")
 
 
 def beside(setup: Setup, daemon: Daemon, hog: Hog, seconds: float = 0.0) -> None:
     """Compares another's requests with and without a hog, whose own may cost them some seconds each."""
-    count = 200 if setup.is_quick else 2_000
     with Client(daemon.folder / "beta") as other:
         slowest(other, 100)
-        before = slowest(other, count)
-        with running(hog):
-            is_undisturbed(before + seconds / 2, other, count)
+        compare(other, 200 if setup.is_quick else 2_000, partial(running, hog), seconds / 2)
 
 
 # Connections.
@@ -145,14 +154,21 @@ def held_connections(setup: Setup) -> None:
         for client in clients:
             require(client.ask(b"alpha show").startswith(b"alpha "), "they are served")
         others = [held.enter_context(Client(daemon.folder / "beta")) for _ in range(10)]
-        before = slowest(others[0], 200)
-        burst = [held.enter_context(Client(daemon.folder / "alpha")) for _ in range(more)]
-        is_undisturbed(before, others[0], 200)
-        refused = burst[most // 10 :]
-        require(all(client.rest() == b"? too-many-clients: %d are connected\n" % most for client in refused), "told")
-        require(burst[most // 10 - 1].ask(b"alpha show").startswith(b"alpha "), "the last that had room")
+        with connections(daemon.folder / "alpha", more) as burst:
+            refused = burst[most // 10 :]
+            told = b"? too-many-clients: %d are connected\n" % most
+            require(all(client.rest() == told for client in refused), "told")
+            require(burst[most // 10 - 1].ask(b"alpha show").startswith(b"alpha "), "the last that had room")
+            are_admitted(daemon)
+        compare(others[0], 200, partial(connections, daemon.folder / "alpha", more), 0.0)
         are_admitted(daemon)
         daemon.stop()
+
+
+@contextmanager
+def connections(path: Path, count: int) -> Iterator[list[Client]]:
+    with ExitStack() as held:
+        yield [held.enter_context(Client(path)) for _ in range(count)]
 
 
 def are_admitted(daemon: Daemon) -> None:
@@ -164,12 +180,10 @@ def are_admitted(daemon: Daemon) -> None:
 
 def idle_connections(setup: Setup) -> None:
     """A thousand connections that say nothing cost the others nothing."""
-    with load(setup) as daemon, ExitStack() as held, Client(daemon.folder / "beta") as other:
-        before = slowest(other, 200)
-        for _ in range(1_000):
-            held.enter_context(Client(daemon.folder / "alpha"))
-        is_undisturbed(before, other, 200)
-        are_admitted(daemon)
+    with load(setup) as daemon, Client(daemon.folder / "beta") as other:
+        compare(other, 200, partial(connections, daemon.folder / "alpha", 1_000), 0.0)
+        with connections(daemon.folder / "alpha", 1_000):
+            are_admitted(daemon)
 
 
 # Lines.
@@ -177,14 +191,19 @@ def idle_connections(setup: Setup) -> None:
 
 def pipelined_rounds(setup: Setup) -> None:
     """Rounds that a client sends without waiting delay another's line by one of them at most; each is answered."""
-    seconds, rounds = 0.002, 200 if setup.is_quick else 4_000
+    seconds, rounds = 0.002, 1_000 if setup.is_quick else 4_000
     with load(setup, ROUND_SECONDS=str(seconds)) as daemon:
         with Client(daemon.folder / "alpha") as client, Client(daemon.folder / "beta") as other:
+            os.kill(daemon.firm_process(), signal.SIGSTOP)  # until both are there, however long that takes
             client.send(b"alpha round\n" * rounds)
-            require(other.ask(SHOW) == b"beta 1 " + SHOWN, "another's line comes first")
-            came = client.socket.recv(1 << 20, socket.MSG_PEEK).count(b"\n")
-            require(came < rounds // 2, f"{came} of {rounds} rounds come before another's line")
+            wait_for(lambda: b"alpha round\n" in daemon.journal(), "rounds are taken")
+            other.send(SHOW + b"\n")
+            wait_for(lambda: not unread(other), "another's line is read")
+            os.kill(daemon.firm_process(), signal.SIGCONT)
+            require(other.reply() == b"beta 1 " + SHOWN, "another's line")
             replies = [client.reply() for _ in range(rounds)]
+            came = daemon.journal().partition(SHOW)[0].count(b"\n")
+            require(came < 10, f"{came} of {rounds} rounds come before another's line")
             require(replies[-1] == b"alpha %d ok round cost 0" % rounds, replies[-1])
         beside(setup, daemon, Hog(daemon.folder / "alpha", "alpha round\\n", 1), seconds)
         daemon.stop()
@@ -234,11 +253,18 @@ def lines_of_nobody(setup: Setup) -> None:
 def bounded_stop(setup: Setup) -> None:
     """A stop answers the lines that left their queues, and does not wait for all rounds that a client has sent."""
     with load(setup, ROUND_SECONDS="0.05") as daemon, Client(daemon.folder / "alpha") as client:
-        client.send(b"alpha round\n" * 1_000)  # which take 50 seconds
+        client.send(b"alpha round\n" * 5_000)  # which take minutes
         require(client.reply() == b"alpha 1 ok round cost 0", "the first")
-        daemon.stop()
+        firm = daemon.firm_process()
+        os.kill(firm, signal.SIGSTOP)  # until it is told to stop
+        daemon.running().send_signal(signal.SIGTERM)
+        wait_for(lambda: b"stopping" in daemon.said(), "it is to stop")
+        given = daemon.journal().count(b"\n")
+        os.kill(firm, signal.SIGCONT)
+        require(daemon.status() == 0, daemon.said())
         *replies, last = client.rest().splitlines()
-        require(last == b"? stopping: no further lines are taken" and len(replies) < 100, f"{len(replies)}, {last!r}")
+        further = len(replies) + 1 - given
+        require(last == b"? stopping: no further lines are taken" and further < 100, f"{further}, {last!r}")
         require(daemon.journal() == b"alpha round\n" * (len(replies) + 1), "each line that is kept is answered")
 
 
@@ -260,9 +286,12 @@ def filled_journal(setup: Setup) -> None:
             require(len(daemon.journal()) <= 10_000, f"{len(daemon.journal())} bytes of the journal")
             for number in range(1, 51):
                 require(other.ask(SHOW) == b"beta %d " % number + SHOWN, "another's reply")
-            time.sleep(0.3)  # in which 34 bytes come again
-            require(client.ask(b"alpha show").startswith(b"alpha "), "it may go on, little by little")
+            require(client.ask(b"alpha show").startswith(b"alpha "), "a shorter line has room")
         daemon.stop()
+    bucket = budgets.Bucket(rate=2.0, most=1_000.0, now=0.0)
+    bucket.left -= 1_000
+    require(not bucket.has(11, 5.0) and bucket.has(11, 5.5), "it may go on, little by little")
+    require(bucket.has(1_000, 500.0) and not bucket.has(1_001, 5_000.0), "no more than a day's are kept")
 
 
 SHOWN = b"ok machines 0 jobs 0 tasks 0 running 0 nodes 2 of 30 arcs 0 of 300"
@@ -288,7 +317,7 @@ def own_replies(setup: Setup) -> None:
         with setup.daemon(roster=roster) as daemon:
             daemon.start()
             with Client(daemon.operator) as client:
-                client.socket.settimeout(60)
+                client.socket.settimeout(REPLY_SECONDS)
                 at = 0
                 while at < len(text):
                     end = at + draw.choice([1, 10, 100, 5_000])
@@ -376,23 +405,24 @@ def bytes_a_second(setup: Setup) -> None:
                 before = slowest(other, 100)
                 began = time.monotonic()
                 client.send(b"alpha show\n" * 5_000)  # 55,000 bytes: 20,000 and a turn's may come at once
-                is_undisturbed(before, other, 100)
+                is_heeded = any(is_undisturbed(before, other, 100) for _ in range(TRIES))
+                require(is_heeded, "another waits too")
                 replies = [client.reply() for _ in range(5_000)]
                 seconds = time.monotonic() - began
             require(replies[-1].startswith(b"alpha 5000 ok"), replies[-1])
-            require(0.8 < seconds < 10, f"55,000 bytes took {seconds:.2f} s")
+            require(0.8 < seconds < LONGEST_SECONDS, f"55,000 bytes took {seconds:.2f} s")
             daemon.stop()
 
 
 def hung_firm(setup: Setup) -> None:
     """A firm that owes replies, or its end, for too long is killed: status 4; one that owes nothing is left alone."""
     for is_asked, is_stopped in ((True, False), (False, True), (True, True)):
-        with setup.daemon("--firm-timeout", "0.5") as daemon:
+        with setup.daemon("--firm-timeout", str(HANGING_SECONDS)) as daemon:
             daemon.start()
             with daemon.client() as client:
                 require(client.ask(SHOW).startswith(b"beta 1 ok"), "it serves")
                 os.kill(daemon.firm_process(), signal.SIGSTOP)
-                time.sleep(0 if is_asked else 1)
+                time.sleep(0 if is_asked else HANGING_SECONDS + 1)
                 require(daemon.running().poll() is None, "it owes nothing")
                 if is_asked:
                     client.send(SHOW + b"\n")
@@ -400,7 +430,8 @@ def hung_firm(setup: Setup) -> None:
                     daemon.running().send_signal(signal.SIGTERM)
                 with suppress(Gone):
                     require(b"beta 2" not in client.rest(), "no reply")
-            require(daemon.status() == 4 and b"firm has not answered for 0.5 s" in daemon.said(), daemon.said())
+            told = b"firm has not answered for %d s" % HANGING_SECONDS
+            require(daemon.status() == 4 and told in daemon.said(), daemon.said())
             daemon.options = []  # a busy host may take longer to start it
             daemon.start()
             with daemon.client() as client:
@@ -410,14 +441,14 @@ def hung_firm(setup: Setup) -> None:
 
 
 def metrics(port: int) -> dict[str, float]:
-    with urllib.request.urlopen(f"http://127.0.0.1:{port}/metrics", timeout=10) as answer:
+    with urllib.request.urlopen(f"http://127.0.0.1:{port}/metrics", timeout=REPLY_SECONDS) as answer:
         rows = [row for row in answer.read().decode().splitlines() if not row.startswith("#")]
     return {name: float(value) for name, _, value in (row.rpartition(" ") for row in rows)}
 
 
 def measured(setup: Setup) -> None:
     """The metrics tell what waits and whose it is, how long firm has been silent, and what firmd says itself."""
-    with setup.daemon("--most-clients", "5", "--bytes-a-day-of-tenant", "1000") as daemon:
+    with setup.daemon("--most-clients", "5", "--bytes-a-day-of-tenant", "1000", *PATIENT) as daemon:
         port = with_http(daemon)
         bound(daemon, "alpha", "beta")
         daemon.start()
@@ -432,8 +463,13 @@ def measured(setup: Setup) -> None:
             os.kill(daemon.firm_process(), signal.SIGSTOP)
             with Client(daemon.folder / "beta") as other:
                 other.send(b"beta round\n" * 3)
-                wait_for(lambda: metrics(port)["firm_oldest_line_seconds"] > 0.6, "the oldest line is told")
-                found = metrics(port)
+                found: dict[str, float] = {}
+
+                def is_told() -> bool:
+                    found.update(metrics(port))
+                    return min(found["firm_oldest_line_seconds"], found["firm_silent_seconds"]) > 0.6
+
+                wait_for(is_told, "the oldest line is told")
                 os.kill(daemon.firm_process(), signal.SIGCONT)
                 require([other.reply()[:6] for _ in range(3)] == [b"beta 1", b"beta 2", b"beta 3"], "replies")
         for name, value in (

@@ -344,7 +344,7 @@ def cut_power(daemon: Daemon, shadow: Path, draw: random.Random) -> None:
 def kill_behind(daemon: Daemon, tenants: list[firmd_kit.Tenant], lines: int) -> None:
     """Kills it once that number of lines was answered."""
     try:
-        firmd_kit.wait_for(lambda: sum(len(tenant.answered) for tenant in tenants) >= lines, "lines are answered")
+        firmd_kit.wait_for(lambda: sum(len(tenant.answered) for tenant in tenants) >= lines, "lines are answered", 120)
     finally:
         daemon.kill()
 

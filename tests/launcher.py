@@ -24,7 +24,7 @@ TOOLS = ("awk", "bash", "cat", "dirname", "env", "find", "realpath")
 KIT_TOOLS = ("rt", "rattle", "rattle-link")
 KIT_FILES = ("START-HERE.md", "c/libos_c.a", "c/liblibc_c.a", "rattle/logic/antt-project.json", "logic_built/one")
 PROGRAMS = ("firm", "firm_explain")
-LIMIT_SECONDS = 60  # for each run of the launcher
+LIMIT_SECONDS = 180  # for each run of the launcher
 LOGIC = re.findall(r'^LOGIC = "(\w+)"$', (ROOT / "prover.py").read_text(), re.M)[0]
 ONE_LINE, TWO_LINES = "one line\n", "one line\nand one more\n"
 TEXT = b"alpha show\n"
@@ -106,10 +106,15 @@ class Place:
         return {crate for crate in self.needed if name in family(crate, self.crates)}
 
     def write(self, name: str, text: str = ONE_LINE) -> None:
-        """Writes a file, newer than all that is there."""
+        """Writes a file, newer than all that is there, also where the clock of the files ticks slowly."""
         file = self.top / name
         file.parent.mkdir(parents=True, exist_ok=True)
         file.write_text(text)
+        programs = [self.top / f"crates/{program}/out/{program}" for program in PROGRAMS]
+        newest = max((program.stat().st_mtime_ns for program in programs if program.exists()), default=0)
+        while file.stat().st_mtime_ns <= newest:
+            time.sleep(0.001)
+            file.touch()
 
     def start(
         self,
@@ -165,6 +170,13 @@ class Place:
                 if os.readlink(folder).startswith(f"{self.top}/crates/"):
                     return True
         return False
+
+    def until_none_runs(self) -> None:
+        """Waits until no process of a crate's check is left: one that was killed is gone a moment later."""
+        ends = time.monotonic() + LIMIT_SECONDS
+        while self.still_runs():
+            require(time.monotonic() < ends, "a check goes on")
+            time.sleep(0.02)
 
     def standing(self) -> set[str]:
         """The crates that a run has taken for proved: one whose check ends as its run is killed may not be."""
@@ -375,7 +387,7 @@ def interrupted(place: Place) -> None:
         done = place.end(launched)
         require(done.status == 128 + number and done.output == b"", done)
         require(b"goes on from here" in done.faults, done.faults)
-        require(not place.still_runs(), "a check goes on")
+        place.until_none_runs()
         require(not stood & set(place.made()), f"proved twice, of {stood}")
     require_goes_on(place)
 
@@ -386,10 +398,7 @@ def killed(place: Place) -> None:
     place.wait_for("begin firm_graph", launched)
     launched.kill()
     place.end(launched)
-    ends = time.monotonic() + LIMIT_SECONDS
-    while place.still_runs():
-        require(time.monotonic() < ends, "a check goes on")
-        time.sleep(0.02)
+    place.until_none_runs()
     place.asked()
     require_goes_on(place)
 

@@ -20,10 +20,13 @@ import select
 import signal
 import subprocess
 import tempfile
+import threading
 import time
 import tty
+from contextlib import contextmanager
 from dataclasses import dataclass
 from functools import partial
+from pathlib import Path
 from typing import Callable, Iterator
 
 from harness import program, service
@@ -41,9 +44,10 @@ ROWS = [
     b"beta task low l",
 ]
 FIRST_ROUND = b"alpha 5 ok round cost 0 start a m1"
-# How long a worker waits for each memory that it asks for in a round, and how soon what waits behind that round comes.
-DELAY_SECONDS = 0.3
-AT_ONCE_SECONDS = 0.1
+# How long a worker waits for each memory that it asks for in a round, how long one at most that a check holds, and how
+# soon what waits behind a round comes.
+DELAY_SECONDS, HOLD_SECONDS = 0.3, 120
+AT_ONCE_SECONDS = 20
 # A pause in which the service has gone to sleep.
 PAUSE_SECONDS = 0.05
 # More than a pipe holds, in fewer lines than answers are held.
@@ -62,6 +66,7 @@ class Starter:
 
     def __init__(self, options: Options, folder: str) -> None:
         self.options, self.library = options, program.build_refusing(folder)
+        self.hold = Path(folder) / "hold"
 
     def client(
         self,
@@ -69,7 +74,7 @@ class Starter:
         workers: str,
         stdin: int = subprocess.PIPE,
         is_slow: bool = False,
-        **asked: int,
+        **asked: int | Path,
     ) -> program.Client:
         """A client, whose rounds may take a while; what is asked of refuse.c goes by the names that it has for it."""
         if is_slow:
@@ -77,6 +82,21 @@ class Starter:
         environment = {"LD_PRELOAD": self.library} if asked else {}
         environment.update({name.upper(): str(number) for name, number in asked.items()})
         return program.Client(self.options.command(workers), roster_path, environment, stdin)
+
+    @contextmanager
+    def held_client(self, roster_path: str, workers: str) -> Iterator[program.Client]:
+        """A client whose rounds do not end before they are let go, or for a long time."""
+        self.hold.touch()
+        letting_go = threading.Timer(HOLD_SECONDS, self.let_go)
+        letting_go.start()
+        try:
+            with self.client(roster_path, workers, hold_memory=self.hold) as client:
+                yield client
+        finally:
+            letting_go.cancel()
+
+    def let_go(self) -> None:
+        self.hold.unlink(missing_ok=True)
 
 
 def add_rows(client: program.Client) -> None:
@@ -118,12 +138,13 @@ def line_by_line(starter: Starter, workers: str) -> None:
 
 def lines_during_a_round(starter: Starter, workers: str) -> None:
     """While a round is solved another tenant's lines are answered; the replies come right behind its own."""
-    with program.Roster(ROSTER) as roster_path, starter.client(roster_path, workers, is_slow=True) as client:
+    with program.Roster(ROSTER) as roster_path, starter.held_client(roster_path, workers) as client:
         add_rows(client)
         client.send(b"alpha round\n")
         time.sleep(PAUSE_SECONDS)
         client.send(b"".join(b"beta where l".ljust(LINE_BYTES) + b"\n" for _ in range(LINES_MEANWHILE)))
         require(is_waiting(client), "the lines were read, but not while the round was solved")
+        starter.let_go()
         require(client.reply() == FIRST_ROUND, "the round's reply comes first")
         solved = time.monotonic()
         for number in range(LINES_MEANWHILE):
@@ -133,16 +154,23 @@ def lines_during_a_round(starter: Starter, workers: str) -> None:
         require(client.close() == (0, b"", b""), "its end")
 
 
-def closed_output(starter: Starter, workers: str, line: bytes, is_slow: bool) -> None:
+def closed_output(starter: Starter, workers: str, line: bytes) -> None:
     """Where nobody reads the replies any more the service ends with the next one, while its input is still open."""
-    with program.Roster(ROSTER) as roster_path, starter.client(roster_path, workers, is_slow=is_slow) as client:
+    with program.Roster(ROSTER) as roster_path, starter.client(roster_path, workers) as client:
         add_rows(client)
-        if is_slow:
-            client.send(line)
-            time.sleep(PAUSE_SECONDS)
         client.output.close()
-        if not is_slow:
-            client.send(line)
+        client.send(line)
+        require(client.end() == (5, b"", b"firm: write\n"), "its end")
+
+
+def closed_meanwhile(starter: Starter, workers: str) -> None:
+    """The same where the output closes while a round is solved."""
+    with program.Roster(ROSTER) as roster_path, starter.held_client(roster_path, workers) as client:
+        add_rows(client)
+        client.send(b"alpha round\n")
+        time.sleep(PAUSE_SECONDS)
+        client.output.close()
+        starter.let_go()
         require(client.end() == (5, b"", b"firm: write\n"), "its end")
 
 
@@ -210,12 +238,13 @@ def threads(starter: Starter, workers: str) -> None:
 
 
 def no_reading_thread(starter: Starter, workers: str) -> None:
-    """Without the thread that reads ahead a round's reply comes with a later line at the latest."""
+    """Without the thread that reads ahead all replies come before the next line is read."""
     with program.Roster(ROSTER) as roster_path, starter.client(roster_path, workers, refuse_thread=1) as client:
         add_rows(client)
         require(client.threads() == int(workers) + 1, "the threads")
+        require(client.ask(b"alpha round") == FIRST_ROUND, "the round's reply")
         client.send(b"alpha round\nalpha where a\n")
-        require((client.reply(), client.reply()) == (FIRST_ROUND, b"alpha 6 ok at m1"), "the replies")
+        require((client.reply(), client.reply()) == (b"alpha 6 ok round cost 0", b"alpha 7 ok at m1"), "the replies")
         require(client.close() == (0, b"", b""), "its end")
 
 
@@ -226,9 +255,9 @@ def checks(starter: Starter) -> Iterator[tuple[str, Check]]:
             "line by line": line_by_line,
             "lines during a round": lines_during_a_round,
             "threads": threads,
-            "closed output, a line": partial(closed_output, line=b"alpha show\n", is_slow=False),
-            "closed output, a round": partial(closed_output, line=b"alpha round\n", is_slow=False),
-            "closed output while a round is solved": partial(closed_output, line=b"alpha round\n", is_slow=True),
+            "closed output, a line": partial(closed_output, line=b"alpha show\n"),
+            "closed output, a round": partial(closed_output, line=b"alpha round\n"),
+            "closed output while a round is solved": closed_meanwhile,
             "rest of the input": rest_of_the_input,
             "terminal, end of input": partial(terminal, is_hung_up=False),
             "terminal, hang-up": partial(terminal, is_hung_up=True),

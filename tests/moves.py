@@ -18,6 +18,7 @@ import socket
 import subprocess
 import time
 from collections.abc import Callable, Iterator
+from concurrent.futures import ThreadPoolExecutor
 from contextlib import ExitStack, contextmanager, suppress
 from dataclasses import dataclass, field
 from functools import partial
@@ -25,6 +26,7 @@ from threading import Thread
 from typing import Any
 
 from firmd_kit import (
+    FIRMD,
     JOURNAL_TOOL,
     Answered,
     Client,
@@ -36,6 +38,7 @@ from firmd_kit import (
     converse,
     in_threads,
     roster_of,
+    stand_in,
     wait_for,
 )
 from harness import program
@@ -66,9 +69,9 @@ def ask(daemon: Daemon, what: str, move: str, tenant: str = "alpha", **more: str
             with mover.makefile("rb") as answers:
                 answer = answers.readline()
     except OSError as error:
-        raise Gone from error
+        raise Gone(f"{what} of {tenant}: {error}") from error
     if not answer.endswith(b"\n"):
-        raise Gone
+        raise Gone(f"{what} of {tenant}: no answer")
     found: Json = json.loads(answer)
     return found
 
@@ -86,8 +89,13 @@ def refused(daemon: Daemon, name: str, what: str, move: str, tenant: str = "alph
 
 def has(daemon: Daemon, tenant: str = "alpha") -> bool:
     """Whether firm has a tenant there; of a held one its books tell."""
+    return commands_of(daemon, tenant) is not None
+
+
+def commands_of(daemon: Daemon, tenant: str = "alpha") -> int | None:
+    """How many commands of a tenant are shown, where it is there."""
     rows = asked_of_firmctl(daemon, "status")["tenants"]
-    return any(row["tenant"] == tenant for row in rows)
+    return next((int(row["commands"]) for row in rows if row["tenant"] == tenant), None)
 
 
 @dataclass
@@ -113,12 +121,20 @@ class Pair:
         for name, count in (("beta", 10), ("gamma", 10), ("alpha", 30)):
             self.speak(name, count)
 
+    def rows(self) -> list[Json]:
+        """What is shown of alpha's tasks, but for what counts since they came, once all that it was answered is."""
+        replies = [answered.reply for answered in self.tenants["alpha"].answered]
+        last = max(int(reply.split()[1]) for reply in replies if reply.startswith(b"alpha "))
+        wait_for(lambda: commands_of(self.here) == last, f"line {last} of alpha is shown")
+        told = [row for row in asked_of_firmctl(self.here, "tasks")["tasks"] if row["tenant"] == "alpha"]
+        return [{key: row[key] for key in ("task", "job", "state", "machine", "waited", "prefers")} for row in told]
+
     def turn(self) -> None:
         self.here, self.there = self.there, self.here
 
     def judge(self) -> None:
         """Asks that all replies so far are those of each tenant alone, and that alpha is here only."""
-        require((has(self.here), has(self.there)) == (True, False), "alpha is not at one of them alone")
+        wait_for(lambda: (has(self.here), has(self.there)) == (True, False), "alpha is at one of them alone")
         for tenant in self.tenants.values():
             check_alone(self.setup, tenant)
 
@@ -149,10 +165,10 @@ def moved(setup: Options) -> None:
     with pair(setup, "--snapshot-lines", "60") as found:
         for number in range(4):
             found.speak_all()
-            before = rows(found.here)
+            before = found.rows()
             go(found)
-            wait_for(lambda: has(found.here), "it is shown")
-            require(rows(found.here) == before, f"other rows are shown: {rows(found.here)} instead of {before}")
+            behind = found.rows()
+            require(behind == before, f"other rows are shown: {behind} instead of {before}")
             found.speak_all()
             if number % 2:
                 found.here.kill()
@@ -162,12 +178,6 @@ def moved(setup: Options) -> None:
                 found.there.start()
             found.speak_all()
         found.judge()
-
-
-def rows(daemon: Daemon) -> list[Json]:
-    """What is shown of alpha's tasks, but for what counts since they came."""
-    told = [row for row in asked_of_firmctl(daemon, "tasks")["tasks"] if row["tenant"] == "alpha"]
-    return [{key: row[key] for key in ("task", "job", "state", "machine", "waited", "prefers")} for row in told]
 
 
 def moved_at_once(setup: Options) -> None:
@@ -264,30 +274,41 @@ def refusals(setup: Options) -> None:
         refused(found.there, "no-snapshots", "taken", secrets.token_hex(8))
 
 
+# In the place of firm_state: it tells that it was asked, and goes on once a file has gone.
+HELD_STATE = """\
+#!/bin/sh
+touch '{asked}'
+while [ -e '{held}' ]; do sleep 0.05; done
+exec '{program}' "$@"
+"""
+
+
 def named_meanwhile(setup: Options) -> None:
-    """A tenant of the same name that comes and goes while another is taken in has that refused, and changes nothing."""
+    """A tenant of the same name that comes, and goes or stays, while another is taken in has that refused, and changes
+    nothing."""
     with pair(setup) as found:
         found.speak_all()
+        there = found.there
+        asked, held = there.folder / "asked", there.folder / "held"
+        there.stop()
+        text = HELD_STATE.format(asked=asked, held=held, program=program.built("firm_state"))
+        there.words = ["env", f"FIRM_STATE_PROGRAM={stand_in(there.folder, text)}", *FIRMD]
+        there.start()
         move = secrets.token_hex(8)
         state = done(found.here, "hold", move)["state"]
-        is_over = False
-
-        def come_and_go() -> None:
-            with Client(found.there.operator) as client:
-                while not is_over:
-                    client.ask(b"+ admit alpha,30,300,1000000000,1,2")
-                    client.ask(b"alpha machine zz 1")
-                    client.ask(b"+ retire alpha")
-
-        other = Thread(target=come_and_go)
-        other.start()
-        answers = []
-        for _ in range(5):
-            answers.append(ask(found.there, "take", move, state=state).get("error"))
-        is_over = True
-        other.join()
-        require(set(answers) <= {"failed", "tenant-exists"}, answers)
-        done(found.there, "take", move, state=state)
+        for goes in (True, False):
+            held.touch()
+            asked.unlink(missing_ok=True)
+            with ThreadPoolExecutor(1) as pool, Client(there.operator) as client:
+                taking = pool.submit(ask, there, "take", move, state=state)
+                wait_for(asked.exists, "it is being taken in")
+                lines = [b"+ admit alpha,30,300,1000000000,1,2", b"alpha machine zz 1", *[b"+ retire alpha"] * goes]
+                require(all(b" ok" in client.ask(line) for line in lines), "it comes")
+                held.unlink()
+                require(taking.result().get("error") in ("failed", "tenant-exists"), taking.result())
+        with Client(there.operator) as client:
+            require(client.ask(b"+ retire alpha") == b"+ ok retired alpha", "it goes")
+        done(there, "take", move, state=state)
         done(found.here, "give", move)
         found.turn()
         found.speak_all()

@@ -28,7 +28,7 @@ from hostile import patch, patch_viewer
 
 AGENT = [sys.executable, str(SERVICE / "firm-agent")]
 CHECKS_AT_A_TIME = 4
-SLOW_SECONDS = 1.0
+SLOW_SECONDS = 10.0
 # A firm whose last words would clear a terminal, and look like other messages.
 FORGING = """#!/bin/sh
 [ "$1" = --help ] && exit
@@ -36,23 +36,37 @@ read line || exit 0
 printf '\\033[2J\\rfirmd: forged \\302\\205end\\nfirmd: forged\\n' >&2
 exit 9
 """
-# A firmd that is slow to take a name whose socket it has found dead.
+# A firmd that takes a name whose socket it has found dead when another waits for that, or once it has had long for it.
 SLOW_TO_TAKE = f"""\
 import pathlib, time
 def unlink(self, missing_ok=False, original=pathlib.Path.unlink):
-    if self.name == "any":
+    if str(self) == {{taken!r}}:
         self.with_name("taking").touch()
-        time.sleep({SLOW_SECONDS})
+        ends = time.monotonic() + {SLOW_SECONDS}
+        while not self.with_name("waiting").exists() and time.monotonic() < ends:
+            time.sleep(0.01)
     original(self, missing_ok)
 pathlib.Path.unlink = unlink
 """
-# A firmd that is slow to end, once it listens no more and its clients are gone.
-SLOW_TO_END = f"""\
-import asyncio
+# A firmd that tells that it waits for the lock of a folder, for however long.
+PATIENT = f"""\
+import pathlib
+from firm_service import sockets
+def is_locked(folder, original=sockets.is_locked):
+    found = original(folder)
+    if not found:
+        pathlib.Path({{waiting!r}}).touch()
+    return found
+sockets.is_locked, sockets.LOCK_SECONDS = is_locked, {2 * SLOW_SECONDS}
+"""
+# A firmd that ends when it may, once it listens no more and its clients are gone.
+SLOW_TO_END = """\
+import asyncio, pathlib
 from firm_service import clients
 async def close(self, original=clients.Clients.close):
     await original(self)
-    await asyncio.sleep({SLOW_SECONDS})
+    while not pathlib.Path({may_end!r}).exists():
+        await asyncio.sleep(0.01)
 clients.Clients.close = close
 """
 FAULTY = """\
@@ -96,7 +110,7 @@ def run_in_journal(words: list[str], errors: Path) -> None:
     """Runs a program that takes its standard error for systemd's journal."""
     with open(errors, "wb") as file:
         words = ["env", stream_of(errors), *words]
-        subprocess.run(words, stdin=subprocess.DEVNULL, stderr=file, cwd=errors.parent, timeout=60)
+        subprocess.run(words, stdin=subprocess.DEVNULL, stderr=file, cwd=errors.parent, timeout=300)
 
 
 def priorities(setup: Setup) -> None:
@@ -138,7 +152,7 @@ def records(setup: Setup) -> None:
             ([*AGENT, "run", "--view=v", "--socket=s", "--state=a", "--table=none"], "none: [Errno 2] No such file"),
         ):
             with open(errors, "wb") as file:
-                subprocess.run([*words, "--log-format", "json"], stderr=file, cwd=daemon.folder, timeout=60)
+                subprocess.run([*words, "--log-format", "json"], stderr=file, cwd=daemon.folder, timeout=300)
             told = json.loads(daemon.said())
             require(told["level"] == "error" and told["message"].startswith(message), told)
 
@@ -235,7 +249,8 @@ def with_its_number(path: Path, inode: int) -> socket.socket:
 def number_of_a_successor(setup: Setup) -> None:
     """A firmd that ends slowly leaves the socket of its successor alone, though its file has the number of its own."""
     with setup.daemon() as daemon:
-        patch(daemon, SLOW_TO_END)
+        may_end = daemon.folder / "may-end"
+        patch(daemon, SLOW_TO_END.format(may_end=str(may_end)))
         daemon.start()
         inode = daemon.any.lstat().st_ino
         daemon.running().send_signal(signal.SIGTERM)
@@ -243,6 +258,7 @@ def number_of_a_successor(setup: Setup) -> None:
         daemon.any.unlink(missing_ok=True)
         with with_its_number(daemon.any, inode):
             require(daemon.running().poll() is None, "it ends slowly")
+            may_end.touch()
             require(daemon.status() == 0, daemon.said())
             require(is_served(daemon.any), "the successor's socket is gone")
 
@@ -262,12 +278,17 @@ def two_at_a_time(setup: Setup) -> None:
         dead.start().kill()
         for daemon in (slow, other):
             daemon.options = ["--client", f"beta={dead.any}"]
-        patch(slow, SLOW_TO_TAKE)
+        patch(slow, SLOW_TO_TAKE.format(taken=str(dead.any)))
+        patch(other, PATIENT.format(waiting=str(dead.folder / "waiting")))
         slow.spawn()
         wait_for((dead.folder / "taking").exists, "it has found the socket dead")
         other.spawn()
         for daemon in (slow, other):
-            wait_for(lambda: daemon.running().poll() is not None or b"ready" in daemon.said(), "it starts or ends")
+            wait_for(
+                lambda: daemon.running().poll() is not None or b"ready" in daemon.said(),
+                "it starts or ends",
+                START_SECONDS,
+            )
         ready = [daemon for daemon in (slow, other) if daemon.running().poll() is None]
         require(len(ready) == 1, f"{len(ready)} of two have the name")
         with Client(dead.any) as client:
@@ -281,7 +302,7 @@ def two_at_a_time(setup: Setup) -> None:
 def locked_folders(setup: Setup) -> None:
     """Clients that keep the folders of their sockets locked delay a start by little, and an end by nothing."""
     with setup.daemon() as daemon, ExitStack() as held:
-        folders = [daemon.folder / f"client-{place}" for place in range(70)]
+        folders = [daemon.folder / f"client-{place}" for place in range(190)]
         require(LOCK_SECONDS * len(folders) > 2 * START_SECONDS, "a wait for each would be too long")
         for folder in folders:
             folder.mkdir()

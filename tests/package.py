@@ -29,7 +29,7 @@ from harness.program import ROOT
 
 NEEDED = "import ensurepip, setuptools, venv, wheel"
 PIP = ["install", "--quiet", "--no-index", "--no-build-isolation", "--no-deps", "--disable-pip-version-check"]
-SECONDS = 120
+SECONDS = 600
 HELP_ASKED = {"firm-snapshot": 2, "firm-viewer": 2}  # the status of a program that takes no --help
 DASHBOARD = SERVICE / "firm_service" / "grafana.json"
 

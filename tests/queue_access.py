@@ -7,13 +7,17 @@ import sys
 import time
 from base64 import b64decode
 from collections.abc import Callable
+from concurrent.futures import ThreadPoolExecutor
 from functools import partial
 from typing import Any
 
 from harness.checks import Skipped, require
+from harness.deployed import client as clients
 from queue_kit import ANN, BOB, FOREVER, Case, Client, Json, Setup, as_user, claim_place
 
 CAROL = 61_103  # a user without a name, of a queue
+SOON_SECONDS = 0.3  # in which a refusal would have come
+Queue = clients.Queue
 # A queue of another user, who need not be able to read what it is imported from.
 # What is imported later may be in a folder that this user can't read.
 BY_USER = """\
@@ -107,8 +111,14 @@ def logs(setup: Setup) -> None:
         agent.ask("claim", token="aaaaaaaa", run=1, **claim_place(case))
         path = case.folder / "output"
         path.write_bytes(b"first\n" + bytes(range(256)) * 1_000)
-        running = {"token": "aaaaaaaa", "event": "running", "pid": 1, "time": time.time(), "host": None}
-        agent.ask("told", events=[{**running, "output": str(path)}])
+        with case.client() as early, Queue(case.socket) as queue, ThreadPoolExecutor(1) as pool:
+            early.send({"ask": "log", "task": "1", "attempt": 1, "follow": True})
+            following = pool.submit(lambda: next(queue.log("1", follow=True)))
+            time.sleep(SOON_SECONDS)
+            running = {"token": "aaaaaaaa", "event": "running", "pid": 1, "time": time.time(), "host": None}
+            agent.ask("told", events=[{**running, "output": str(path)}])
+            require(b64decode(early.answer().get("log", "")).startswith(b"first\n"), "followed before it has begun")
+            require(following.result().startswith(b"first\n"), "followed by a client before it has begun")
         text, end = log_of(client, task="1")
         require(text == path.read_bytes() and end["state"] == "running", (len(text), end))
         require(log_of(client, task="1", **{"from": 256_000})[0] == path.read_bytes()[256_000:], "from a place")

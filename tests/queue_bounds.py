@@ -216,7 +216,7 @@ def show_as_output(case: Case, place: Path) -> None:
 
 def twins(setup: Setup) -> None:
     """An agent with a copy of another one's state is refused while that is there, and ends none of its runs."""
-    with setup.case("--lease=30").start() as case, case.client() as client:
+    with setup.case("--lease=300").start() as case, case.client() as client:
         first = case.agent("a1", m1=2)
         client.submit(*FOREVER)
         case.until_state(client, "1", "running")
@@ -226,19 +226,19 @@ def twins(setup: Setup) -> None:
         require(told["error"] == "agent-taken" and "a copy of its state" in told["text"], told)
         require(client.state("1") == "running" and case.world.running() == {"1": 1}, case.world.running())
         first.kill()
-        case.until(lambda: twin.lease == 30, "it takes the place of the first, as a restarted one does")
+        case.until(lambda: twin.lease == 300, "it takes the place of the first, as a restarted one does")
         (attempt,) = client.ask("task", task="1")["attempts"]
         require(attempt["outcome"] is None, f"what may run is taken for ended: {attempt}")
 
 
 def unknown_runs(setup: Setup) -> None:
     """What an agent does not know any more counts as lost once its lease is over, and runs again then."""
-    with setup.case("--lease=1", "--margin=0.2").start() as case, case.client() as client, case.client() as agent:
+    with setup.case("--lease=10", "--margin=1").start() as case, case.client() as client, case.client() as agent:
+        began = time.monotonic()
         agent.ask("register", agent="a1", id="x", machines={"m1": 1}, runs=[])
         client.submit(*FOREVER, grace=0.1)
         place = claim_place(case)
         agent.ask("claim", token="aaaaaaaa", run=1, **place)
-        began = time.monotonic()
         agent.ask("register", agent="a1", id="x", machines={"m1": 1}, runs=[])
 
         def is_lost() -> bool:
@@ -246,7 +246,7 @@ def unknown_runs(setup: Setup) -> None:
             return bool(client.ask("task", task="1")["attempts"][0]["outcome"] == "lost")
 
         case.until(is_lost, "it is lost")
-        require(time.monotonic() - began > 1, "its lease was not over")
+        require(time.monotonic() - began > 10, "its lease was not over")
 
 
 def numbers(setup: Setup) -> None:
@@ -279,7 +279,7 @@ sys.exit(daemon.main(sys.argv[1:]))
 def jumping_clock(setup: Setup) -> None:
     """While the wall clock jumps each task runs once, a retry waits its second, a lease its own time, and no duration
     is below 0."""
-    with setup.case("--lease=3", "--margin=1") as case:
+    with setup.case("--lease=8", "--margin=1") as case:
         case.words = [sys.executable, "-c", JUMPS, "run"]
         case.start()
         with case.client() as client:
@@ -298,6 +298,7 @@ def jumping_clock(setup: Setup) -> None:
             silent = time.monotonic()
             case.until(lambda: client.ask("agents")[0]["state"] == "lost", "its lease is over")
             require(time.monotonic() - silent > 3, "the clock made the lease shorter")
+            case.until(lambda: len(client.ask("history")) >= 10, "what it ran has ended")
             past = client.ask("history")
             require(len(past) == 10 and all((row["seconds"] or 0) >= 0 for row in past), past)
             case.world.require_single()

@@ -200,7 +200,10 @@ def stops(setup: Setup) -> None:
                 if not acknowledged:
                     with suppress(Closed):
                         for key in keys:
-                            acknowledged[key] = client.answer()["submit"]["number"]
+                            if "submit" not in (answer := client.answer()):
+                                require(answer["error"] == "stopping", answer)
+                                break
+                            acknowledged[key] = answer["submit"]["number"]
             case.start()
         with case.client() as client:
             client.send(*requests)

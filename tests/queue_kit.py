@@ -6,7 +6,6 @@ import asyncio
 import json
 import os
 import secrets
-import shutil
 import signal
 import socket
 import sqlite3
@@ -21,6 +20,7 @@ from dataclasses import dataclass, field
 from pathlib import Path
 from typing import Any, TypeVar
 
+from agent_kit import remove
 from firmd_kit import Daemon
 from harness.checks import Missed, require
 from harness.deployed import SERVICE, Doors, Firm
@@ -29,7 +29,7 @@ QUEUE = [sys.executable, str(SERVICE / "firm-queue"), "run"]
 ANN, BOB = 61_101, 61_102  # users without names
 FOREVER = ["forever"]  # the command of a task that never ends by itself
 ROSTER = b"tenant,nodes,arcs,life,spread,churn\nalpha,%d,%d,1000000000,0,%d\n"
-LIMIT_SECONDS = 60.0  # for anything that is waited for
+LIMIT_SECONDS = 180.0  # for anything that is waited for
 LOOK_SECONDS = 0.02
 ASK_AGAIN_SECONDS = 0.2  # at most, by a stand-in for an agent
 FAST = Path("/dev/shm")
@@ -127,6 +127,7 @@ class World:
     def __init__(self) -> None:
         self.processes: list[Process] = []
         self.by_token: dict[str, Process] = {}
+        self.is_held = False  # nothing ends by itself
         self.leases: dict[str, float] = {}  # by agent, by CLOCK_BOOTTIME
         self.owners: dict[str, str] = {}  # agents, by token
 
@@ -145,7 +146,8 @@ class World:
             if process.ended is not None:
                 continue
             over = now - (boot - self.leases.get(self.owners[process.token], boot))
-            by_itself = process.began + process.seconds if process.seconds is not None else now + 1
+            is_endless = process.seconds is None or self.is_held
+            by_itself = now + 1 if is_endless else process.began + (process.seconds or 0)
             if min(by_itself, over) <= now:
                 process.ended, process.is_asked = min(by_itself, over), over < by_itself
 
@@ -432,7 +434,7 @@ class Case:
         self.loop.call_soon_threadsafe(self.loop.stop)
         self.thread.join()
         self.log.close()
-        shutil.rmtree(self.folder)
+        remove(self.folder)
 
     def begin(self, work: Coroutine[Any, Any, None]) -> asyncio.Future[None]:
         async def start() -> asyncio.Task[None]:

@@ -29,12 +29,13 @@ from web_pages import tab
 from harness import program
 from harness.checks import Check, Skipped, Suite, require, run_script, run_suites
 from harness.deployed import SERVICE
+from harness.ports import free_port
 from harness.program import run_words
 from hostile import python_with_http
 from queue_kit import ANN, FOREVER, Case, Client, Json, Setup, as_user_does, claim_place
 
 WIDTHS = (1_280, 400)
-SERVED_SECONDS = 8.0  # for three requests, on a busy host
+SERVED_SECONDS, TRIES = 8.0, 3  # for three requests, on a busy host
 PAGE = """\
 (() => {
   const rows = (id, read) => Object.fromEntries([...document.querySelectorAll(`#${id} tr`)].map(row =>
@@ -54,12 +55,6 @@ PAGE = """\
 })()"""
 
 
-def free_port() -> int:
-    with socket.socket() as probe:
-        probe.bind(("127.0.0.1", 0))
-        return int(probe.getsockname()[1])
-
-
 @contextmanager
 def served(setup: Setup) -> Iterator[tuple[Case, int]]:
     """A queue with a page, of which two tasks run, one failed, one is done, and two are placed; and the port."""
@@ -74,7 +69,12 @@ def served(setup: Setup) -> Iterator[tuple[Case, int]]:
             client.submit(*FOREVER, job="web", array=[1, 40])
             client.submit(*FOREVER, "<img src=x onerror=document.body.remove()>", job="report", hold=True)
             run_some(case, agent)
-            case.until(lambda: client.states().get("starting") == 2, "others are placed")
+
+            def are_placed() -> bool:
+                states = client.states()
+                return states.get("starting") == 2 and "queued" not in states
+
+            case.until(are_placed, "others are placed")
             yield case, port
 
 
@@ -109,7 +109,7 @@ def firmctl(case: Case, *words: str) -> Any:
 
 
 def asked(port: int, path: str) -> tuple[int, bytes]:
-    connection = http.client.HTTPConnection("127.0.0.1", port, timeout=30)
+    connection = http.client.HTTPConnection("127.0.0.1", port, timeout=120)
     try:
         connection.request("GET", path)
         answer = connection.getresponse()
@@ -154,7 +154,7 @@ def page_of_users(setup: Setup) -> None:
             require((log.get("error") == "no-such-task") == (user == ANN), log)
         status, _ = asked(port, "/logs/x.json")
         require(status == 200, "a task of no name")
-        connection = http.client.HTTPConnection("127.0.0.1", port, timeout=30)
+        connection = http.client.HTTPConnection("127.0.0.1", port, timeout=120)
         connection.request("POST", "/queue.json")
         require(connection.getresponse().status == 405, "it takes POST")
         connection.close()
@@ -188,16 +188,18 @@ def crowd_of_readers(setup: Setup) -> None:
         raise Skipped("it needs root, to be other users")
     with served(setup) as (case, port):
         case.folder.chmod(0o755)
-        connection = http.client.HTTPConnection("127.0.0.1", port, timeout=30)
+        connection = http.client.HTTPConnection("127.0.0.1", port, timeout=120)
         connection.request("GET", "/queue.json")
         require(connection.getresponse().read(), "an answer")
-        with crowd(ANN, port):
-            began = time.monotonic()
-            for _ in range(3):
-                connection.request("GET", "/queue.json")
-                require(connection.getresponse().read(), "an answer")
-            took = time.monotonic() - began
-            require(took < SERVED_SECONDS, f"three requests took {took:.1f} s")
+        took: list[float] = []
+        while not took or took[-1] >= SERVED_SECONDS:
+            require(len(took) < TRIES, f"three requests took {took} s")
+            with crowd(ANN, port):
+                began = time.monotonic()
+                for _ in range(3):
+                    connection.request("GET", "/queue.json")
+                    require(connection.getresponse().read(), "an answer")
+                took.append(time.monotonic() - began)
         connection.close()
 
 

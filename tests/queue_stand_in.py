@@ -15,7 +15,7 @@ from agent_kit import LIMIT_SECONDS, StandIn
 
 Row = dict[str, Any]
 Result = TypeVar("Result")
-MARGIN_SECONDS = 1.0  # beside the lease and the grace, before what ran is taken for lost
+MARGIN_SECONDS = 5.0  # beside the lease and the grace, before what ran is taken for lost, on a busy host
 
 
 def clock() -> float:

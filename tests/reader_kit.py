@@ -23,7 +23,7 @@ from subprocess import DEVNULL, PIPE, Popen
 from harness.checks import require
 from harness.program import opened
 
-PATIENCE_SECONDS = 20
+PATIENCE_SECONDS = 120
 NICENESS = 10  # what they take of the processors themselves is not what is looked at
 SCRAPE = b"GET /metrics HTTP/1.1\r\nHost: localhost\r\n\r\n"
 PIPELINED = b"GET /tenants.json HTTP/1.1\r\nHost: localhost\r\n\r\n" * 1_000

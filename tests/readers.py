@@ -32,7 +32,7 @@ from pathlib import Path
 from typing import Any
 
 import firmd_kit
-from firmd_kit import ROWS, Client, Daemon, Gone, Setup, wait_for
+from firmd_kit import REPLY_SECONDS, ROWS, Client, Daemon, Gone, Setup, wait_for
 from harness import program, service
 from harness.checks import Check, Missed, Skipped, Suite, require, run_script, run_suites
 from harness.deployed import Books, Follower, Shown, Status, feed, feeder
@@ -246,8 +246,8 @@ class Elsewhere:
 def unhurried(setup: Setup, kind: str) -> None:
     """A writer's requests take at most half as long again beside such readers as without them, and firmd no more work.
 
-    Others use the host too, so some tries are left to it; what firmd itself does is measured over all. Without readers
-    means before there were any too: readers whose questions are still answered while they pause would compare well.
+    Others use the host too, so some tries are left to it, and one of them has to show both. Without readers means
+    before there were any too: readers whose questions are still answered while they pause would compare well.
     """
     rounds, seconds = (3, 0.5) if setup.is_quick else (8, 1.0)
     with full_service(setup) as (daemon, port):
@@ -267,7 +267,7 @@ def unhurried(setup: Setup, kind: str) -> None:
                     beside.add(daemon, seconds)
                 ratio = statistics.median(beside.slowest) / statistics.median(alone.slowest)
                 print(f"{kind}: without them {alone}; beside them {beside}", flush=True)
-                if ratio <= RATIO:
+                if ratio <= RATIO and beside.of_each() <= RATIO * alone.of_each_at_most():
                     break
         require(readers.answers > 0, "they read something")
         require(ratio <= RATIO, f"{ratio:.2f} times")
@@ -297,7 +297,9 @@ def slow_connections(setup: Setup) -> None:
     """Connections that send no request give way to those that do; so do views without a request, after a while."""
     with setup.daemon() as daemon:
         port = with_http(daemon)
-        patch_viewer(daemon, "from firm_service import view, web\nview.IDLE_SECONDS = web.PATIENCE_SECONDS = 1.0")
+        seconds = 20.0  # longer than a request may take on a busy host, which is closed otherwise too
+        bounds = f"view.IDLE_SECONDS = web.PATIENCE_SECONDS = {seconds}"
+        patch_viewer(daemon, f"from firm_service import view, web\n{bounds}")
         daemon.start()
         with ExitStack() as held:
             for _ in range(150):
@@ -306,17 +308,15 @@ def slow_connections(setup: Setup) -> None:
             for _ in range(20):
                 began = time.monotonic()
                 require("firm_lines_total" in text_of(port), "metrics")
-                require(time.monotonic() - began < 5, "they come at once")
-            slow.settimeout(10)
+                require(time.monotonic() - began < seconds * 3 / 4, "they come at once")
+            idle, watching = [held.enter_context(connect_view(str(daemon.state))) for _ in range(2)]
+            watching.sendall(b'{"ask": "watch", "tenant": "alpha"}\n')
+            require(watching.recv(1 << 16).endswith(b"\n"), "the rows")
             require(slow.recv(100) == b"", "a slow connection is closed in the end")
-            with connect_view(str(daemon.state)) as idle, connect_view(str(daemon.state)) as watching:
-                watching.sendall(b'{"ask": "watch", "tenant": "alpha"}\n')
-                require(watching.recv(1 << 16).endswith(b"\n"), "the rows")
-                idle.settimeout(10)
-                require(idle.recv(100) == b"", "an idle view is closed")
-                with daemon.client() as client:
-                    client.ask(b"alpha show")
-                require(b"alpha show" in watching.recv(1 << 16), "an idle watcher is not")
+            require(idle.recv(100) == b"", "an idle view is closed")
+            with daemon.client() as client:
+                client.ask(b"alpha show")
+            require(b"alpha show" in watching.recv(1 << 16), "an idle watcher is not")
         daemon.stop()
 
 
@@ -351,7 +351,7 @@ BOUNDS = ["view.MOST_UNREAD = 500_000", "view.MOST_UNREAD_IN_ALL = 3_000_000"]
 def dropped_watchers(setup: Setup, bound: str) -> None:
     """Watchers that don't read are dropped at once, so their places are free while they still hold their ends."""
     with setup.daemon() as daemon, ExitStack() as held:
-        patch_viewer(daemon, f"from firm_service import view\nview.PATIENCE_SECONDS = 1_000\n{bound}")
+        patch_viewer(daemon, f"from firm_service import view\nview.PATIENCE_SECONDS = 1_000\n{bound}", PATIENT)
         daemon.start()
         descriptors = Path(f"/proc/{viewer_of(daemon)}/fd")
         wait_for(lambda: "status" in ask(daemon, {"ask": "status"}), "it answers")
@@ -366,7 +366,7 @@ def dropped_watchers(setup: Setup, bound: str) -> None:
                 give(client, [b"alpha " + b"x" * 200] * 2_000)
                 return len(list(descriptors.iterdir())) <= before + 1
 
-            wait_for(are_dropped, "they are dropped", 60)
+            wait_for(are_dropped, "they are dropped")
 
 
 # The process.
@@ -376,10 +376,11 @@ def another_viewer(setup: Setup) -> None:
     """Where the process for readers dies or hangs, firmd says so, counts it, and starts another that shows the same."""
     with setup.daemon() as daemon:
         port = with_http(daemon)
-        patch_viewer(daemon, "", "feeder.SILENT_SECONDS = 6")
+        patch_viewer(daemon, "", "feeder.SILENT_SECONDS = 12")
         daemon.start()
         with daemon.client() as client:
             give(client, [*ROWS, b"alpha round", b"beta done none", b"nobody show"])
+            wait_for(lambda: bool(rows_shown(daemon, ["beta"])["beta"]["commands"] == 4), "all is shown")
             shown = rows_shown(daemon, ["alpha", "beta"])
             require(metric(port, "firm_viewer_restarts_total") == 0, "none was started again")
             wait_for(lambda: f"\n{SAID} 1.0\n" in text_of(port), "what firmd says itself is counted")
@@ -389,11 +390,11 @@ def another_viewer(setup: Setup) -> None:
                 require(client.ask(b"beta where l").startswith(b"beta "), "a writer")
                 shown["beta"]["commands"] += 1
                 wait_for(lambda: first not in children_of(daemon), "it is gone")
-                wait_for(lambda: b"started again" in daemon.said(), "it is said")
+                wait_for(lambda: daemon.said().count(b"started again") == number, "it is said")
                 require(rows_shown(daemon, ["alpha", "beta"]) == shown, "other rows")
                 require(metric(port, "firm_viewer_restarts_total") == number, "it is counted")
                 require(metric(port, 'firm_refusals_total{reason="no-such-task",tenant="beta"}') == 1, "a refusal")
-                require(metric(port, "firm_status_age_seconds") < 5, "the age of what firmd told")
+                wait_for(lambda: metric(port, "firm_status_age_seconds") < 5, "the age of what firmd told")
                 require(metric(port, SAID) == 1, "what firmd said itself")
             last = viewer_of(daemon)
         daemon.kill()
@@ -424,9 +425,11 @@ def row_of_book(book: dict[str, Any]) -> object:
     return machines, jobs, tasks, book["costs"][-8:], book["commands"]
 
 
-SMALL = """\
+PATIENT = "feeder.SILENT_SECONDS = 600"  # for which the check alone ends or stops a viewer
+SMALL = f"""\
 import socket
 feeder.MOST_BEHIND, feeder.AHEAD, feeder.PAUSE_SECONDS = 2_500, 2_400, 0.01
+{PATIENT}
 def go_on(self, original=feeder.Feeder._go_on):
     self._loop.call_later(0.01, original, self)
 feeder.Feeder._go_on = go_on
@@ -502,7 +505,7 @@ def is_shown(daemon: Daemon, model: service.Service) -> bool:
 def watchers_behind(setup: Setup) -> None:
     """A watcher of a process that fell behind is told so and closed; firmd keeps a bounded part for it."""
     with setup.daemon() as daemon:
-        patch_viewer(daemon, "", "feeder.MOST_BEHIND = 1_000_000")
+        patch_viewer(daemon, "", f"feeder.MOST_BEHIND = 1_000_000\n{PATIENT}")
         daemon.start()
         with daemon.client() as client, view_of(daemon) as watcher:
             give(client, ROWS)
@@ -629,7 +632,7 @@ def whole_messages(setup: Setup) -> None:
 ASK = """\
 import socket, sys, time
 found = socket.socket(socket.AF_UNIX)
-found.settimeout(20)
+found.settimeout(120)
 found.connect(sys.argv[1])
 answers = found.makefile("rb")
 for request in sys.argv[2:]:
@@ -637,7 +640,7 @@ for request in sys.argv[2:]:
     print(answers.readline().decode().strip(), flush=True)
 if '"watch"' in sys.argv[-1]:
     # On a busy host the first line of a watch of all may take long; one of another's tenant has none.
-    found.settimeout(2 if '"tenant"' in sys.argv[-1] else 20)
+    found.settimeout(2 if '"tenant"' in sys.argv[-1] else 120)
     try:
         line, ends = answers.readline(), time.monotonic() + 1
         while line:
@@ -670,7 +673,7 @@ def asked_by(daemon: Daemon, user: int, groups: list[int], *requests: object) ->
     """The answers to a user; of a watch, with what comes in a second."""
     words = ["setpriv", f"--reuid={user}", f"--regid={groups[0]}", f"--groups={','.join(map(str, groups))}"]
     words += ["/usr/bin/python3", "-I", "-c", ASK, str(daemon.state / "view"), *map(json.dumps, requests)]
-    done = subprocess.run(words, capture_output=True, text=True, timeout=60)
+    done = subprocess.run(words, capture_output=True, text=True, timeout=4 * REPLY_SECONDS)
     require(done.returncode == 0, done.stderr)
     return [json.loads(line) for line in done.stdout.splitlines() if line]
 

@@ -7,6 +7,7 @@
 //   READ_MOST, WRITE_MOST               how many bytes a read of standard input gives, a write of standard output takes, at most
 //   REFUSE_THREAD                       which thread can't be started
 //   DELAY_MEMORY                        how many milliseconds each request for memory takes on another thread than the first
+//   HOLD_MEMORY                         no number, but a file: as long as it is there these requests wait
 //   COUNTS                              a file to which the counts are written: memory, reads, writes, other reads, threads
 #define _GNU_SOURCE
 #include <dlfcn.h>
@@ -34,6 +35,7 @@ static atomic_ulong unshared[COUNTED];
 static atomic_ulong *counts = unshared;
 static unsigned long refuse_first, refuse_last, fail_read, fail_write, fail_file, fail_with, read_most, write_most;
 static unsigned long refuse_thread, delay_memory;
+static const char *hold_memory;
 static int is_ready;
 
 static unsigned long number(const char *name) {
@@ -52,6 +54,7 @@ __attribute__((constructor)) static void begin(void) {
     write_most = number("WRITE_MOST");
     refuse_thread = number("REFUSE_THREAD");
     delay_memory = number("DELAY_MEMORY");
+    hold_memory = getenv("HOLD_MEMORY");
     const char *path = getenv("COUNTS");
     int file = path ? open(path, O_RDWR | O_CREAT | O_TRUNC, 0600) : -1;
     if (file >= 0 && ftruncate(file, sizeof unshared) == 0) {
@@ -71,11 +74,16 @@ static int is_first_thread(void) {
     return syscall(SYS_gettid) == getpid();
 }
 
+static void rest(unsigned long milliseconds) {
+    struct timespec delay = {milliseconds / 1000, milliseconds % 1000 * 1000000};
+    nanosleep(&delay, NULL);
+}
+
 static int is_refused(void) {
     if (!is_ready) return 0;
-    if (delay_memory != 0 && !is_first_thread()) {
-        struct timespec delay = {delay_memory / 1000, delay_memory % 1000 * 1000000};
-        nanosleep(&delay, NULL);
+    if ((delay_memory != 0 || hold_memory != NULL) && !is_first_thread()) {
+        while (hold_memory != NULL && access(hold_memory, F_OK) == 0) rest(5);
+        rest(delay_memory);
     }
     unsigned long place = count(MEMORY);
     if (refuse_first == 0 || place < refuse_first || place > refuse_last) return 0;

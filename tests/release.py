@@ -28,7 +28,7 @@ from harness.program import ROOT, built
 
 TOOL = ROOT / "tools" / "release.py"
 NEEDED = ("dpkg-deb", "dpkg", "help2man")
-SECONDS = 120
+SECONDS = 600
 EXAMPLES = ROOT / "examples"
 TUTORIAL = ROOT / "docs" / "TUTORIAL.md"
 PROOFS = "firm_rules\tsum\tlogic=proved\n"

@@ -29,7 +29,7 @@ from firmd_kit import Answered, Client, Daemon, Tenant, check_alone, roster_of
 from harness import program
 from harness.checks import Check, Skipped, Suite, require, run_script, run_suites
 from harness.guard import guard
-from moves import Options, Pair, has, rows, waits
+from moves import Options, Pair, waits
 
 from firm_service.command_line import Failure
 from firm_service.door.moving import Proxy, WholeMove
@@ -160,10 +160,10 @@ def moved(setup: Options) -> None:
     with pair(setup) as found:
         for number in range(4):
             found.speak_all()
-            before = rows(found.here)
+            before = found.rows()
             go(found)
-            until(lambda: has(found.here), "it is shown")
-            require(rows(found.here) == before, f"other rows are shown: {rows(found.here)} instead of {before}")
+            behind = found.rows()
+            require(behind == before, f"other rows are shown: {behind} instead of {before}")
             if number % 2:
                 found.speak_all()
             for shard in (found.here, found.there):

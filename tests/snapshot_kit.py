@@ -15,7 +15,8 @@ from harness.checks import require
 from harness.deployed import SERVICE, Books, snapshots
 from journal_kit import QUESTIONS, ROUNDS, ask_all
 
-PATIENT = 60.0  # seconds for a snapshot, on a busy host
+LINES = 20  # of a segment, and so of a snapshot
+PATIENT = 120.0  # seconds for a snapshot, on a busy host
 MORE = [b"alpha task j b", b"alpha round", b"alpha done a", b"beta round", b"alpha fly", b"beta show"]
 
 
@@ -28,7 +29,7 @@ def named(daemon: Daemon) -> list[int]:
 
 
 def has_snapshots(daemon: Daemon, count: int) -> None:
-    """Waits until so many snapshots are there, and none is under way."""
+    """Waits until so many snapshots are there; a further one may be under way."""
     wait_for(lambda: len(named(daemon)) >= count, f"{count} snapshots: {daemon.said().decode()}", PATIENT)
 
 
@@ -41,6 +42,12 @@ def last_lines(daemon: Daemon) -> int:
 def holds(daemon: Daemon, lines: int) -> None:
     """Waits until so many lines are in a snapshot."""
     wait_for(lambda: last_lines(daemon) >= lines, f"{lines} lines in a snapshot: {daemon.said().decode()}", PATIENT)
+
+
+def settles(daemon: Daemon, said: Sequence[bytes]) -> None:
+    """Waits until the last snapshot that is due with these lines is there, beside the one before it alone."""
+    holds(daemon, (len(said) - 1) // LINES * LINES)  # a segment is full when the line behind it comes
+    wait_for(lambda: len(named(daemon)) == 2, f"two snapshots: {daemon.said().decode()}", PATIENT)
 
 
 def goes_on(setup: Setup, daemon: Daemon, said: list[bytes], asked: Sequence[bytes] = QUESTIONS) -> None:
@@ -59,7 +66,7 @@ def replayed(daemon: Daemon) -> int:
 @contextmanager
 def with_snapshots(setup: Setup, *options: str) -> Iterator[tuple[Daemon, list[bytes]]]:
     """A daemon that has made two snapshots and goes on; and its lines, some of them behind the snapshots."""
-    with setup.daemon("--snapshot-lines", "20", *options) as daemon:
+    with setup.daemon("--snapshot-lines", str(LINES), *options) as daemon:
         said: list[bytes] = []
         daemon.start()
         for count in (1, 2):
@@ -67,6 +74,7 @@ def with_snapshots(setup: Setup, *options: str) -> Iterator[tuple[Daemon, list[b
             goes_on(setup, daemon, said, lines)
             has_snapshots(daemon, count)
         goes_on(setup, daemon, said, [b"alpha task j tail", b"alpha round"])
+        settles(daemon, said)
         yield daemon, said
 
 
@@ -78,8 +86,19 @@ def books_of(setup: Setup, lines: list[bytes], roster: bytes = ROSTER) -> Books:
     return books
 
 
-def shown(daemon: Daemon) -> dict[str, Any]:
-    """What readers are shown that doesn't change with time."""
+def shown(daemon: Daemon, lines: int) -> dict[str, Any]:
+    """What readers are shown that doesn't change with time, once so many lines are."""
+    found: dict[str, Any] = {}
+
+    def are_shown() -> bool:
+        found.update(shown_now(daemon))
+        return bool(found["lines"] == lines)
+
+    wait_for(are_shown, f"{lines} lines are shown", PATIENT)
+    return found
+
+
+def shown_now(daemon: Daemon) -> dict[str, Any]:
     found = {command: asked(daemon, command) for command in ("status", "tasks")}
     for task in found["tasks"]["tasks"]:
         task.pop("seconds")
@@ -104,9 +123,9 @@ def failures(daemon: Daemon) -> int:
 def processes(daemon: Daemon) -> list[int]:
     """Those that it has started, by any of its threads, and that have not ended."""
     found: list[int] = []
-    for path in Path(f"/proc/{daemon.running().pid}/task").glob("*/children"):
-        with suppress(OSError):  # the thread has ended meanwhile
-            found += map(int, path.read_text().split())
+    for thread in Path(f"/proc/{daemon.running().pid}/task").iterdir():
+        with suppress(OSError):  # it has ended meanwhile
+            found += map(int, (thread / "children").read_text().split())
     return found
 
 

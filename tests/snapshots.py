@@ -31,6 +31,7 @@ from harness.checks import Check, Suite, require, run_script, run_suites
 from harness.deployed import Limits, archive, extent, kept_books, records, service_states, snapshots
 from journal_kit import QUESTIONS, ROUNDS, ask_all, tool
 from snapshot_kit import (
+    LINES,
     MORE,
     PATIENT,
     books_of,
@@ -43,6 +44,7 @@ from snapshot_kit import (
     named,
     processes,
     replayed,
+    settles,
     shown,
     text_of,
     with_snapshots,
@@ -163,12 +165,14 @@ def starts(setup: Options) -> None:
     """A start goes on from the last snapshot and its tail, after a kill and a stop, and shows all as before."""
     with with_snapshots(setup) as (daemon, said):
         for is_killed in (True, False):
-            before, lines = shown(daemon), last_lines(daemon)
+            before, lines = shown(daemon, len(said)), last_lines(daemon)
             daemon.kill() if is_killed else daemon.stop()
             daemon.start()
             require(0 < replayed(daemon) <= len(said) - 40 and lines >= 40, f"{replayed(daemon)} of {len(said)} lines")
-            require(shown(daemon) == before, f"{shown(daemon)}, and was {before}")
+            found = shown(daemon, len(said))
+            require(found == before, f"{found}, and was {before}")
             goes_on(setup, daemon, said)
+        settles(daemon, said)
         daemon.stop()
         folder = daemon.state / "snapshots"
         held = snapshots.read(folder, named(daemon)[0])
@@ -180,7 +184,7 @@ def starts(setup: Options) -> None:
         shutil.rmtree(folder)
         daemon.start()
         require(replayed(daemon) == len(said), "all lines are replayed without snapshots")
-        require(shown(daemon)["lines"] == len(said), "all lines are counted")
+        shown(daemon, len(said))  # all lines are counted
         goes_on(setup, daemon, said)
         daemon.stop()
 
@@ -278,6 +282,15 @@ def damages(setup: Options) -> None:
 # What is kept.
 
 
+def whole_journal(daemon: Daemon, archive: Path) -> bytes:
+    """The lines of the archive and the journal: a daemon that is killed may leave a segment, as it is, in both."""
+    segments = {path.name: path for path in archive.glob("*.lines")}
+    for path in daemon.segments():
+        archived = segments.setdefault(path.name, path)
+        require(archived.read_bytes() == path.read_bytes(), f"{path.name} is another segment in the archive")
+    return b"".join(firmd_kit.lines_of(segments[name]) for name in sorted(segments))
+
+
 def keeps(setup: Options) -> None:
     """Old segments are archived or deleted; then one of the snapshots is needed, and no other line is away."""
     for is_archived in (True, False):
@@ -294,7 +307,10 @@ def keeps(setup: Options) -> None:
             daemon.kill()
             daemon.start()
             goes_on(setup, daemon, said)
-            whole = b"".join(map(firmd_kit.lines_of, sorted(archive.glob("*.lines")))) + daemon.journal()
+            settles(daemon, said)
+            needed = named(daemon)[-1] + 1
+            wait_for(lambda: int(daemon.segments()[0].stem) == needed, f"all before {needed} are away", PATIENT)
+            whole = whole_journal(daemon, archive)
             require(whole == text_of(said) if is_archived else text_of(said).endswith(whole), "the lines")
             require(tool("print", daemon.state).encode() == daemon.journal(), "it prints what is there")
             daemon.stop()
@@ -339,9 +355,9 @@ def archive_away(setup: Options) -> None:
         daemon.start()
         for lines in (ROUNDS, MORE, MORE, MORE):
             goes_on(setup, daemon, said, [*lines, *[b"alpha show"] * 20])
-            holds(daemon, len(said) // 20 * 20 - 20)
+            holds(daemon, (len(said) - 1) // LINES * LINES)
         wait_for(lambda: failures(daemon) >= 2, f"failures: {daemon.said().decode()}", PATIENT)
-        made = named(daemon)
+        made = named(daemon)[:2]  # the others go when the archive is tried again
         require(int(daemon.segments()[0].stem) == 1, "a segment is away")
         away.unlink()
         wait_for(lambda: b" segments of the journal are in " in daemon.said(), "all are away that may be", PATIENT)
@@ -365,8 +381,8 @@ def leaves_nothing(setup: Options) -> None:
         daemon.start()
         for count in (1, 2, 3):
             goes_on(setup, daemon, said, [*(ROUNDS if count == 1 else MORE), *[b"alpha show"] * 20])
-            holds(daemon, len(said) // 20 * 20 - 20)
-        wanted = [path.name for segment in named(daemon) for path in snapshots.paths_of(folder, segment)]
+            holds(daemon, (len(said) - 1) // LINES * LINES)
+        wanted = [path.name for segment in named(daemon)[:2] for path in snapshots.paths_of(folder, segment)]
         wait_for(
             lambda: sorted(path.name for path in folder.iterdir()) == sorted([*wanted, "notes"]),
             f"{wanted} alone: {sorted(folder.iterdir())}",
@@ -498,20 +514,22 @@ def changes_over(setup: Options) -> None:
     with setup.daemon("--snapshot-lines", "100", "--journal-limit", str(LIMIT)) as daemon:
         said: list[bytes] = []
         daemon.start()
-        processes = {daemon.firm_process()}
         goes_on(setup, daemon, said, ROUNDS)
+
+        def fresh_firms() -> int:
+            return daemon.said().count(b"a fresh firm goes on from the snapshot")
+
         with daemon.client() as client:
             ends, number, replies = time.monotonic() + 2 * PATIENT, 0, list[bytes]()
-            firms = 2 if setup.is_quick else 5
-            while len(processes) < firms or number % 50 or len(text_of(said)) <= LIMIT:
-                require(time.monotonic() < ends, f"{len(processes)} firms: {daemon.said().decode()}")
+            fresh = 1 if setup.is_quick else 4
+            while fresh_firms() < fresh or number % 50 or len(text_of(said)) <= LIMIT:
+                require(time.monotonic() < ends, f"{fresh_firms()} fresh firms")
                 line = (b"alpha round", b"alpha where a", b"beta where l", b"alpha task j x%d" % number)[number % 4]
                 reply = client.ask(line)
                 if not reply.startswith(b"? journal-full"):  # so slow is the host
                     said.append(line)
                     replies.append(reply)
                     number += 1
-                processes.add(daemon.firm_process())
             require(replies == setup.alone(ROSTER, text_of(said))[-len(replies) :], "other replies")
         daemon.kill()
         daemon.start()
@@ -521,7 +539,7 @@ def changes_over(setup: Options) -> None:
 
 def firms_hang(setup: Options) -> None:
     """A fresh firm that hangs is killed, and the one that runs goes on; so is a former one that doesn't end."""
-    limits = ["--snapshot-lines", "100", "--journal-limit", str(LIMIT), "--firm-timeout", "1"]
+    limits = ["--snapshot-lines", "100", "--journal-limit", str(LIMIT), "--firm-timeout", "5"]
     with setup.daemon(*limits) as daemon:
         hanging, daemon.firm = daemon.folder / "hanging", firmd_kit.stand_in(
             daemon.folder, HUNG_FIRM.format(setup.program)
@@ -533,10 +551,10 @@ def firms_hang(setup: Options) -> None:
         first = daemon.firm_process()
         with daemon.client() as client:
             until_said(daemon, client, said, b"no fresh firm goes on from the snapshot")
-            require(b"firm has not answered for 1 s" in daemon.said(), daemon.said().decode())
+            require(b"firm has not answered for 5 s" in daemon.said(), daemon.said().decode())
             hanging.unlink()
             until_said(daemon, client, said, b"a fresh firm goes on from the snapshot")
-        wait_for(lambda: not Path(f"/proc/{first}").exists(), "the former firm is killed")
+        wait_for(lambda: not Path(f"/proc/{first}").exists(), "the former firm is killed", PATIENT)
         goes_on(setup, daemon, said)
         daemon.stop()
 
@@ -588,8 +606,7 @@ def kills(setup: Options, part: int) -> None:
                     line = f"{tenant.name} {command}".encode()
                     tenant.tell(firmd_kit.Answered(line, client.ask(line)))
         daemon.stop()
-        whole = b"".join(map(firmd_kit.lines_of, sorted(archive.glob("*.lines")))) + daemon.journal()
-        firmd_kit.check_kept(setup, whole, tenants)
+        firmd_kit.check_kept(setup, whole_journal(daemon, archive), tenants)
         print(f"{count} kills, of which it met {dict(met)}", flush=True)
         require(setup.is_quick or set(met) == set(MOMENTS), f"never met: {set(MOMENTS) - set(met)}")
 
@@ -636,10 +653,12 @@ MOMENTS = {
 def end_at(daemon: Daemon, moment: Moment, seconds: float, end: Callable[[], None]) -> bool:
     """Ends it so long after a moment, which it has some time for; whether that came."""
     ends = time.monotonic() + MOMENT_SECONDS
-    while not (has_come := moment.has_come(daemon)) and time.monotonic() < ends:
-        time.sleep(0.001)
-    time.sleep(seconds)
-    end()
+    try:
+        while not (has_come := moment.has_come(daemon)) and time.monotonic() < ends:
+            time.sleep(0.001)
+        time.sleep(seconds)
+    finally:  # the clients go on until then
+        end()
     return has_come
 
 
@@ -662,12 +681,13 @@ def restores(setup: Options) -> None:
     with with_snapshots(setup) as (daemon, said), setup.daemon("--snapshot-lines", "20") as other:
         done = subprocess.run([*firmd_kit.JOURNAL_TOOL, "state", daemon.state], capture_output=True, text=True)
         require((done.returncode, done.stdout) == (4, "") and "is in use by process" in done.stderr, done)
-        before = shown(daemon)
+        before = shown(daemon, len(said))
         daemon.stop()
         with setup.daemon("--snapshot-lines", "20") as copy:
             shutil.copytree(daemon.state, copy.state)
             copy.start()
-            require(shown(copy) == before, f"tasks have other lines, so agents end them: {shown(copy)}")
+            found = shown(copy, len(said))
+            require(found == before, f"tasks have other lines, so agents end them: {found}")
             require((copy.state / "id").read_text() == (daemon.state / "id").read_text(), "agents know it")
             copy.stop()
         state = daemon.folder / "taken"

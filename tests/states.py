@@ -44,6 +44,7 @@ NAMES = {
     12: "places",
     13: "rows",
     15: "rounds",
+    16: "crowded",
 }
 
 
@@ -254,6 +255,30 @@ LONG_WAIT = (
     .replace(b"waits 1", b"waits 9")
 )
 
+# Two tasks of weight 10 on one machine, after two rounds: the second slot costs up to the weight and churn, which is 2.
+CROWD = changed(b"waits 1", b"at m1").replace(b"spread 1", b"spread 12")
+
+# A task of weight 1 that one behind it crowds, where the second slot costs 4.
+LIGHT = (
+    changed(b"web a at m1 prefers m1", b"low a at m1")
+    .replace(b"web c waits 1", b"web c at m1")
+    .replace(b"spread 1", b"spread 4")
+    .replace(b"commands 6", b"commands 7")
+    .replace(b"job web 10\n", b"job web 10\njob low 1\n")
+    .replace(b"rows 8", b"rows 9")
+)
+
+# A task that one round of two left waiting, beside one of weight 10 that ran: churn, which is 2, is worth two rounds.
+HEAVY = (
+    changed(b"web c waits 1", b"high c waits 1")
+    .replace(b"commands 6", b"commands 7")
+    .replace(b"job web 10\n", b"job web 10\njob high 12\n")
+    .replace(b"rows 8", b"rows 9")
+)
+
+# It may have preferred a machine that is gone: then this one cost it 5 more.
+FAR = HEAVY.replace(b"remote 0", b"remote 5").replace(b"high 12", b"high 17")
+
 FAULTY = [
     (b"", StateFault(1, 1)),
     (b"\n", StateFault(1, 1)),
@@ -299,6 +324,12 @@ FAULTY = [
     (LONG_WAIT.replace(b"waits 9", b"waits 10"), StateFault(11, 8)),
     (changed(b"costs 0 13", b"costs"), StateFault(15, 7)),
     (changed(b"waits 1", b"waits 3"), StateFault(15, 8)),
+    (CROWD.replace(b"spread 12", b"spread 13"), StateFault(16, 8)),
+    (CROWD.replace(b"costs 0 13", b"costs 13"), StateFault(16, 8)),
+    (LIGHT, StateFault(16, 10)),
+    (HEAVY.replace(b"high 12", b"high 13"), StateFault(16, 10)),
+    (FAR.replace(b"high 17", b"high 18"), StateFault(16, 10)),
+    (FAR.replace(b"waits 1", b"waits 1 prefers m1"), StateFault(16, 10)),
     (with_rows([*ROWS[:7], b"place admissions 0"]), StateFault(4, 9)),
     (changed(b"admissions 1", b"admissions 0"), StateFault(4, 2)),
     (with_rows([]), StateFault(12, 2)),
@@ -328,7 +359,7 @@ def fault_of(options: Options, text: bytes) -> StateFault | None:
 
 def hostile_states(options: Options) -> None:
     """Each fault has its number, its name and its line, and nothing is served."""
-    for text in (WORKED, LONG_WAIT):
+    for text in (WORKED, LONG_WAIT, CROWD, LIGHT.replace(b"spread 4", b"spread 3"), HEAVY, FAR):
         require(fault_of(options, text) is None, f"{text!r} is no state")
     for text, fault in FAULTY:
         found = fault_of(options, text)

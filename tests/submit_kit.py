@@ -23,7 +23,7 @@ from harness.deployed import SERVICE, client
 from harness.program import Run, run_words
 
 ROSTER = firmd_kit.HEADING + b"alpha,60,400,1000000000,0,1000\n"
-LOOK_SECONDS, BEAT_SECONDS, START_SECONDS = 0.02, 1.0, 20.0
+LOOK_SECONDS, BEAT_SECONDS, LIMIT_SECONDS = 0.02, 1.0, 180.0
 Json = dict[str, Any]
 
 
@@ -32,7 +32,7 @@ class Lines:
 
     def __init__(self, path: Path) -> None:
         self._socket = socket.socket(socket.AF_UNIX)
-        self._socket.settimeout(20)
+        self._socket.settimeout(LIMIT_SECONDS)
         self._socket.connect(str(path))
         self._answers = self._socket.makefile("rb")
 
@@ -78,7 +78,7 @@ class Runner:
 
     def stop(self) -> None:
         self._is_over.set()
-        self._thread.join(20)
+        self._thread.join(LIMIT_SECONDS)
         for process in self._processes.values():
             with suppress(ProcessLookupError):
                 os.killpg(process.popen.pid, signal.SIGKILL)
@@ -168,7 +168,7 @@ class Cluster:
         words += ["--firm", str(self.daemon.any), "--view", str(self.daemon.state / "view")]
         with open(self.folder / "queue-errors", "ab") as errors:
             self.queue = subprocess.Popen(words, stdin=subprocess.DEVNULL, stderr=errors)
-        ends = time.monotonic() + START_SECONDS
+        ends = time.monotonic() + LIMIT_SECONDS
         while not self.is_served():
             require(self.queue.poll() is None, f"firm-queue ended: {self.said()}")
             require(time.monotonic() < ends, f"firm-queue is not there in time: {self.said()}")

@@ -23,6 +23,7 @@ from pathlib import Path
 
 from agent_kit import SOON_SECONDS, SSH, WAITS_FOR_GO, Case, command, is_there
 from harness.checks import Check, Skipped, Suite, print_skipped, require, run_script, run_suites
+from harness.files import write_program
 
 AT_A_TIME = 6  # checks, which mostly wait
 LOOK_SECONDS = 1.0  # in which a hidden process has changed its number, on a busy host too
@@ -144,9 +145,7 @@ def hidden_task(table: str = "", folder: str = ".") -> Iterator[tuple[Case, Hidd
 
 
 def stand_in_ssh(case: Case) -> None:
-    ssh = case.folder / "ssh"
-    ssh.write_text(SSH.format(folder=case.folder))
-    ssh.chmod(0o755)
+    write_program(case.folder / "ssh", SSH.format(folder=case.folder))
     (case.folder / "host").mkdir(exist_ok=True)
 
 
@@ -157,14 +156,16 @@ def claims_of(case: Case) -> list[dict[str, object]]:
 
 
 def begins(case: Case, hidden: Hidden) -> None:
-    """Waits until the task runs with its hidden process."""
-    case.until(lambda: case.events("running") and hidden.is_there(), "a runs and has left a process")
+    """Waits until the task runs with its hidden process, and has said that it begins."""
+    log = hidden.file.with_name("a.log")
+    case.until(lambda: case.events("running") and hidden.is_there() and log.exists(), "a runs and has left a process")
 
 
 def has_left_none(case: Case) -> None:
     """Asks that each run had a cgroup, which is gone."""
-    groups = [claim["group"] for claim in claims_of(case)]
-    require(groups and all(groups), f"cgroups: {groups}")
+    claims = claims_of(case)
+    groups = [claim["group"] for claim in claims]
+    require(groups and all(groups), f"a run had no cgroup: {claims}")
     require(not any(Path(str(group)).exists() for group in groups), f"they are left: {groups}")
 
 
@@ -244,7 +245,8 @@ def without_a_group() -> None:
         case.until(lambda: UNKEPT in case.told(), "it is told at the start")
         require(not before or "no cgroup v2 is mounted" in case.told(), case.told())
         case.firmd.round("start a m1")
-        case.until(lambda: case.events("running") and case.processes(), "a runs")
+        case.until_begun("a")
+        case.until(lambda: case.events("running"), "a is known to run")
         old = case.processes()["a"]
         os.kill(case.supervisor("a", 1), signal.SIGKILL)
         case.until(lambda: case.text("a.log").count("begin") == 2, "a begins again")
@@ -259,9 +261,7 @@ def start_under_systemd(case: Case) -> Path:
     """Starts the agent where systemd seems to have the cgroups; the one below which its scopes are."""
     needs_mounts()
     base = own_cgroup()
-    program = case.folder / "systemd-run"
-    program.write_text(SYSTEMD_RUN.format(python=sys.executable, folder=case.folder, base=base))
-    program.chmod(0o755)
+    write_program(case.folder / "systemd-run", SYSTEMD_RUN.format(python=sys.executable, folder=case.folder, base=base))
     systemd = 'mount -t tmpfs none /run && mkdir -p /run/systemd/system && exec "$@"'
     case.start("--until-empty", before=["unshare", "--mount", "sh", "-c", systemd, "sh"])
     return base
@@ -306,7 +306,7 @@ def old_kernel() -> None:
         words = [sys.executable, "-c", OLD_KERNEL]
         with subprocess.Popen(words, cwd=case.folder, stdin=pipe, stdout=pipe, text=True) as asked:
             case.until(hidden.is_there, "the hidden process")
-            path, _ = asked.communicate("end\n", timeout=60)
+            path, _ = asked.communicate("end\n", timeout=300)
         require(asked.returncode == 0 and path.startswith("/"), path)
         require(not hidden.is_there() and not Path(path.rstrip()).exists(), "it is left")
 
@@ -321,7 +321,7 @@ def threads_alone() -> None:
         ask = "from firm_service import supervisor; print(supervisor.group_trouble())"
         words = f"echo 0 > {outer}/cgroup.procs && echo 0 > {inner}/cgroup.threads"
         words += f" && exec {sys.executable} -c '{ask}'"
-        asked = subprocess.run(["sh", "-c", words], capture_output=True, text=True, timeout=60)
+        asked = subprocess.run(["sh", "-c", words], capture_output=True, text=True, timeout=300)
         require(asked.stdout == f"{inner} has threads alone\n", asked)
         require([path for path in inner.iterdir() if path.is_dir()] == [], "a cgroup is left")
     finally:
@@ -364,7 +364,8 @@ def goes_on() -> None:
         case.until(lambda: case.events("state"), "it has begun")
         early = case.text("state/events.jsonl")
         case.firmd.round("start a m1 start b m1 start c m2")
-        case.until(lambda: len(case.events("running")) == 3, "all run")
+        case.until_begun("a", "b", "c")
+        case.until(lambda: len(case.events("running")) == 3, "all are known to run")
         old = sorted(case.processes()["a"])
         case.go("c")
         case.until(lambda: case.firmd.asked == ["alpha done c"], "c is done")

@@ -16,7 +16,7 @@ from collections.abc import AsyncIterator
 from pathlib import Path
 from typing import Any
 
-from front_kit import Front, front, http_ask, missing_of, samples_of
+from front_kit import LIMIT_SECONDS, Front, front, http_ask, missing_of, samples_of
 from harness import program
 from harness.checks import Check, Missed, print_skipped, require
 from harness.deployed import bound
@@ -133,7 +133,7 @@ def connections_are_bounded() -> None:
 
     with front(has_http=True) as started, contextlib.ExitStack() as stack:
         held = [
-            stack.enter_context(socket.create_connection(("127.0.0.1", started.port), timeout=10))
+            stack.enter_context(socket.create_connection(("127.0.0.1", started.port), timeout=LIMIT_SECONDS))
             for _ in range(MOST_CONNECTIONS)
         ]
         require(http_ask(started.port, "/")[0] == 200, "one connection more gets no answer")

@@ -8,8 +8,10 @@ from __future__ import annotations
 import subprocess
 import sys
 import time
+import traceback
 import unittest
 from concurrent.futures import ThreadPoolExecutor
+from pathlib import Path
 from threading import Lock
 from types import TracebackType
 from typing import Callable, Mapping, NoReturn, cast
@@ -18,6 +20,8 @@ Check = Callable[[], object]  # passes where it raises nothing
 Caught = tuple[type[BaseException], BaseException, TracebackType] | tuple[None, None, None]
 Skipped = unittest.SkipTest  # of a check that can't be done here
 SKIPPED = "skipped"  # the first word of a line on checks that are not done
+DETAIL = "    "  # before each line behind the first on a check that failed
+TESTS = Path(__file__).resolve().parents[1]
 
 
 class Missed(AssertionError):
@@ -101,11 +105,25 @@ class Lines(unittest.TextTestResult):
             self._say(f"{SKIPPED}  {test}: {reason}")
 
     def _say_failed(self, test: unittest.TestCase, err: Caught) -> None:
-        self._say(f"FAILED   {test}: {type(err[1]).__name__}: {err[1]}")
+        told = [f"FAILED   {test}: {type(err[1]).__name__}: {err[1]}", *places_of(err[2]), *notes_of(err[1])]
+        self._say("\n".join(told).replace("\n", f"\n{DETAIL}"))
 
     def _say(self, line: str) -> None:
         self.stream.write(f"{line}\n")
         self.stream.flush()
+
+
+def places_of(trace: TracebackType | None) -> list[str]:
+    """A line on where in the tests something was raised, from the check on."""
+    frames = [frame for frame in traceback.extract_tb(trace) if Path(frame.filename).is_relative_to(TESTS)]
+    places = [f"{Path(frame.filename).relative_to(TESTS)}:{frame.lineno}" for frame in frames]
+    found = [place for place in places if not place.startswith("harness/checks.py:")]
+    return [f"at {', '.join(found)}"] if found else []
+
+
+def notes_of(error: BaseException | None) -> list[str]:
+    found: list[str] = getattr(error, "__notes__", [])
+    return found
 
 
 def run_suites(*suites: unittest.TestSuite) -> int:

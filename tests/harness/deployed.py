@@ -11,8 +11,8 @@ import firm_service.slurm.check
 import firm_service.slurm.differences
 import firm_service.slurm.done
 import firm_service.slurm.said
-from firm_service import agent_machines, agent_queue, archive, books, extent, feed, feeder, kept_books
-from firm_service import past, past_rounds, records
+from firm_service import agent_events, agent_machines, agent_queue, archive, books, budgets, extent, feed, feeder
+from firm_service import kept_books, past, past_rounds, records
 from firm_service import roster, sizes, slurm, snapshots, states as service_states, supervisor
 from firm_service import trials, what_if, why, why_text
 from firm_service.agent_queue import NotAllowed, work_of
@@ -70,6 +70,7 @@ __all__ = [
     "Task",
     "TICK_SECONDS",
     "TableError",
+    "agent_events",
     "agent_machines",
     "agent_queue",
     "archive",
@@ -78,6 +79,7 @@ __all__ = [
     "book_of",
     "books",
     "bound",
+    "budgets",
     "client",
     "columns",
     "extent",

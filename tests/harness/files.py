@@ -1,4 +1,4 @@
-"""The files of the repository."""
+"""The files of the repository, and programs that a test writes."""
 
 from __future__ import annotations
 
@@ -16,6 +16,12 @@ def tracked_files() -> list[Path]:
     if done.returncode:
         raise CannotRun(f"git does not list the files: {done.stderr.strip()}")
     return [Path(name) for name in done.stdout.split("\0") if name and (ROOT / name).exists()]
+
+
+def write_program(path: Path, text: str) -> None:
+    """Writes a program by a process of its own: a file that this one has open is open too in each child that another
+    of its threads forks meanwhile, and a program that is open to be written can't be started."""
+    subprocess.run(["install", "-m", "755", "/dev/stdin", path], input=text.encode(), check=True)
 
 
 def commit_here() -> str:

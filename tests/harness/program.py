@@ -20,7 +20,7 @@ ROOT = Path(__file__).resolve().parents[2]
 OUT = ROOT / "out" / "tests"
 WORKERS = 2  # where no number is named
 LIMIT_SECONDS = 120  # for a run
-REPLY_SECONDS = 20  # for a reply, and for an end
+REPLY_SECONDS = 120  # for a reply, and for an end, on a busy host
 
 Environment = Mapping[str, str]
 

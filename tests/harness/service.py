@@ -275,6 +275,10 @@ class Tenant:
         """What it costs to leave the task waiting."""
         return self.jobs[task.job] + task.waited + (0 if task.machine is None else self.limits.churn)
 
+    def slot_cost(self, slot: int) -> int:
+        """What a task costs in a machine's slot of this number, counted from 0."""
+        return slot * self.limits.spread
+
     def placing_cost(self, task: Task, machine: str) -> int:
         """What it costs the task to be on the machine, apart from the machine's load."""
         if machine == task.machine:
@@ -324,7 +328,7 @@ class Tenant:
                 elif load[machine] == self.machines[machine]:
                     continue
                 else:
-                    more = self.limits.spread * load[machine] + self.placing_cost(task, machine)
+                    more = self.slot_cost(load[machine]) + self.placing_cost(task, machine)
                     load[machine] += 1
                 chosen.append(machine)
                 try_all(cost + more)

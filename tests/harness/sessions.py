@@ -3,9 +3,10 @@
 A block of `sh` or `python` is run in a folder where ./firm is the launcher, and crates/, examples/ and tests/ are
 those of the repository; a block of `firm` is the input of ./firm. So are the lines of a table whose first column is
 Line and whose last is Reply. The roster, roster.csv, is the block of `csv` right above, or else the page's first. A
-block of `console` has commands behind `$ `, each with what comes out below it, errors among it; times may differ. A
-block without what comes out is there to be read, and is not run. `./firm --unproved`, which takes minutes, is run as
-./firm: tests/launcher.py asks for an unproved answer, and the replies are the same.
+block of `console` has commands behind `$ `, each with what comes out below it, errors among it; times may differ, and
+a command that only looks is typed again where the service does not show yet what it has answered. A block without what
+comes out is there to be read, and is not run. `./firm --unproved`, which takes minutes, is run as ./firm:
+tests/launcher.py asks for an unproved answer, and the replies are the same.
 """
 
 from __future__ import annotations
@@ -21,13 +22,16 @@ import sys
 import tempfile
 import time
 from pathlib import Path
-from typing import IO, Any, Iterator, NamedTuple
+from typing import IO, Any, Callable, Iterator, NamedTuple
 
 from harness.checks import Skipped, require
 from harness.program import ROOT, built, opened
 
 LIMIT_SECONDS = 300
-CONSOLE_SECONDS = 180  # for what a command of a console gives, and those before it that give nothing
+CONSOLE_SECONDS = 600  # for what a command of a console gives, and those before it that give nothing
+LOOK_SECONDS = 0.2  # until a command that only looks is typed again
+LOOKS = re.compile(r"\bfirmctl (?:--state \S+ )?(?:tasks|ps|status|why|what-if|plan|machines|history)\b")
+END = "that-was-all"  # is written behind such a command
 FENCE = "```"
 TABLE = re.compile(r"\| Line \|.*\| Reply[^|]*\|")
 FIRST_AND_LAST = re.compile(r"\| `([^`]+)` \|.*\| `([^`]+)`[^|]*\|")
@@ -186,7 +190,7 @@ def play_console(console: Block, path: str | None = None) -> None:
     is_installing = "pip install" in console.text
     if is_installing and subprocess.run(["/usr/bin/python3", "-c", INSTALLING], capture_output=True).returncode:
         raise Skipped("it needs venv, setuptools and wheel (apt-get install python3-venv python3-wheel)")
-    with tempfile.TemporaryDirectory(prefix="firm-") as folder:
+    with tempfile.TemporaryDirectory(prefix="firm-", ignore_cleanup_errors=True) as folder:
         for name in () if path else ("firm", "crates", "examples", *([] if is_installing else ["service"])):
             (Path(folder) / name).symlink_to(ROOT / name)
         if is_installing:  # pip writes beside the sources
@@ -197,17 +201,31 @@ def play_console(console: Block, path: str | None = None) -> None:
         with subprocess.Popen(["/bin/bash", "-eu"], cwd=folder, start_new_session=True, bufsize=0, **how) as shell:
             try:
                 for typed, output in commands_of(console):
-                    opened(shell.stdin).write(typed.text.encode())
-                    said = next_lines(opened(shell.stdout), output.count("\n"))
+                    said = answer(shell, typed.text, output)
                     require(without_times(said) == without_times(output), f"{typed.text}gives\n{said}")
             finally:
                 os.killpg(shell.pid, signal.SIGKILL)
 
 
-def next_lines(pipe: IO[bytes], count: int) -> str:
-    """As many lines of a pipe, or fewer where no more come in time."""
+def answer(shell: subprocess.Popen[bytes], typed: str, wanted: str) -> str:
+    """What a command gives; one that only looks is typed again until that is what is wanted, for some time."""
+    if not LOOKS.search(typed):
+        opened(shell.stdin).write(typed.encode())
+        return next_lines(opened(shell.stdout), lambda said: said.count(b"\n") >= wanted.count("\n"))
+    ends = time.monotonic() + CONSOLE_SECONDS
+    while True:
+        opened(shell.stdin).write(f"{typed}echo {END}\n".encode())
+        said = next_lines(opened(shell.stdout), lambda said: said.endswith(f"{END}\n".encode()))
+        said = said.removesuffix(f"{END}\n")
+        if without_times(said) == without_times(wanted) or shell.poll() is not None or time.monotonic() > ends:
+            return said
+        time.sleep(LOOK_SECONDS)
+
+
+def next_lines(pipe: IO[bytes], are_all: Callable[[bytes], bool]) -> str:
+    """Lines of a pipe until they are all, or no more come in time."""
     said, ends = b"", time.monotonic() + CONSOLE_SECONDS
-    while said.count(b"\n") < count and select.select([pipe], [], [], max(0, ends - time.monotonic()))[0]:
+    while not are_all(said) and select.select([pipe], [], [], max(0, ends - time.monotonic()))[0]:
         more = os.read(pipe.fileno(), 65536)
         if not more:
             break
