@@ -3,9 +3,10 @@
 usage: tools/run bench/neighbours.py [--program FILE] [--beside FILE] [--workers N] [--kind crowded] [--size 2500x700]
                            [--tenants N] [--repeats R] [--keep]
 Lines are written at once: a round of tenant `a`, which is small, and lines of others behind it. Times are from the
-write to a's reply, by the clock on the wall: the least, the middle and the ninetieth of a hundred. Each is of a new
-service, in which the rounds of the large tenants are their first. With `--beside` another built program is measured in
-turn.
+write to a's reply, by the clock on the wall: the least, the middle and the ninetieth of a hundred. In the last row a
+large tenant's round, and a line that waits for it, stand before another's round, whose reply is timed. Each is of a new
+service, in which the rounds of the large tenants are their first. With `--beside` another built program is measured by
+turns with it.
 """
 
 from __future__ import annotations
@@ -44,11 +45,12 @@ class Options:
 
 
 class Case(NamedTuple):
-    """Its name, how many workers there are, and the lines that are written at once."""
+    """Its name, how many workers there are, the lines that are written at once, and whose first reply is timed."""
 
     name: str
     workers: int
     lines: list[str]
+    whose: str = "a"
 
 
 class Large(NamedTuple):
@@ -111,16 +113,14 @@ def cases(options: Options) -> list[Case]:
         Case("`a round`, `b round`", options.workers, ["a round", "b0 round"]),
         Case("`a round`, `b round`, `b costs`", options.workers, ["a round", "b0 round", "b0 costs"]),
         Case(f"`a round` and {options.tenants} tenants' rounds", 1, ["a round", *(f"{b} round" for b in large)]),
+        Case("`b round`, `b costs`, `c round`", options.workers, ["b0 round", "b0 costs", "c round"], "c"),
     ]
 
 
-def measure(built: str, case: Case, options: Options, folder: Path) -> list[float]:
+def measure(built: str, case: Case, large: Large, folder: Path) -> float:
     names = sorted({line.split()[0] for line in case.lines} - {"a"})
-    large, times = large_tenant(options), []
-    for _ in range(options.repeats):
-        with Served(built, case.workers, names, large, folder) as served:
-            times.append(served.seconds_of(case.lines, "a"))
-    return times
+    with Served(built, case.workers, names, large, folder) as served:
+        return served.seconds_of(case.lines, case.whose)
 
 
 def cells(times: list[float]) -> str:
@@ -135,10 +135,14 @@ def show(options: Options) -> int:
     print(f"load before: {os.getloadavg()[0]:.1f} on {os.cpu_count()} processors; {options.kind} {tasks}x{machines}\n")
     print("| written at once | workers |" + " least, ms | middle, ms | 90 of 100, ms |" * len(programs))
     print("| --- | ---: |" + " ---: | ---: | ---: |" * len(programs))
+    large = large_tenant(options)
     with tempfile.TemporaryDirectory(prefix="firm-") as folder:
         for case in cases(options):
-            row = " | ".join(cells(measure(built, case, options, Path(folder))) for built in programs)
-            print(f"| {case.name} | {case.workers} | {row} |", flush=True)
+            times: list[list[float]] = [[] for _ in programs]
+            for _ in range(options.repeats):
+                for built, found in zip(programs, times):
+                    found.append(measure(built, case, large, Path(folder)))
+            print(f"| {case.name} | {case.workers} | {' | '.join(map(cells, times))} |", flush=True)
     print(f"\nload after: {os.getloadavg()[0]:.1f}")
     return 0
 
