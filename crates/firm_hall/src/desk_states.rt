@@ -57,6 +57,16 @@ impl DeskState {
         }
     }
 
+    // Whether the round that is away is answered, as far as one load tells.
+    fn is_answered(&self) -> bool
+        requires { IsAway self.now }
+    {
+        match self {
+            DeskState::Away(asked) => asked.is_answered(),
+            _ => unreachable!(),
+        }
+    }
+
     // Says whether commands wait for the tenant, if it is home.
     pub(crate) fn set_waiting(&mut self, waits: bool)
         ensures { self.new ≡ with_waiting waits self.old }
@@ -72,6 +82,10 @@ impl DeskState {
         ensures turned { IsTurned self.old self.new result }
         ensures home { IsSome result → IsHome self.new }
     {
+        // A look in vain is one load, and leaves the token where it stands.
+        if !self.is_answered() {
+            return None;
+        }
         let DeskState::Away(asked) = mem::replace(self, DeskState::Gone) else {
             unreachable!()
         };

@@ -168,6 +168,11 @@ impl Desk {
 }
 
 impl Asked {
+    /// Whether the round is answered, as far as one load tells. A `false` may be old when it is read.
+    pub fn is_answered(&self) -> bool {
+        self.side.is_answered()
+    }
+
     /// The desk with the round's reply, if the round is answered; otherwise the same token. Never waits, and takes no
     /// memory.
     pub fn poll(self) -> AskedPoll

@@ -15,7 +15,7 @@ use crate::halls::Hall;
 use crate::setting::{Setting, Setup};
 use crate::team::Team;
 use crate::workers::{Gate, Report};
-use firm_rounds::Job;
+use firm_rounds::finish_all;
 use firm_table::{Opening, ServeFault, serve_lines};
 use firm_text::{PLACES, Roster, Sink, Source};
 use std::alloc::Global;
@@ -220,11 +220,4 @@ fn close<R: Wait>(rt: &R, alloc: Global, hall: Hall, ended: Ended, reports: Vec<
         Err(CloseFault::Missing(..)) => unreachable!(),
         Err(CloseFault::Left(_desks, _reports, jobs, _empty)) => finish_all(alloc, jobs),
     }
-}
-
-pub(crate) fn finish_all(alloc: Global, mut jobs: Vec<Job>) {
-    while let Some(job) = jobs.pop() {
-        let _spent = job.finish(alloc);
-    }
-    jobs.destroy_empty();
 }

@@ -68,6 +68,14 @@ impl Job {
     }
 }
 
+/// Solves the rounds that are left and answers their trays, as where no worker takes them any more.
+pub fn finish_all(alloc: Global, mut jobs: Vec<Job>) {
+    while let Some(job) = jobs.pop() {
+        let _spent = job.finish(alloc);
+    }
+    jobs.destroy_empty();
+}
+
 fn parts_of(ticket: Ticket, tenant: Tenant, side: AnswerSide) -> JobParts
     requires { side.book ≡ tenant }
     ensures { (result.ticket ≡ ticket) × (result.side ≡ side) }

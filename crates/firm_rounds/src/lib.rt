@@ -21,6 +21,6 @@ mod protocol;
 mod queue;
 
 pub use closing::Closing;
-pub use job::Job;
+pub use job::{Job, finish_all};
 pub use passes::{PopPass, PutPass};
 pub use queue::{Queue, QueueFault};

@@ -131,6 +131,11 @@ impl AnswerSide {
 }
 
 impl AskSide {
+    /// Whether the answer is there, as far as one load tells. A `false` may be old when it is read.
+    pub fn is_answered(&self) -> bool {
+        self.board.shared.peek(0) == 1
+    }
+
     /// The tenant with its round, if the answer is there; else the same side again. Never waits, and takes no memory.
     pub fn poll(self) -> Polled
         ensures { IsPolled self result }

@@ -1,5 +1,5 @@
 use Rattle.std.proofs.Common.{vec_len}
-use Rattle.firm_hall.proofs.service.finish_all.Given as goal
+use Rattle.firm_rounds.proofs.job.finish_all.Given as goal
 
 abbrev pub invariant-loop-job : goal.invariant-loop-job
 invariant-loop-job l = Unit {0}
