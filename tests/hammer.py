@@ -2,7 +2,7 @@
 done ten thousand times or a million.
 
 usage: tools/run tests/hammer.py [--seconds N] [--control]
-It needs the kit, and runs the tests of test_worker by `rt try --test`, which proves nothing, on a copy of the
+It needs the kit, and runs the crates of tests on threads by `rt try --test`, which proves nothing, on a copy of the
 crates: there a thread looks for nothing more before it sleeps, and the counts of the tests are raised. The tests
 themselves ask that their counts are reached; one that hangs fails at the limit of seconds. Each has a line; the exit
 status is 1 where one failed.
@@ -32,7 +32,7 @@ from typing import NamedTuple
 
 from harness.program import ROOT
 
-CRATE = "test_worker"
+CRATES = ("test_rounds", "test_worker", "test_hall")
 # What `rt try` says of a test that it ended at the limit of seconds.
 HANGS = "did not end within the time limit"
 CONTROL_SECONDS = 60
@@ -47,8 +47,9 @@ class Edit(NamedTuple):
 
 
 class Count(NamedTuple):
-    """A test, and how its count is raised."""
+    """A test, its crate, and how its count is raised."""
 
+    crate: str
     test: str
     what: str
     raised: Edit
@@ -66,33 +67,37 @@ NO_LOOKS = [
     constant("firm_rounds/src/queue.rt", "TRIES_BEFORE_SLEEP: u32", "64", "0"),
 ]
 
-TESTS = f"{CRATE}/src/tests"
 HAND_OVERS = "callers::rounds_of_four_callers_go_to_two_workers_and_come_back"
 COUNTS = [
     Count(
+        "test_worker",
         HAND_OVERS,
         "1,000,000 rounds, handed over and back",
-        constant(f"{TESTS}/callers.rt", "ROUNDS: u64", "250", "250_000"),
+        constant("test_worker/src/tests/callers.rt", "ROUNDS: u64", "250", "250_000"),
     ),
     Count(
+        "test_rounds",
         "queues::four_threads_put_and_four_get_each_ticket_once",
         "1,000,000 tickets through the queue",
-        constant(f"{TESTS}/queues.rt", "EACH: u64", "2_500", "250_000"),
+        constant("test_rounds/src/tests/queues.rt", "EACH: u64", "2_500", "250_000"),
     ),
     Count(
+        "test_worker",
         "wakes::no_worker_sleeps_while_rounds_wait",
         "10,000 times two rounds in one go, one worker held",
-        constant(f"{TESTS}/wakes.rt", "TURNS: u64", "1_000", "10_000"),
+        constant("test_worker/src/tests/wakes.rt", "TURNS: u64", "1_000", "10_000"),
     ),
     Count(
+        "test_worker",
         "wakes::a_round_that_was_asked_before_the_hall_was_shut_is_solved",
         "10,000 halls shut behind a round",
-        constant(f"{TESTS}/wakes.rt", "HALLS: u64", "2_000", "10_000"),
+        constant("test_worker/src/tests/wakes.rt", "HALLS: u64", "2_000", "10_000"),
     ),
     Count(
+        "test_hall",
         "services::each_reply_is_written_before_the_next_line_comes",
         "10,000 lines, each behind the reply before",
-        constant(f"{TESTS}/services.rt", "LINES_ASKED: u64", "50", "10_000"),
+        constant("test_hall/src/tests/services.rt", "LINES_ASKED: u64", "50", "10_000"),
     ),
 ]
 
@@ -127,8 +132,9 @@ def apply(edits: list[Edit], folder: Path) -> None:
         path.write_text(text.replace(edit.old, edit.new))
 
 
-def run_tests(edits: list[Edit], seconds: int, only: str = "") -> Ended:
-    """The tests of the crate so edited, or those whose names have these words, with this number of seconds for each."""
+def run_tests(crate: str, edits: list[Edit], seconds: int, only: str = "") -> Ended:
+    """The tests of a crate over crates so edited, or those whose names have these words, with this number of seconds
+    for each."""
     with tempfile.TemporaryDirectory(prefix="firm-hammer-") as name:
         folder = Path(name)
         copy_to(folder)
@@ -137,7 +143,7 @@ def run_tests(edits: list[Edit], seconds: int, only: str = "") -> Ended:
         began = time.monotonic()
         done = subprocess.run(
             words,
-            cwd=folder / "crates" / CRATE,
+            cwd=folder / "crates" / crate,
             stdin=subprocess.DEVNULL,
             stdout=subprocess.PIPE,
             stderr=subprocess.STDOUT,
@@ -148,12 +154,17 @@ def run_tests(edits: list[Edit], seconds: int, only: str = "") -> Ended:
 
 def hammer(seconds: int) -> bool:
     """Whether all tests pass with no looks and the raised counts, those of the counts among them."""
-    ended = run_tests(NO_LOOKS + [count.raised for count in COUNTS], seconds)
+    return all([hammer_crate(crate, seconds) for crate in CRATES])
+
+
+def hammer_crate(crate: str, seconds: int) -> bool:
+    ended = run_tests(crate, NO_LOOKS + [count.raised for count in COUNTS], seconds)
     passed = set(re.findall(r"^test tests::(\S+) \.\.\. ok$", ended.said, re.M))
-    for count in COUNTS:
+    counts = [count for count in COUNTS if count.crate == crate]
+    for count in counts:
         print(f"{'passed' if count.test in passed else 'FAILED'}   {count.what} ({count.test})", flush=True)
-    is_well = ended.is_well and all(count.test in passed for count in COUNTS)
-    print(f"{'passed' if is_well else 'FAILED'}   all {len(passed)} tests ({ended.seconds:.0f} s)")
+    is_well = ended.is_well and all(count.test in passed for count in counts)
+    print(f"{'passed' if is_well else 'FAILED'}   all {len(passed)} tests of {crate} ({ended.seconds:.0f} s)")
     if not is_well:
         print(ended.said)
     return is_well
@@ -161,7 +172,7 @@ def hammer(seconds: int) -> bool:
 
 def is_found() -> bool:
     """Whether a test hangs where no worker is notified of a round that is put."""
-    ended = run_tests([*NO_LOOKS, NO_NOTIFICATION], CONTROL_SECONDS, HAND_OVERS)
+    ended = run_tests("test_worker", [*NO_LOOKS, NO_NOTIFICATION], CONTROL_SECONDS, HAND_OVERS)
     hangs = not ended.is_well and HANGS in ended.said
     verdict = "passed" if hangs else "FAILED"
     print(f"{verdict}   {HAND_OVERS} hangs without the notification of a put ({ended.seconds:.0f} s)")

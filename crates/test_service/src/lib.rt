@@ -1,7 +1,6 @@
-//! Tests alone: rules, formats, a tenant and the table of tenants, asked by their public calls.
+//! Tests alone: a state's text, one tenant and the table of tenants, asked by their public calls.
 //!
-//! Tests of rules, formats, one tenant, rents and the table, by their public calls. A new line, reply or fault is one
-//! more row of an array, a new round or event one more step:
+//! A new fault of a state is one more row of an array, a new event one more step:
 //!
 //! ```text
 //! static OF_A_WORN_TENANT: [Row; 4] = [

@@ -1,57 +1,23 @@
-//! Desks on threads of their callers, gates that hold workers, halls that are shut first, a desk without life left;
-//! under them the queue of rounds and the trays; the source that reads ahead; services that go on from a state.
+//! Desks on threads of their callers, gates that hold workers, halls that are shut first, a desk without life left.
 
 ghost use Rattle.std.specs.Prelude.{◌≡◌, ◌≤◌, All};
 
 mod callers;
 mod closing;
-mod counts;
+mod gates;
 mod held;
-mod inputs;
 mod lives;
-mod neighbours;
-mod queues;
-mod restarts;
-mod services;
 mod solving;
 mod stays;
 mod teams;
-mod trays;
 mod wakes;
 
 use firm_hall::{Asked, Desk, EmptyDesk, Hall, WorkerPass};
-use firm_rounds::Job;
 use firm_rules::{Outcome, Reply};
-use firm_table::MOST_INPUT;
-use firm_text::{Roster, roster};
 use std::alloc::Global;
 use std::process::Abort;
 use std::sync::Wait;
-
-const HEADING: &str = "tenant,nodes,arcs,life,spread,churn\n";
-
-const MOST: u64 = MOST_INPUT;
-
-const TWO: &str = "alpha,9,24,100,1,2\nbeta,8,30,100,0,3";
-
-/// Eight tenants of one command each.
-const EIGHT: &str = "\
-a,2,0,1,0,0
-b,2,0,1,0,0
-c,2,0,1,0,0
-d,2,0,1,0,0
-e,2,0,1,0,0
-f,2,0,1,0,0
-g,2,0,1,0,0
-h,2,0,1,0,0";
-
-/// The roster of these records, each on a line.
-fn roster_of(rt: &impl Abort, alloc: Global, records: &str) -> Roster {
-    let Ok(text) = format!(in alloc; "{HEADING}{records}") else {
-        panic!(rt; "no memory")
-    };
-    roster(alloc, text.as_bytes()).ok().expect(rt, "a roster")
-}
+use test_kit::roster_of;
 
 /// A hall for these records, its desks, the passes of its workers, and its empty desks.
 fn opened(
@@ -64,7 +30,7 @@ fn opened(
     ensures of_this { All (λ d. d.queue ≡ result.0.id) result.1.items × All (λ p. p.queue ≡ result.0.id) result.2.items }
     ensures empty_of_this { All (λ e. e.queue ≡ result.0.id) result.3.items }
 {
-    let roster = roster_of(rt, alloc, records);
+    let roster = roster_of(alloc, records).expect(rt, "a roster");
     Hall::open(alloc, &roster, workers).expect(rt, "memory")
 }
 
@@ -110,13 +76,6 @@ fn last_empty(rt: &impl Abort, hall: &Hall, empty: &mut Vec<EmptyDesk>) -> Empty
 {
     let _ = hall;
     empty.pop().expect(rt, "an empty desk")
-}
-
-fn finish_all(alloc: Global, mut jobs: Vec<Job>) {
-    while let Some(job) = jobs.pop() {
-        let _spent = job.finish(alloc);
-    }
-    jobs.destroy_empty();
 }
 
 /// This is the reply to a round that places nothing.

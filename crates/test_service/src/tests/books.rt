@@ -1,16 +1,17 @@
 //! Books, rows, tenants and registers that are restored as they stood.
-use super::rows::{with_job, with_machine, with_restored, with_task};
-use super::{admitted, limits, name, preferring, slots, weight};
+use super::name;
 use BookFault::{Cost, Count, Crowded, Life, Rounds};
 use firm_rules::{
-    Book, BookFault, Choice, Command, Name, Outcome, Preferred, RecentCosts, Reply, Rows, Task,
-    legal,
+    Book, BookFault, Choice, Command, Name, Outcome, RecentCosts, Reply, Rows, Task, legal,
 };
 use firm_saved::{SavedPlace, given_count, put_book};
 use firm_tenant::Tenant;
 use firm_text::{Entry, PLACES, Register};
 use std::alloc::Global;
 use std::process::Abort;
+use test_kit::{
+    TWO, limits, preferring, roster_of, with_job, with_machine, with_restored, with_task,
+};
 
 /// A task of the job `j`, where it runs, what it has waited, and the machines that it prefers.
 fn task(
@@ -23,7 +24,7 @@ fn task(
     Task {
         name: name(rt, bytes),
         job: name(rt, b"j"),
-        preferred: preferring(rt, machines),
+        preferred: preferring(machines).expect(rt, "machines"),
         machine,
         waited,
     }
@@ -46,16 +47,17 @@ fn settle(rt: &impl Abort, rows: &mut Rows, placement: &[Choice]) {
 
 /// Two machines, a job and these two tasks.
 fn fill(rt: &impl Abort, rows: &mut Rows) {
-    with_machine(rt, rows, name(rt, b"m1"), slots(rt, 1)).expect(rt, "memory");
-    with_machine(rt, rows, name(rt, b"m2"), slots(rt, 2)).expect(rt, "memory");
-    with_job(rt, rows, name(rt, b"j"), weight(rt, 10)).expect(rt, "memory");
-    with_task(rt, rows, name(rt, b"j"), name(rt, b"x"), Preferred::new()).expect(rt, "memory");
+    with_machine(rows, b"m1", 1).expect(rt, "a machine");
+    with_machine(rows, b"m2", 2).expect(rt, "a machine");
+    with_job(rows, b"j", 10).expect(rt, "a job");
+    with_task(rows, b"j", b"x", &[]).expect(rt, "a task");
     settle(rt, rows, &[Choice::On(0)]);
-    with_restored(rt, rows, waits(rt)).expect(rt, "memory");
+    with_restored(rows, waits(rt)).expect(rt, "a task");
 }
 
 fn rows(rt: &impl Abort, alloc: Global) -> Rows {
-    let mut rows = Rows::new(alloc, limits(rt, &[8, 20, 100, 1, 2, 7]));
+    let limits = limits(&[8, 20, 100, 1, 2, 7]).expect(rt, "limits");
+    let mut rows = Rows::new(alloc, limits);
     fill(rt, &mut rows);
     rows
 }
@@ -138,7 +140,8 @@ fn expect_crowd(
     churn: u64,
     wanted: Option<BookFault>,
 ) {
-    let mut rows = Rows::new(alloc, limits(rt, &[8, 20, 100, spread, churn, 0]));
+    let limits = limits(&[8, 20, 100, spread, churn, 0]).expect(rt, "limits");
+    let mut rows = Rows::new(alloc, limits);
     fill(rt, &mut rows);
     settle(rt, &mut rows, &[Choice::On(1), Choice::On(1)]);
     let made = Book::new(rows, costs(5), 100);
@@ -170,20 +173,14 @@ fn expect_bid(
     wanted: Option<BookFault>,
 ) {
     let (churn, remote) = numbers;
-    let mut rows = Rows::new(alloc, limits(rt, &[8, 20, 100, 0, churn, remote]));
-    with_machine(rt, &mut rows, name(rt, b"m1"), slots(rt, 1)).expect(rt, "memory");
-    with_job(rt, &mut rows, name(rt, b"k"), weight(rt, 10)).expect(rt, "memory");
-    with_job(rt, &mut rows, name(rt, b"j"), weight(rt, heavy)).expect(rt, "memory");
-    with_task(
-        rt,
-        &mut rows,
-        name(rt, b"k"),
-        name(rt, b"x"),
-        Preferred::new(),
-    )
-    .expect(rt, "memory");
+    let limits = limits(&[8, 20, 100, 0, churn, remote]).expect(rt, "limits");
+    let mut rows = Rows::new(alloc, limits);
+    with_machine(&mut rows, b"m1", 1).expect(rt, "a machine");
+    with_job(&mut rows, b"k", 10).expect(rt, "a job");
+    with_job(&mut rows, b"j", heavy).expect(rt, "a job");
+    with_task(&mut rows, b"k", b"x", &[]).expect(rt, "a task");
     settle(rt, &mut rows, &[Choice::On(0)]);
-    with_restored(rt, &mut rows, task(rt, b"y", None, 2, &[])).expect(rt, "memory");
+    with_restored(&mut rows, task(rt, b"y", None, 2, &[])).expect(rt, "a task");
     let made = Book::new(rows, costs(5), 100);
     assert_eq!(rt; made.err(), wanted, "{heavy} {churn} {remote}");
 }
@@ -272,9 +269,6 @@ fn a_place_is_of_its_tenant(rt: HostRuntime) {
     assert!(rt; !empty.is_of(name(&rt, b"a")));
 }
 
-static TWO_TENANTS: &[u8] =
-    b"tenant,nodes,arcs,life,spread,churn\nalpha,2,0,1,0,0\nbeta,2,0,1,0,0\n";
-
 /// The register of the same places.
 fn again(rt: &impl Abort, register: &Register) -> Register {
     let mut entries = [Entry::EMPTY; PLACES];
@@ -294,7 +288,8 @@ fn expect_entries(rt: &impl Abort, register: &Register, first: &Entry, second: &
 
 #[test]
 fn a_register_is_restored(rt: HostRuntime) {
-    let mut register = Register::of(&admitted(&rt, rt.alloc(), TWO_TENANTS));
+    let roster = roster_of(rt.alloc(), TWO).expect(&rt, "a roster");
+    let mut register = Register::of(&roster);
     assert_eq!(rt; register.retire(name(&rt, b"beta")), Ok(1));
     let mut register = again(&rt, &register);
     let alpha = Entry {

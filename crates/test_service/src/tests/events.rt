@@ -1,18 +1,17 @@
 //! Events of a table, one at a time: where they fit, and where they don't.
 ghost use Rattle.std.specs.Prelude.{◌≤◌};
 
-use super::{admitted, limits, name, weight};
+use super::name;
 use Given::{Admit, Answer, Ask, Collect, Costs, Job, Retire, Round, Show, Take};
 use Wanted::{Admitted, Done, Idle, NotNow, Queued, Retired, Shows, Solved, Took, Worn};
-use firm_rules::{Changes, Command, Limits, Outcome, Refusal, Reply, Ticket};
+use firm_rules::{Changes, Command, Limits, Outcome, Refusal, Reply, Ticket, Weight};
 use firm_table::{Event, Table};
 use firm_text::{MOST_ADMISSIONS, PLACES};
 use std::alloc::Global;
 use std::process::Abort;
+use test_kit::{TWO, limits, roster_of};
 
-static TWO: &[u8] = b"tenant,nodes,arcs,life,spread,churn\nalpha,9,24,100,1,2\nbeta,8,30,100,0,3\n";
-
-static ONE: &[u8] = b"tenant,nodes,arcs,life,spread,churn\nt,2,0,1,0,0\n";
+const ONE: &str = "t,2,0,1,0,0";
 
 /// An event, its limits and its command as they are written.
 #[derive(Clone, Copy, Debug)]
@@ -51,11 +50,12 @@ enum Wanted {
 type Row = (Given, Wanted);
 
 fn add_job(rt: &impl Abort) -> Command {
-    Command::AddJob(name(rt, b"j"), weight(rt, 5))
+    let weight = Weight::check(5).expect(rt, "a weight");
+    Command::AddJob(name(rt, b"j"), weight)
 }
 
 fn limits_of(rt: &impl Abort, nodes: u64, arcs: u64) -> Limits {
-    limits(rt, &[nodes, arcs, 9, 0, 0, 0])
+    limits(&[nodes, arcs, 9, 0, 0, 0]).expect(rt, "limits")
 }
 
 fn event(rt: &impl Abort, given: Given) -> Event {
@@ -120,18 +120,18 @@ fn expect(rt: &impl Abort, alloc: Global, table: &mut Table, given: Given, wante
     );
 }
 
-fn opened(rt: &impl Abort, alloc: Global, text: &[u8], workers: usize) -> Table
+fn opened(rt: &impl Abort, alloc: Global, records: &str, workers: usize) -> Table
     requires { (1 ≤ workers) × (workers ≤ 8) }
 {
-    let roster = admitted(rt, alloc, text);
+    let roster = roster_of(alloc, records).expect(rt, "a roster");
     Table::open(alloc, &roster, workers).expect(rt, "memory")
 }
 
 /// Each event in turn of a table that is opened for these tenants and workers.
-fn play(rt: &impl Abort, alloc: Global, text: &[u8], workers: usize, rows: &[Row])
+fn play(rt: &impl Abort, alloc: Global, records: &str, workers: usize, rows: &[Row])
     requires { (1 ≤ workers) × (workers ≤ 8) }
 {
-    let mut table = opened(rt, alloc, text, workers);
+    let mut table = opened(rt, alloc, records, workers);
     for (given, wanted) in rows {
         expect(rt, alloc, &mut table, *given, *wanted);
     }

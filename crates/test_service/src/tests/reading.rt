@@ -1,9 +1,9 @@
 //! How much of its input a service reads at once.
 ghost use Rattle.std.specs.Prelude.{false};
 
-use super::admitted;
 use firm_table::serve_one;
 use firm_text::{Bytes, Failed, Source};
+use test_kit::roster_of;
 
 /// A text, and the room of the largest buffer into which it was read.
 #[derive(Drop)]
@@ -27,11 +27,7 @@ impl Source for Measured<'_> {
 
 #[test]
 fn a_read_asks_for_4_096_bytes(rt: HostRuntime) {
-    let roster = admitted(
-        &rt,
-        rt.alloc(),
-        b"tenant,nodes,arcs,life,spread,churn\na,2,0,1,0,0\n",
-    );
+    let roster = roster_of(rt.alloc(), "a,2,0,1,0,0").expect(&rt, "a roster");
     let mut reader = Measured {
         text: &[b'\n'; 5_000],
         largest: 0,

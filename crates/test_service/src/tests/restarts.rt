@@ -1,5 +1,4 @@
 //! Services that stop at any line, and go on from the text of their state.
-use super::admitted;
 use super::states::{read, text_of};
 use firm_rules::{Name, RecentCosts, Rows};
 use firm_saved::{FaultKind, Saved, put_state};
@@ -7,7 +6,7 @@ use firm_table::{
     MOST_INPUT, Opening, ServeFault, Tenants, Watcher, serve_one, serve_one_from, serve_to_state,
     serve_watched_from,
 };
-use firm_text::{Bytes, Roster};
+use firm_text::{Bytes, Roster, roster};
 use std::alloc::{AllocError, Global};
 use std::process::Abort;
 
@@ -17,8 +16,8 @@ beta,4,9,50,0,0,0
 gamma,2,0,2,0,0,0
 ";
 
-fn roster(rt: &impl Abort, alloc: Global) -> Roster {
-    admitted(rt, alloc, ROSTER)
+fn admitted(rt: &impl Abort, alloc: Global, text: &[u8]) -> Roster {
+    roster(alloc, text).ok().expect(rt, "a roster")
 }
 
 /// The text of their state. Where memory for it is refused once, the next call writes it.
@@ -85,7 +84,7 @@ rows 14
 
 #[test]
 fn the_state_after_two_rounds(rt: HostRuntime) {
-    let roster = roster(&rt, rt.alloc());
+    let roster = admitted(&rt, rt.alloc(), ROSTER);
     let ended = served(&rt, rt.alloc(), Opening::Roster(&roster), TWO_ROUNDS);
     assert!(rt;
         ended.state.as_slice() == AFTER_TWO_ROUNDS,
@@ -358,7 +357,7 @@ fn answers(rt: &impl Abort, alloc: Global, roster: &Roster) -> Vec<u8> {
 #[test]
 fn a_stream_may_be_cut_at_each_line(rt: HostRuntime) {
     let alloc = rt.alloc();
-    let roster = roster(&rt, alloc);
+    let roster = admitted(&rt, alloc, ROSTER);
     let answers = answers(&rt, alloc, &roster);
     let whole = served(&rt, alloc, Opening::Roster(&roster), STREAM);
     assert!(rt; whole.written.as_slice() == answers.as_slice());

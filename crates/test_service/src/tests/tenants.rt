@@ -1,16 +1,21 @@
 //! A tenant that is worn, that fills its arena, and that finds no memory for a round.
-use super::{limits, name, slots, weight};
-use firm_rules::{Command, LineFault, Outcome, Preferred, RecentCosts, Refusal, Reply};
+use super::name;
+use firm_rules::{
+    Command, LineFault, Outcome, Preferred, RecentCosts, Refusal, Reply, Slots, Weight,
+};
 use firm_tenant::Tenant;
 use std::alloc::Global;
 use std::process::Abort;
+use test_kit::limits;
 
 fn machine(rt: &impl Abort, bytes: &[u8], number: u64) -> Command {
-    Command::AddMachine(name(rt, bytes), slots(rt, number))
+    let slots = Slots::check(number).expect(rt, "slots");
+    Command::AddMachine(name(rt, bytes), slots)
 }
 
 fn job(rt: &impl Abort, bytes: &[u8], number: u64) -> Command {
-    Command::AddJob(name(rt, bytes), weight(rt, number))
+    let weight = Weight::check(number).expect(rt, "a weight");
+    Command::AddJob(name(rt, bytes), weight)
 }
 
 fn task(rt: &impl Abort, job: &[u8], bytes: &[u8]) -> Command {
@@ -19,7 +24,7 @@ fn task(rt: &impl Abort, job: &[u8], bytes: &[u8]) -> Command {
 
 /// A tenant with these limits of nodes, arcs and commands.
 fn admitted(rt: &impl Abort, alloc: Global, nodes: u64, arcs: u64, life: u64) -> Tenant {
-    let limits = limits(rt, &[nodes, arcs, life, 0, 0, 0]);
+    let limits = limits(&[nodes, arcs, life, 0, 0, 0]).expect(rt, "limits");
     Tenant::admit(alloc, limits).expect(rt, "memory")
 }
 

@@ -2,11 +2,13 @@
 
 ghost use Rattle.std.specs.Prelude.{◌≡◌, All};
 
-use super::{TWO, finish_all, last_empty, last_pass, opened};
+use super::{last_empty, last_pass, opened};
 use firm_hall::{CloseFault, Desk, EmptyDesk, Hall, Open, Report, WorkerPass, worker};
+use firm_rounds::finish_all;
 use std::alloc::Global;
 use std::process::Abort;
 use std::sync::Wait;
+use test_kit::TWO;
 
 /// A hall that is to be closed, with its desks, its empty ones and the reports of its workers.
 #[derive(Drop)]

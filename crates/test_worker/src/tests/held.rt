@@ -2,9 +2,9 @@
 
 ghost use Rattle.std.specs.Prelude.{◌≡◌, ◌≤◌, All};
 
-use super::counts::{Holds, LOOKS};
+use super::gates::Holds;
 use super::teams::with_workers;
-use super::{EIGHT, TWO, ask_first, expect_idle_round, opened};
+use super::{ask_first, expect_idle_round, opened};
 use firm_hall::{Asked, AskedPoll, Desk, Hall};
 use firm_rules::Reply;
 use std::alloc::Global;
@@ -12,6 +12,7 @@ use std::process::Abort;
 use std::sync::Wait;
 use std::thread;
 use std::thread::Threads;
+use test_kit::{EIGHT, LOOKS, TWO};
 
 /// The reply, if it comes before the limit of looks.
 fn polled(asked: Asked) -> Option<Reply> {

@@ -2,7 +2,7 @@
 
 ghost use Rattle.std.specs.Prelude.{◌≡◌, All};
 
-use super::counts::Holds;
+use super::gates::Holds;
 use super::teams::with_workers;
 use super::{first_desk, opened};
 use firm_hall::{Desk, Hall};

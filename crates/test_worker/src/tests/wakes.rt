@@ -2,7 +2,7 @@
 
 ghost use Rattle.std.specs.Prelude.{◌≡◌, All};
 
-use super::counts::{Count, Holds, LOOKS};
+use super::gates::Holds;
 use super::teams::with_workers;
 use super::{ask_first, expect_idle_round, first_desk, last_pass, opened};
 use firm_hall::{Asked, AskedPoll, Desk, Hall, Open, Report, WorkerPass, worker};
@@ -12,19 +12,12 @@ use std::process::Abort;
 use std::sync::Wait;
 use std::thread;
 use std::thread::Threads;
+use test_kit::{Count, LOOKS, rest_awhile};
 
 const THREE: &str = "a,2,0,20000,0,0\nb,2,0,20000,0,0\nc,2,0,20000,0,0";
 
 /// How often two rounds are put in one go.
 const TURNS: u64 = 1_000;
-
-/// Rests for some turns, a few thousand at most, so that the next step meets other threads at a different point each
-/// time. It doesn't yield, which takes a busy machine milliseconds.
-pub fn rest_awhile(turns: u64) {
-    for _ in 0..turns % 150 * 20 {
-        spin_loop();
-    }
-}
 
 /// The desk that asked is back with the others.
 fn wait_back<R: Abort + Wait>(rt: &R, hall: &Hall, asked: Asked, desks: &mut Vec<Desk>)

@@ -1,0 +1,27 @@
+//! Rosters of few words.
+
+use firm_text::{Roster, roster};
+use std::alloc::Global;
+
+/// A roster's first line where its records have six fields.
+pub const HEADING: &str = "tenant,nodes,arcs,life,spread,churn\n";
+
+/// The records of `alpha` and `beta`.
+pub const TWO: &str = "alpha,9,24,100,1,2\nbeta,8,30,100,0,3";
+
+/// The records of eight tenants of one command each.
+pub const EIGHT: &str = "\
+a,2,0,1,0,0
+b,2,0,1,0,0
+c,2,0,1,0,0
+d,2,0,1,0,0
+e,2,0,1,0,0
+f,2,0,1,0,0
+g,2,0,1,0,0
+h,2,0,1,0,0";
+
+/// The roster of these records, each on a line; `None` where they make none, or memory is refused.
+pub fn roster_of(alloc: Global, records: &str) -> Option<Roster> {
+    let text = format!(in alloc; "{HEADING}{records}").ok()?;
+    roster(alloc, text.as_bytes()).ok()
+}

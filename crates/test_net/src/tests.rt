@@ -1,0 +1,4 @@
+//! Worked cases of the arena and the net.
+
+mod arena;
+mod net;
