@@ -25,6 +25,23 @@ pub(crate) struct Offer {
     pub(crate) paid: u32,
 }
 
+/// Where a task stands that is on a list: of which place, and between which others.
+#[derive(Clone, Copy)]
+struct Spot {
+    place: u32,
+    next: u32,
+    before: u32,
+}
+
+impl Spot {
+    // On no list.
+    const NONE: Spot = Spot {
+        place: NONE,
+        next: NONE,
+        before: NONE,
+    };
+}
+
 /// The way of each task, and the places' prices and loads.
 #[derive(Drop)]
 pub(crate) struct Draft {
@@ -37,11 +54,9 @@ pub(crate) struct Draft {
     through: Numbers,
     // How many of those may no longer go back to the hub.
     held: Numbers,
-    // The tasks at each place that may move, as a list in both directions, and the place of each.
-    here: Numbers,
+    // The tasks at each place that may move, as a list in both directions: the first at each, and where each stands.
     first: Numbers,
-    next: Numbers,
-    before: Numbers,
+    spots: Vec<Spot>,
 }
 
 impl Draft {
@@ -52,20 +67,16 @@ impl Draft {
         let loads = Numbers::new(alloc, nodes)?;
         let through = Numbers::new(alloc, nodes)?;
         let held = Numbers::new(alloc, nodes)?;
-        let here = Numbers::new(alloc, nodes)?;
         let first = Numbers::new(alloc, nodes)?;
-        let next = Numbers::new(alloc, nodes)?;
-        let before = Numbers::new(alloc, nodes)?;
+        let spots = vec![in alloc; Spot::NONE; nodes]?;
         Ok(Draft {
             taken,
             prices,
             loads,
             through,
             held,
-            here,
             first,
-            next,
-            before,
+            spots,
         })
     }
 
@@ -140,6 +151,13 @@ impl Draft {
         self.paid(table.way(self.taken.at(task)))
     }
 
+    /// Whether the way costs its task no more than it pays, in a least placement.
+    #[inline(always)]
+    pub(crate) fn is_tight(&self, table: &Table, number: u32) -> bool {
+        let way = table.way(number);
+        self.paid(way) == self.paid_by(table, way.task)
+    }
+
     /// Where the task is, `NONE` while it is left out.
     #[inline(always)]
     pub(crate) fn place_of(&self, table: &Table, task: u32) -> u32 {
@@ -210,37 +228,57 @@ impl Draft {
     /// The task behind this one on the list of its place, `NONE` if there is none.
     #[inline(always)]
     pub(crate) fn next(&self, task: u32) -> u32 {
-        self.next.at(task)
+        self.spot(task).next
+    }
+
+    #[inline(always)]
+    fn spot(&self, task: u32) -> Spot {
+        let spot = self.spots.get(task as usize);
+        spot.copied().unwrap_or(Spot::NONE)
+    }
+
+    // Says which task stands before another.
+    #[inline(always)]
+    fn set_before(&mut self, task: u32, before: u32) {
+        if let Some(spot) = self.spots.get_mut(task as usize) {
+            spot.before = before;
+        }
     }
 
     /// Puts the task on the list of its place.
     pub(crate) fn enter(&mut self, table: &Table, task: u32) {
         let place = self.place_of(table, task);
         let next = self.first.at(place);
-        self.here.set(task, place);
-        self.next.set(task, next);
-        self.before.set(task, NONE);
-        self.before.set(next, task);
+        if let Some(spot) = self.spots.get_mut(task as usize) {
+            *spot = Spot {
+                place,
+                next,
+                before: NONE,
+            };
+        }
+        self.set_before(next, task);
         self.first.set(place, task);
     }
 
     /// The place on whose list the task is.
     #[inline(always)]
     pub(crate) fn here(&self, task: u32) -> u32 {
-        self.here.at(task)
+        self.spot(task).place
     }
 
     /// Takes the task off the list of its place.
     pub(crate) fn leave(&mut self, task: u32) {
-        let place = self.here.at(task);
-        let next = self.next.at(task);
-        let before = self.before.at(task);
+        let Spot {
+            place,
+            next,
+            before,
+        } = self.spot(task);
         if before == NONE {
             self.first.set(place, next);
-        } else {
-            self.next.set(before, next);
+        } else if let Some(spot) = self.spots.get_mut(before as usize) {
+            spot.next = next;
         }
-        self.before.set(next, before);
+        self.set_before(next, before);
     }
 
     /// Has a task that is on a list go another way.

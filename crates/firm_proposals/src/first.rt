@@ -6,7 +6,7 @@ use crate::classes::Classes;
 use crate::draft::{Draft, Step, UNIT};
 use crate::links::Links;
 use crate::numbers::{NONE, Numbers};
-use crate::sides::{Found, Side, View};
+use crate::sides::{Found, MOST_IN_TURN, Side, View};
 use crate::table::{Span, Table};
 use crate::work::Work;
 use std::alloc::{AllocError, Global};
@@ -82,10 +82,8 @@ impl First {
     pub(crate) fn choose(&mut self, table: &Table, draft: &mut Draft, work: &mut Work) -> bool
         ensures most { work.new.most ≡ work.old.most }
     {
-        self.links.read(table, draft);
+        self.links.clear();
         self.classes.clear(table);
-        self.ahead.read(table, draft, &self.links);
-        self.behind.read(table, draft, &self.links);
         self.search = 0;
         self.alive = 0;
         for task in 0..table.tasks() {
@@ -98,9 +96,7 @@ impl First {
                 return false;
             }
             self.chosen.set(task, place);
-            if self.links.may_move(task) {
-                draft.leave(task);
-            }
+            self.links.leave(draft, task);
         }
         true
     }
@@ -111,9 +107,6 @@ impl First {
     {
         let (own, wait) = (table.own_way(task), table.wait_way(task));
         let begun = time_of(table, task);
-        if draft.taken(task) == wait && !self.links.may_move(task) {
-            return table.outside();
-        }
         if own != NONE
             && self.turn_to(
                 table,
@@ -146,22 +139,25 @@ impl First {
         ensures most { work.new.most ≡ work.old.most }
     {
         let preferred = table.preferred_ways(task);
-        let mut next = self.next_tight(preferred.from, preferred);
+        let mut next = next_tight(table, draft, preferred);
+        let mut at_hub = AtHub::before(table, draft, task);
+        if next == NONE && at_hub == AtHub::No {
+            return NONE;
+        }
         let mut machine = self.first_alive(table, draft);
-        let mut at_hub = self.at_hub(table, draft, task);
         let begun = time_of(table, task).saturating_add(1);
         for _ in 0..table.way_count().saturating_add(table.machines()) {
-            let wanted = if next < preferred.to {
-                table.way(next).place
-            } else {
-                NONE
-            };
+            let wanted = table.way(next).place;
             if wanted != NONE && (wanted <= machine || at_hub == AtHub::No) {
                 let time = begun.saturating_add(wanted);
                 if self.turn_to(table, draft, Trial { at: next, time }, work) {
                     return wanted;
                 }
-                next = self.next_tight(next.saturating_add(1), preferred);
+                let behind = Span {
+                    from: next.saturating_add(1),
+                    ..preferred
+                };
+                next = next_tight(table, draft, behind);
             } else if machine >= table.machines() || at_hub == AtHub::No {
                 return NONE;
             } else if table.is_near(task, machine) || !self.is_alive(table, draft, machine) {
@@ -179,27 +175,6 @@ impl First {
             }
         }
         NONE
-    }
-
-    // The first of some ways from this one on that costs no more; their end if there is none.
-    fn next_tight(&self, from: u32, ways: Span) -> u32 {
-        for way in from..ways.to {
-            if self.links.is_tight(way) {
-                return way;
-            }
-        }
-        ways.to
-    }
-
-    fn at_hub(&self, table: &Table, draft: &Draft, task: u32) -> AtHub {
-        let way = table.hub_way(task);
-        if draft.taken(task) == way {
-            AtHub::Yes
-        } else if self.links.is_tight(way) {
-            AtHub::Unasked
-        } else {
-            AtHub::No
-        }
     }
 
     // The first machine to which a unit at the hub may yet go. Once one may not it never will.
@@ -228,7 +203,7 @@ impl First {
         if draft.taken(way.task) == at {
             return true;
         }
-        if !self.links.is_tight(at) {
+        if !draft.is_tight(table, at) {
             return false;
         }
         let to = draft.place_of(table, way.task);
@@ -297,6 +272,11 @@ impl First {
         if !work.begin_search() {
             return false;
         }
+        if !self.links.are_read() {
+            self.links.read(table, draft, self.now);
+            self.ahead.read(table, draft, &self.links);
+            self.behind.read(table, draft, &self.links);
+        }
         let met = self.meet(table, draft, wish, work);
         if met == NONE {
             return false;
@@ -310,49 +290,70 @@ impl First {
     fn meet(&mut self, table: &Table, draft: &Draft, wish: Wish, work: &mut Work) -> u32
         ensures most { work.new.most ≡ work.old.most }
     {
-        let view = View {
+        let mut view = View {
             table,
             draft,
             links: &self.links,
             classes: &self.classes,
             search: self.search,
+            class: self.classes.of(wish.from),
+            turn: 1,
             now: self.now,
         };
         self.ahead.begin(view, wish.from);
         self.behind.begin(view, wish.to);
         // Once more than looks are left, so that a lack of them is told.
         for _ in 0..work.left().saturating_add(1) {
-            if !work.look() {
-                return NONE;
-            }
-            match self.ahead.look(view, &self.behind) {
+            match self.ahead.look(view, &self.behind, work) {
                 Found::On => {}
                 Found::Met(place) => return place,
                 Found::Closed => {
                     self.classes.part(self.ahead.seen(), wish.time, true);
                     return NONE;
                 }
+                Found::Short => return NONE,
             }
-            if !work.look() {
-                return NONE;
-            }
-            match self.behind.look(view, &self.ahead) {
+            match self.behind.look(view, &self.ahead, work) {
                 Found::On => {}
                 Found::Met(place) => return place,
                 Found::Closed => {
                     self.classes.part(self.behind.seen(), wish.time, false);
                     return NONE;
                 }
+                Found::Short => return NONE,
             }
+            view.turn = view.turn.saturating_mul(2).min(MOST_IN_TURN);
         }
         NONE
     }
 }
 
 impl AtHub {
+    // As it is before a search.
+    fn before(table: &Table, draft: &Draft, task: u32) -> AtHub {
+        let way = table.hub_way(task);
+        if draft.taken(task) == way {
+            AtHub::Yes
+        } else if draft.is_tight(table, way) {
+            AtHub::Unasked
+        } else {
+            AtHub::No
+        }
+    }
+
     fn of(is_there: bool) -> AtHub {
         if is_there { AtHub::Yes } else { AtHub::No }
     }
+}
+
+// The first of some ways of a task that costs no more than it pays; `NONE` if there is none.
+fn next_tight(table: &Table, draft: &Draft, ways: Span) -> u32 {
+    for way in ways.from..ways.to {
+        if draft.is_tight(table, way) {
+            return way;
+        }
+    }
+    NONE
 }
 
 // The time of the task's first choice.

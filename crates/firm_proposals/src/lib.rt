@@ -26,8 +26,8 @@
 //!    led nowhere once is dead. Where no such way is left, one search for a shortest path from all of them has prices
 //!    rise (or fall, for what is pulled).
 //! 3. **First** (`first.rt`, `links.rt`, `sides.rt`): for each task in order the choice that ranks first. A unit goes
-//!    round over ways that cost nothing more, found by a search from both ends, each look of the one followed by a look
-//!    of the other. A search that fails has seen all that leads on from its start, or all that leads to its goal.
+//!    round over ways that cost nothing more, found by a search from both ends, which look in turn, a few looks each. A
+//!    search that fails has seen all that leads on from its start, or all that leads to its goal.
 //! 4. **Classes** (`classes.rt`): what such a search saw becomes a class of its own, dearer or cheaper than its parent
 //!    from the time of the choice on. These are the levels behind the amounts.
 //!

@@ -55,6 +55,19 @@ impl Market {
         self.lacks().max(self.rest())
     }
 
+    // Counts a task that stands so.
+    #[inline(always)]
+    fn count(&mut self, stand: Stand) {
+        let counted = match stand {
+            Stand::Sure => &mut self.sure,
+            Stand::Tie => &mut self.ties,
+            Stand::HomeTie => &mut self.movable,
+            Stand::Left => &mut self.left,
+            Stand::LeftTie | Stand::Settled => return,
+        };
+        *counted = counted.saturating_add(1);
+    }
+
     /// Whether the price is right and few tasks are left, by the number of all.
     pub(crate) fn is_right(&self, tasks: u32) -> bool {
         self.gap() == 0 && self.left.saturating_mul(MANY) <= tasks
@@ -72,38 +85,76 @@ impl Market {
     }
 }
 
-/// The tasks that may yet move where prices fall.
+/// How sure a task's place is at the hub's price.
+#[derive(Clone, Copy)]
+pub(crate) enum Stand {
+    /// It is at the hub, and had rather not wait.
+    Sure,
+    /// It is at the hub, and as well waits.
+    Tie,
+    /// It is on its own machine, pays the hub's price, and as well waits.
+    HomeTie,
+    /// It had rather not wait, and finds no slot where it had rather be than at the hub.
+    Left,
+    /// It finds no slot where it as well is, and as well waits.
+    LeftTie,
+    Settled,
+}
+
+/// The tasks that may yet move where prices fall, and how each stands at the last price.
 #[derive(Drop)]
 pub(crate) struct Traders {
-    // Tasks that wait, and tasks that prefer machines.
-    waiting: Stack,
+    // Tasks that may stand on machines, as they run or prefer some; those that prefer some; and those that wait too.
+    movers: Stack,
     near: Stack,
+    waiting: Stack,
+    stands: Vec<Stand>,
 }
 
 impl Traders {
     pub(crate) fn new(alloc: Global, nodes: usize) -> Result<Traders, AllocError> {
-        let waiting = Stack::new(alloc, nodes)?;
+        let movers = Stack::new(alloc, nodes)?;
         let near = Stack::new(alloc, nodes)?;
-        Ok(Traders { waiting, near })
+        let waiting = Stack::new(alloc, nodes)?;
+        let stands = vec![in alloc; Stand::Settled; nodes]?;
+        Ok(Traders {
+            movers,
+            near,
+            waiting,
+            stands,
+        })
     }
 
     pub(crate) fn read(&mut self, table: &Table) {
-        self.waiting.clear();
+        self.movers.clear();
         self.near.clear();
+        self.waiting.clear();
         for task in 0..table.tasks() {
+            let runs = table.home(task) != NONE;
             let preferred = table.preferred_ways(task);
-            if preferred.from < preferred.to {
+            let prefers = preferred.from < preferred.to;
+            if runs || prefers {
+                self.movers.push(task);
+            }
+            if prefers {
                 self.near.push(task);
-                if table.home(task) == NONE {
-                    self.waiting.push(task);
-                }
+            }
+            if prefers && !runs {
+                self.waiting.push(task);
             }
         }
     }
 
+    /// How the task stands at the last price.
+    #[inline(always)]
+    pub(crate) fn stand(&self, task: u32) -> Stand {
+        let stand = self.stands.get(task as usize);
+        stand.copied().unwrap_or(Stand::Settled)
+    }
+
     /// What the tasks do where the hub has this price.
     pub(crate) fn trade(
-        &self,
+        &mut self,
         table: &Table,
         draft: &mut Draft,
         price: u32,
@@ -131,7 +182,11 @@ impl Traders {
             if !work.look() {
                 break;
             }
-            settle(table, draft, task, &mut market);
+            let found = settle(table, draft, task, price);
+            market.count(found);
+            if let Some(stand) = self.stands.get_mut(task as usize) {
+                *stand = found;
+            }
         }
         let slots = count_slots(table, draft, price);
         market.needs = slots.from;
@@ -144,11 +199,11 @@ impl Traders {
         ensures most { work.new.most ≡ work.old.most }
     {
         let mut falls = false;
-        for task in 0..table.tasks() {
+        for at in 0..self.movers.count() {
             if !work.look() {
                 return;
             }
-            falls = yields(table, draft, task) || falls;
+            falls = yields(table, draft, self.movers.at(at)) || falls;
         }
         for _ in 0..MOST_PASSES {
             if !falls {
@@ -275,65 +330,81 @@ fn forget(table: &Table, draft: &mut Draft) {
     }
 }
 
-// Has a task that is left out take its cheapest way, unless that leads to machines without room; counts it.
-fn settle(table: &Table, draft: &mut Draft, task: u32, market: &mut Market) {
-    if draft.taken(task) == NONE {
-        settle_left(table, draft, task, market);
-    }
+// Has a task that is left out take its cheapest way, unless that leads to machines without room; gives how it stands
+// at the hub's price.
+#[inline(always)]
+fn settle(table: &Table, draft: &mut Draft, task: u32, price: u32) -> Stand {
+    let stand = if draft.taken(task) == NONE {
+        settle_left(table, draft, task)
+    } else {
+        Stand::Settled
+    };
     let home = table.home(task);
     if home != NONE
-        && draft.price(home) == market.price
+        && draft.price(home) == price
         && draft.taken(task) == table.own_way(task)
-        && draft.paid(table.way(table.wait_way(task))) == market.price
+        && table.way(table.wait_way(task)).cost == price
     {
-        market.movable = market.movable.saturating_add(1);
+        return Stand::HomeTie;
     }
+    stand
 }
 
-fn settle_left(table: &Table, draft: &mut Draft, task: u32, market: &mut Market) {
+#[inline(always)]
+fn settle_left(table: &Table, draft: &mut Draft, task: u32) -> Stand {
     let ways = table.ways_of(task);
     let hub_way = ways.to.saturating_sub(2);
     if ways.from == hub_way {
-        settle_wide(table, draft, task, market);
-        return;
+        return settle_wide(table, draft, task);
     }
+    settle_near(table, draft, task)
+}
+
+// For a task that some machines may cost less than others.
+fn settle_near(table: &Table, draft: &mut Draft, task: u32) -> Stand {
+    let ways = table.ways_of(task);
+    let hub_way = table.hub_way(task);
     let best = draft.cheapest(table, ways, NONE);
     if best.way > hub_way {
         draft.take(task, best.way);
-        return;
+        return Stand::Settled;
     }
     let machine_ways = Span {
-        from: ways.from,
         to: hub_way,
+        ..ways
     };
     let way = least_wanted(table, draft, machine_ways, best.paid);
-    let is_sure = draft.paid(table.way(table.wait_way(task))) > best.paid;
     if way != NONE {
         draft.take(task, way);
         draft.add_load(table.way(way).place);
-    } else if draft.paid(table.way(hub_way)) == best.paid {
+        return Stand::Settled;
+    }
+    let is_sure = table.way(table.wait_way(task)).cost > best.paid;
+    let is_at_hub = draft.paid(table.way(hub_way)) == best.paid;
+    if is_at_hub {
         draft.take(task, hub_way);
-        market.sure = market.sure.saturating_add(u32::from(is_sure));
-        market.ties = market.ties.saturating_add(u32::from(!is_sure));
-    } else {
-        market.left = market.left.saturating_add(u32::from(is_sure));
+    }
+    match (is_at_hub, is_sure) {
+        (true, true) => Stand::Sure,
+        (true, false) => Stand::Tie,
+        (false, true) => Stand::Left,
+        (false, false) => Stand::LeftTie,
     }
 }
 
-// The same for a task that no machine costs less than others.
-fn settle_wide(table: &Table, draft: &mut Draft, task: u32, market: &mut Market) {
-    let hub_way = table.ways_of(task).from;
-    let wait_way = hub_way.saturating_add(1);
-    let wide = table.way(hub_way).cost.saturating_add(market.price);
+// For a task that no machine costs less than others.
+#[inline(always)]
+fn settle_wide(table: &Table, draft: &mut Draft, task: u32) -> Stand {
+    let hub_way = table.hub_way(task);
+    let wait_way = table.wait_way(task);
+    let wide = draft.paid(table.way(hub_way));
     let wait = table.way(wait_way).cost;
     if wait < wide {
         draft.take(task, wait_way);
-        return;
+        return Stand::Settled;
     }
     draft.take(task, hub_way);
-    let is_sure = u32::from(wait > wide);
-    market.sure = market.sure.saturating_add(is_sure);
-    market.ties = market.ties.saturating_add(1u32.saturating_sub(is_sure));
+    if wait > wide { Stand::Sure } else { Stand::Tie }
 }
 
 /// How many slots are left on machines of this price that cost less, and how many that cost as much.

@@ -43,11 +43,17 @@ impl Numbers {
         self.set(place, number);
     }
 
+    /// The first `count`, or all of them if there are fewer.
+    #[inline(always)]
+    pub(crate) fn first(&self, count: u32) -> &[u32] {
+        let end = self.items.len().min(count as usize);
+        &self.items[..end]
+    }
+
     /// Makes each of the first `count` this number.
     pub(crate) fn reset(&mut self, count: u32, number: u32) {
-        for place in 0..count {
-            self.set(place, number);
-        }
+        let end = self.items.len().min(count as usize);
+        self.items[..end].fill(number);
     }
 }
 
@@ -66,6 +72,10 @@ impl Stack {
 
     pub(crate) fn count(&self) -> u32 {
         self.count
+    }
+
+    pub(crate) fn as_slice(&self) -> &[u32] {
+        self.items.first(self.count)
     }
 
     #[inline(always)]

@@ -1,11 +1,16 @@
 //! The two sides of a search for a path: what leads on from its start, and what leads to its goal.
+ghost use Rattle.std.specs.Prelude.{◌≡◌};
 
 use crate::classes::Classes;
 use crate::draft::{Draft, Step, UNIT};
-use crate::links::{Links, Look, UnitLinks, Walk};
-use crate::numbers::{NONE, Numbers, Stack};
+use crate::links::{Link, Links, UnitLinks, Walk};
+use crate::numbers::{NONE, Stack};
 use crate::table::Table;
+use crate::work::Work;
 use std::alloc::{AllocError, Global};
+
+/// How many looks a side has at most before it is the other's turn.
+pub(crate) const MOST_IN_TURN: u32 = 8;
 
 /// What a search looks at.
 #[derive(Clone, Copy)]
@@ -14,8 +19,11 @@ pub(crate) struct View<'a> {
     pub(crate) draft: &'a Draft,
     pub(crate) links: &'a Links,
     pub(crate) classes: &'a Classes,
-    /// The number of the search.
+    /// The number of the search, and the class of the places in it.
     pub(crate) search: u32,
+    pub(crate) class: u32,
+    /// How many looks a side has before it is the other's turn.
+    pub(crate) turn: u32,
     /// The first task that may still move.
     pub(crate) now: u32,
 }
@@ -29,6 +37,8 @@ pub(crate) enum Found {
     Closed,
     /// A place that the other side saw too.
     Met(u32),
+    /// No look is left.
+    Short,
 }
 
 /// Machines that are looked at in turn; each round begins with the one at which the last round ended.
@@ -94,15 +104,32 @@ impl Circle {
     }
 }
 
+/// The search in which a place was seen last, and the step by which it was.
+#[derive(Clone, Copy)]
+struct Mark {
+    search: u32,
+    before: u32,
+    by: u32,
+}
+
+impl Mark {
+    // Not seen.
+    const NONE: Mark = Mark {
+        search: NONE,
+        before: NONE,
+        by: NONE,
+    };
+}
+
 /// The places that a side saw, depth first; hub and outside, which have many links, come last.
 #[derive(Drop)]
 pub(crate) struct Side {
     is_ahead: bool,
     seen: Stack,
-    // The search in which each place was seen last, and the step by which it was.
-    marks: Numbers,
-    before: Numbers,
-    by: Numbers,
+    marks: Vec<Mark>,
+    // Whether the hub and the outside were seen in this search.
+    saw_hub: bool,
+    saw_outside: bool,
     walks: Vec<Walk>,
     depth: u32,
     far: Stack,
@@ -114,9 +141,7 @@ pub(crate) struct Side {
 impl Side {
     pub(crate) fn new(alloc: Global, nodes: usize, is_ahead: bool) -> Result<Side, AllocError> {
         let seen = Stack::new(alloc, nodes)?;
-        let marks = Numbers::new(alloc, nodes)?;
-        let before = Numbers::new(alloc, nodes)?;
-        let by = Numbers::new(alloc, nodes)?;
+        let marks = vec![in alloc; Mark::NONE; nodes]?;
         let walks = vec![in alloc; Walk::NONE; nodes]?;
         let far = Stack::new(alloc, 2)?;
         let at_hub = Circle::new(alloc, nodes)?;
@@ -125,8 +150,8 @@ impl Side {
             is_ahead,
             seen,
             marks,
-            before,
-            by,
+            saw_hub: false,
+            saw_outside: false,
             walks,
             depth: 0,
             far,
@@ -137,7 +162,8 @@ impl Side {
 
     /// Forgets all searches, and reads between which machines and the hub or the outside units may go.
     pub(crate) fn read(&mut self, table: &Table, draft: &Draft, links: &Links) {
-        self.marks.reset(table.places(), NONE);
+        let end = self.marks.len().min(table.places() as usize);
+        self.marks[..end].fill(Mark::NONE);
         self.at_hub.clear();
         self.at_edge.clear();
         let hub = draft.price(table.hub());
@@ -162,118 +188,193 @@ impl Side {
         self.far.clear();
         self.depth = 0;
         self.seen.push(place);
-        self.marks.set(place, view.search);
-        self.before.set(place, NONE);
+        self.saw_hub = place == view.table.hub();
+        self.saw_outside = place == view.table.outside();
+        if let Some(mark) = self.marks.get_mut(place as usize) {
+            let search = view.search;
+            *mark = Mark {
+                search,
+                ..Mark::NONE
+            };
+        }
         self.walk(view, place);
     }
 
-    /// Looks at one thing.
     #[inline(always)]
-    pub(crate) fn look(&mut self, view: View, other: &Side) -> Found {
-        if self.depth == 0 {
-            let place = self.far.pop();
-            if place == NONE {
-                return Found::Closed;
-            }
-            self.walk(view, place);
-            return Found::On;
-        }
-        let top = self.depth.saturating_sub(1);
-        let Some(walk) = self.walks.get_mut(top as usize) else {
-            return Found::Closed;
-        };
-        let place = walk.place;
-        if walk.units.machines > 0 {
-            walk.units.machines = walk.units.machines.saturating_sub(1);
-            return self.look_round(view, other, place);
-        }
-        let look = if self.is_ahead {
-            view.links.look_ahead(view.table, view.draft, walk)
-        } else {
-            view.links
-                .look_behind(view.table, view.draft, walk, view.now)
-        };
-        if walk.is_done() {
-            self.depth = top;
-        }
-        match look {
-            Look::Nothing => Found::On,
-            Look::At(to, by) => self.see(
-                view,
-                other,
-                Step {
-                    from: place,
-                    to,
-                    by,
-                },
-            ),
-        }
+    fn mark(&self, place: u32) -> Mark {
+        let mark = self.marks.get(place as usize);
+        mark.copied().unwrap_or(Mark::NONE)
     }
 
-    // Looks at a machine between which and the hub or the outside a unit may go. One of another class is forgotten:
-    // classes that were parted stay so.
     #[inline(always)]
-    fn look_round(&mut self, view: View, other: &Side, place: u32) -> Found {
-        let is_hub = place == view.table.hub();
-        let circle = if is_hub {
-            &mut self.at_hub
+    fn has_seen(&self, view: View, place: u32) -> bool {
+        self.mark(place).search == view.search
+    }
+
+    /// Looks at what comes next, up to a new place that leads on.
+    #[inline(always)]
+    pub(crate) fn look(&mut self, view: View, other: &Side, work: &mut Work) -> Found
+        ensures most { work.new.most ≡ work.old.most }
+    {
+        if self.depth == 0 {
+            return self.look_far(view, work);
+        }
+        let top = self.depth.saturating_sub(1);
+        let mut walk = self.walks.get(top as usize).copied().unwrap_or(Walk::NONE);
+        let place = if walk.units.machines > 0 {
+            self.look_round(view, other, &mut walk, work)
         } else {
-            &mut self.at_edge
+            self.look_along(view, &mut walk, work)
         };
-        let machine = circle.take();
-        if !view.classes.are_one(place, machine) {
-            circle.forget();
+        if work.is_short() {
+            return Found::Short;
+        }
+        if walk.is_done() {
+            self.depth = top;
+        } else if let Some(kept) = self.walks.get_mut(top as usize) {
+            *kept = walk;
+        }
+        if place == NONE {
             return Found::On;
         }
+        if other.has_seen(view, place) {
+            return Found::Met(place);
+        }
+        self.enter(view, place);
+        Found::On
+    }
+
+    // Looks whether the hub or the outside is left.
+    fn look_far(&mut self, view: View, work: &mut Work) -> Found
+        ensures most { work.new.most ≡ work.old.most }
+    {
+        if !work.look() {
+            return Found::Short;
+        }
+        let place = self.far.pop();
+        if place == NONE {
+            return Found::Closed;
+        }
+        self.walk(view, place);
+        Found::On
+    }
+
+    // Looks at machines between which and the hub or the outside a unit may go, up to a new one that leads on, which it
+    // gives; `NONE` if there is none. One of another class is forgotten: classes that were parted stay so.
+    #[inline(always)]
+    fn look_round(&mut self, view: View, other: &Side, walk: &mut Walk, work: &mut Work) -> u32
+        ensures most { work.new.most ≡ work.old.most }
+    {
+        let from = walk.place;
+        let is_hub = from == view.table.hub();
+        for _ in 0..view.turn {
+            if walk.units.machines == 0 || !work.look() {
+                return NONE;
+            }
+            walk.units.machines = walk.units.machines.saturating_sub(1);
+            let circle = if is_hub {
+                &mut self.at_hub
+            } else {
+                &mut self.at_edge
+            };
+            let to = circle.take();
+            if view.classes.of(to) != view.class {
+                circle.forget();
+            } else if self.goes(view, is_hub, to)
+                && self.mark_new(view, Step { from, to, by: UNIT })
+            {
+                if other.has_seen(view, to) || self.leads_on(view, to) {
+                    return to;
+                }
+                self.seen.push(to);
+            }
+        }
+        NONE
+    }
+
+    // Whether a unit may go between the hub or the outside and a machine.
+    #[inline(always)]
+    fn goes(&self, view: View, is_hub: bool, machine: u32) -> bool {
         let (links, draft) = (view.links, view.draft);
-        let goes = match (is_hub, self.is_ahead) {
+        match (is_hub, self.is_ahead) {
             (true, true) => true,
             (true, false) => draft.is_loose(machine),
             (false, true) => links.may_leave(draft, machine),
             (false, false) => links.may_come(draft, machine),
-        };
-        if !goes {
-            return Found::On;
         }
-        let step = Step {
-            from: place,
-            to: machine,
-            by: UNIT,
-        };
-        self.see(view, other, step)
     }
 
-    // Sees a place, unless it did or the place is of another class.
+    // Looks along a walk, up to a new place, which it gives; `NONE` if there is none.
     #[inline(always)]
-    fn see(&mut self, view: View, other: &Side, step: Step) -> Found {
-        if self.marks.at(step.to) == view.search || !view.classes.are_one(step.from, step.to) {
-            return Found::On;
+    fn look_along(&mut self, view: View, walk: &mut Walk, work: &mut Work) -> u32
+        ensures most { work.new.most ≡ work.old.most }
+    {
+        let from = walk.place;
+        for _ in 0..view.turn {
+            if walk.is_done() || !work.look() {
+                return NONE;
+            }
+            let Link { by, at: to } = if self.is_ahead {
+                view.links.look_ahead(view.table, view.draft, walk)
+            } else {
+                view.links
+                    .look_behind(view.table, view.draft, walk, view.now)
+            };
+            if self.mark_new(view, Step { from, to, by }) {
+                return to;
+            }
         }
-        self.marks.set(step.to, view.search);
-        self.before.set(step.to, step.from);
-        self.by.set(step.to, step.by);
-        if other.marks.at(step.to) == view.search {
-            return Found::Met(step.to);
+        NONE
+    }
+
+    // Marks a place as seen by this step, and says whether it is new: it was not seen, and is of the search's class.
+    #[inline(always)]
+    fn mark_new(&mut self, view: View, step: Step) -> bool {
+        let search = view.search;
+        let Some(mark) = self.marks.get_mut(step.to as usize) else {
+            return false;
+        };
+        if mark.search == search || view.classes.of(step.to) != view.class {
+            return false;
         }
-        self.seen.push(step.to);
-        if step.to < view.table.hub() {
-            self.walk(view, step.to);
+        *mark = Mark {
+            search,
+            before: step.from,
+            by: step.by,
+        };
+        true
+    }
+
+    // Goes into a new place, the hub and the outside later.
+    #[inline(always)]
+    fn enter(&mut self, view: View, place: u32) {
+        self.seen.push(place);
+        if place < view.table.hub() {
+            self.walk(view, place);
         } else {
-            self.far.push(step.to);
+            self.saw_hub = self.saw_hub || place == view.table.hub();
+            self.saw_outside = self.saw_outside || place == view.table.outside();
+            self.far.push(place);
         }
-        Found::On
+    }
+
+    // Whether there is anything to look at from a machine.
+    #[inline(always)]
+    fn leads_on(&self, view: View, machine: u32) -> bool {
+        let has_links = if self.is_ahead {
+            view.draft.first(machine) != NONE
+        } else {
+            view.links.lead_to(machine)
+        };
+        has_links || !self.units_of(view, machine).are_none()
     }
 
     // Goes into a place, if it leads anywhere.
     #[inline(always)]
     fn walk(&mut self, view: View, place: u32) {
-        let (hub, outside) = (view.table.hub(), view.table.outside());
+        let hub = view.table.hub();
         let units = if place < hub {
-            UnitLinks {
-                outside: self.marks.at(outside) != view.search,
-                hub: self.marks.at(hub) != view.search,
-                machines: 0,
-            }
+            self.units_of(view, place)
         } else if place == hub {
             UnitLinks::with(self.at_hub.begin())
         } else {
@@ -293,13 +394,32 @@ impl Side {
         }
     }
 
+    // A machine's links with the outside and the hub, but for those that were seen.
+    #[inline(always)]
+    fn units_of(&self, view: View, machine: u32) -> UnitLinks {
+        let (links, draft) = (view.links, view.draft);
+        let outside = !self.saw_outside
+            && if self.is_ahead {
+                links.leads_outside(draft, machine)
+            } else {
+                links.comes_from_outside(draft, machine)
+            };
+        let hub = !self.saw_hub
+            && draft.price(machine) == draft.price(view.table.hub())
+            && (!self.is_ahead || draft.is_loose(machine));
+        UnitLinks {
+            outside,
+            hub,
+            machines: 0,
+        }
+    }
+
     /// The step between a place and the one from which this side saw it; none where it began.
     pub(crate) fn step(&self, place: u32) -> Option<Step> {
-        let before = self.before.at(place);
+        let Mark { before, by, .. } = self.mark(place);
         if before == NONE {
             return None;
         }
-        let by = self.by.at(place);
         if self.is_ahead {
             Some(Step {
                 from: before,
@@ -323,7 +443,7 @@ impl Side {
                 return;
             };
             draft.make(table, step);
-            place = self.before.at(place);
+            place = self.mark(place).before;
         }
     }
 }
