@@ -169,7 +169,7 @@ impl Desk {
 
 impl Asked {
     /// Whether the round is answered, as far as one load tells. A `false` may be old when it is read.
-    pub fn is_answered(&self) -> bool {
+    pub(crate) fn is_answered(&self) -> bool {
         self.side.is_answered()
     }
 

@@ -12,6 +12,7 @@ ghost use Rattle.firm_hall.specs.inner.Held.{held_answer, held_is, known_text, m
 ghost use Rattle.firm_hall.specs.inner.Held.{waits_for};
 
 use crate::change_bytes::{bytes_of_line, bytes_of_reply};
+use crate::patience::{Looks, Patience};
 use firm_rules::{Command, Name, Reply};
 use firm_table::{LineAnswer, ServeFault, write_held};
 use firm_text::Sink;
@@ -43,6 +44,8 @@ pub(crate) struct Held {
     output: Vec<u8>,
     // How many bytes of text the changes in the known answers have.
     bytes: u64,
+    // How long those that wait are looked for.
+    patience: Patience,
 }
 
 impl Model for Held {
@@ -68,6 +71,7 @@ impl Held {
             answers,
             output: Vec::new(alloc),
             bytes: 0,
+            patience: Patience::FULL,
         })
     }
 
@@ -90,6 +94,11 @@ impl Held {
             (bytes_in self.now.answers < most_bytes_held) }
     {
         MOST_BYTES_HELD <= self.bytes
+    }
+
+    // How many looks in vain come before a sleep, while several rounds are away or one is.
+    pub(crate) fn most_looks(&self, are_several: bool) -> u32 {
+        self.patience.most_looks(are_several)
     }
 
     // How many answers are held.
@@ -157,6 +166,7 @@ impl Held {
         requires { (command : Command) × FirstIsAt place command at self.old.answers }
         ensures { self.new ≡ held_is (filled place reply self.old.answers) self.old.output }
     {
+        self.patience = self.patience.after_round();
         self.bytes += bytes_of_reply(&reply);
         self.answers[at].answer(reply);
     }
@@ -178,8 +188,8 @@ impl Held {
         put
     }
 
-    // Writes the text to be written.
-    pub(crate) fn write<W: Sink>(&mut self, writer: &mut W) -> Result<(), ServeFault>
+    // Writes the text to be written, after a look behind these in vain.
+    pub(crate) fn write<W: Sink>(&mut self, writer: &mut W, looks: Looks) -> Result<(), ServeFault>
         requires { W.write_failed writer.old ≡ false }
         ensures ok { OnOk result (Appends (W.written writer.old) (W.written writer.new) self.old.output) }
         ensures empty { OnOk result (self.new.output ≡ []) }
@@ -189,6 +199,7 @@ impl Held {
         ensures cause { IfErr result (λ fault. IsWritingFault fault (W.write_failed writer.new)) }
         ensures well { OnOk result (W.write_failed writer.new ≡ false) }
     {
+        self.patience = self.patience.after_look(looks);
         write_held(writer, &mut self.output)
     }
 }

@@ -36,7 +36,8 @@
 //! Each time before it rests, the clerk has written all answers that are known with none missing before them: a clause
 //! of the one function that rests (`Serving::rest`). The writer is flushed at the end alone.
 //!
-//! A worker without a round looks 16 times, the last one awake 512 times, the clerk 1,024 times. Then they sleep:
+//! A worker without a round looks 16 times, the last one awake 512 times, the clerk 1,024 times, or 16 where
+//! rounds come late (`patience.rt`). Then they sleep:
 //!
 //! - a worker without a round: sleeps until it is called for a round, or the hall is shut; woken by the hall's `Bell`;
 //!   `shut` wakes all
@@ -72,6 +73,7 @@ mod empty;
 mod ending;
 mod halls;
 mod held;
+mod patience;
 mod places;
 mod returning;
 mod seating;

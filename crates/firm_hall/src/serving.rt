@@ -17,6 +17,7 @@ ghost use Rattle.firm_hall.specs.inner.Serving.{Passes, Takes, TellsAll, place_o
 use crate::desk_states::DeskState;
 use crate::halls::Hall;
 use crate::held::{Held, HeldAnswer};
+use crate::patience::Looks;
 use crate::seating::open_states;
 use crate::setting::Setting;
 use crate::unsettled::Unsettled;
@@ -287,11 +288,13 @@ impl Serving {
         Ok(())
     }
 
-    /// Looks at the rounds that are away, and writes the known answers, up to the first that waits.
+    /// Looks at the rounds that are away, behind these in vain, and writes the known answers, up to the first that
+    /// waits.
     pub(crate) fn write_out<R: Wait, W: Sink>(
         &mut self,
         setting: &Setting<'_, R>,
         writer: &mut W,
+        looks: Looks,
     ) -> Result<(), ServeFault>
         requires writer { W.write_failed writer.old ≡ false }
         requires open { IsOpen setting.now.hall.now.id self.old }
@@ -306,7 +309,7 @@ impl Serving {
         let Ok(()) = self.put_known() else {
             return Err(ServeFault::Memory);
         };
-        self.held.write(writer)
+        self.held.write(writer, looks)
     }
 
     /// Whether no answer is held.
@@ -321,6 +324,11 @@ impl Serving {
         ensures { result ≡ true → HasRoom self.now.answers }
     {
         self.held.has_room()
+    }
+
+    /// How many looks in vain come before a sleep: fewer while rounds come late.
+    pub(crate) fn most_looks(&self) -> u32 {
+        self.held.most_looks(self.unsettled.are_several())
     }
 
     /// How many answers are held.

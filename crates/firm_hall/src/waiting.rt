@@ -7,12 +7,12 @@ ghost use Rattle.firm_table.specs.Service.{IsWritingFault};
 ghost use Rattle.firm_hall.specs.inner.Serving.{Begins, Follows, HasTurn, IsFinished, IsOpen, IsWrittenOut, Passes};
 ghost use Rattle.firm_hall.specs.inner.Serving.{ServingIs};
 
+use crate::patience::Looks;
 use crate::serving::Serving;
 use crate::setting::Setting;
 use crossbeam_utils::sync::{EventCount, Key};
 use firm_table::ServeFault;
 use firm_text::{Sink, Source};
-use firm_tray::LOOKS_BEFORE_SLEEP;
 use std::alloc::Global;
 use std::hint::spin_loop;
 use std::sync::{Arc, Wait};
@@ -136,9 +136,14 @@ impl Serving {
         let mut looks = 0u32;
         for _ in setting.rt.forever() {
             // Whatever the looks that follow miss comes after the announcement and so ends the sleep.
-            let announced = (LOOKS_BEFORE_SLEEP <= looks).then(|| answers.prepare_wait());
+            let most = self.most_looks();
+            let announced = (most <= looks).then(|| answers.prepare_wait());
             let count = self.count();
-            self.write_out(setting, writer)?;
+            let before = Looks {
+                in_vain: looks,
+                most,
+            };
+            self.write_out(setting, writer, before)?;
             let waker = announced.is_some().then_some(answers);
             if awaited.look(self, waker) {
                 return Ok(());
