@@ -2,6 +2,7 @@
 
 from __future__ import annotations
 
+import fcntl
 import os
 import subprocess
 import sys
@@ -15,19 +16,29 @@ from shared import TENANT, CannotRun, Roster, Stream, compile_source, hear, hear
 
 HERE = Path(__file__).resolve().parent
 LONG = 45  # seconds after which a stream is not run again
-SHORT = 0.7  # seconds for which a round is run again at least
+SHORT = 2.0  # seconds for which a stream is run again at least
+REST = 0.005  # seconds before a round, in which all threads of the program fall asleep
+BATCH = 64  # lines
+MOST_PIPED = 1 << 20  # bytes, the most that Linux gives
+SOLVED = "3"  # times that LEMON solves a network in each turn
 ROUND = f"{TENANT} round"
 
 
 class Round(NamedTuple):
-    """A round's cost and network, its processor time, and that of the other program where there is one."""
+    """A round's cost, its network with how large that is, and how many tasks there are."""
 
     cost: int
     arcs: int
     tasks: int
-    seconds: float
-    beside: float | None
     network: str
+
+
+class Timed(NamedTuple):
+    """A round, and the least seconds that each program and each of LEMON's solvers took for it."""
+
+    round: Round
+    programs: list[float]
+    solvers: dict[str, float]
 
 
 class Counts(NamedTuple):
@@ -38,14 +49,6 @@ class Counts(NamedTuple):
     proposed: int
 
 
-class Solved(NamedTuple):
-    """What a solver took for a network, what its setup took, and the cost that it found."""
-
-    seconds: float
-    setup: float
-    cost: int
-
-
 class Measured(NamedTuple):
     """The replies of each part of a stream, the round's last, and the processor time of each round."""
 
@@ -54,72 +57,139 @@ class Measured(NamedTuple):
 
 
 class Served:
-    """A program, given by its first words, over a roster; each run reads a file and writes a file."""
+    """A program, given by its first words, with some tenants of one stream; it reads a pipe and writes a pipe."""
 
-    def __init__(self, words: list[str], roster: str) -> None:
+    def __init__(self, words: list[str], stream: Stream, tenants: int) -> None:
+        heading, row = stream.roster.splitlines()
+        self.names = [f"{TENANT}{number}" for number in range(tenants)]
+        self.stream = stream
         self.file = tempfile.NamedTemporaryFile("w", suffix=".csv")
-        self.file.write(roster)
+        self.file.writelines(line + "\n" for line in [heading, *(of_tenant(row, name) for name in self.names)])
         self.file.flush()
         self.words = [*words, "--roster", self.file.name]
 
-    def run(self, lines: list[str]) -> tuple[list[str], float]:
-        """The replies to these lines, and the processor time of the whole run."""
+    def run(self) -> Measured:
+        """Asks the stream of all tenants, part by part, each with a round of each tenant behind it."""
+        measured = Measured([], [])
+        with subprocess.Popen(self.words, stdin=subprocess.PIPE, stdout=subprocess.PIPE) as process:
+            assert process.stdin and process.stdout
+            fcntl.fcntl(process.stdout, fcntl.F_SETPIPE_SZ, MOST_PIPED)
+            clock = clock_of(process.pid)
+            for part in self.stream.parts:
+                replies = [self.ask_all(process, lines) for lines in batches(part)]
+                time.sleep(REST)
+                before = time.clock_gettime(clock)
+                replies.append(self.ask_all(process, [ROUND]))
+                measured.seconds.append((time.clock_gettime(clock) - before) / len(self.names))
+                measured.replies.append([reply for batch in replies for reply in batch])
+            process.stdin.close()
+            require(process.wait() == 0, "the program failed")
+        return measured
+
+    def ask_all(self, process: subprocess.Popen[bytes], lines: list[str]) -> list[str]:
+        """The replies to these lines of the stream, which must be the same for each tenant."""
+        assert process.stdin and process.stdout
+        process.stdin.write("".join(of_tenant(line, name) + "\n" for name in self.names for line in lines).encode())
+        process.stdin.flush()
+        replies = [[process.stdout.readline().decode() for _ in lines] for _ in self.names]
+        wanted = [of_stream(reply, self.names[0]) for reply in replies[0]]
+        for name, heard in zip(self.names, replies):
+            require([of_stream(reply, name) for reply in heard] == wanted, f"{name} gets other replies")
+        return wanted
+
+
+class ReadWhole(Served):
+    """A program that reads all its input before it answers. A round's time is that of a run from file to file that ends
+    with the round, less that of one that ends a line earlier."""
+
+    def run(self) -> Measured:
+        measured, lines = Measured([], []), list[str]()
+        for part in self.stream.parts:
+            lines += part
+            _, before = self.run_file(lines)
+            lines.append(ROUND)
+            replies, behind = self.run_file(lines)
+            measured.seconds.append(behind - before)
+            measured.replies.append(replies[-len(part) - 1 :])
+        return measured
+
+    def run_file(self, lines: list[str]) -> tuple[list[str], float]:
+        """The replies to these lines, asked for one tenant, and the processor time of the whole run."""
+        (name,) = self.names
         with tempfile.TemporaryFile("w+") as text, tempfile.TemporaryFile("w+") as output:
-            text.writelines(line + "\n" for line in lines)
+            text.writelines(of_tenant(line, name) + "\n" for line in lines)
             text.seek(0)
             process = subprocess.Popen(self.words, stdin=text, stdout=output)
             _, status, used = os.wait4(process.pid, 0)
             process.returncode = os.waitstatus_to_exitcode(status)
-            require(status == 0, "the program failed")
+            require(process.returncode == 0, "the program failed")
             output.seek(0)
-            return output.read().splitlines(), used.ru_utime + used.ru_stime
+            return [of_stream(reply, name) for reply in output], used.ru_utime + used.ru_stime
 
 
-def pair_of(served: Served, lines: list[str]) -> tuple[list[str], float]:
-    """The replies to these lines and a round, and its time: that of the run, less that of one without the round."""
-    _, before = served.run(lines)
-    replies, behind = served.run([*lines, ROUND])
-    return replies, behind - before
+def of_tenant(text: str, name: str) -> str:
+    """A row or a line of the stream as that of a tenant of this name."""
+    return name + text.removeprefix(TENANT)
 
 
-def run_repeatedly(programs: list[list[str]], stream: Stream, repeats: int) -> list[Measured]:
-    """Runs a stream part by part, by each program in turn.
-
-    A round's time is the middle of some pairs of runs, to the round's end and to the line before it; of more pairs
-    where they are short, of fewer where they take long.
-    """
-    services = [Served(words, stream.roster) for words in programs]
-    begun, measured = time.monotonic(), [Measured([], []) for _ in programs]
-    lines: list[str] = []
-    for part in stream.parts:
-        lines += part
-        started = time.monotonic()
-        turns: list[list[tuple[list[str], float]]] = []
-        while len(turns) < repeats or time.monotonic() - started < SHORT * len(programs):
-            turns.append([pair_of(served, lines) for served in services])
-            if time.monotonic() - begun > LONG * len(programs):
-                break
-        lines.append(ROUND)
-        for place, each in enumerate(measured):
-            each.seconds.append(median(turn[place][1] for turn in turns))
-            each.replies.append(turns[-1][place][0][-len(part) - 1 :])
-    return measured
+def of_stream(reply: str, name: str) -> str:
+    """The reply of the stream that this reply to a tenant stands for."""
+    require(reply.startswith(name) and reply.endswith("\n"), "the program ended, or left a line without a reply")
+    return TENANT + reply[len(name) : -1]
 
 
-def run_stream(words: list[str], other: list[str] | None, stream: Stream, repeats: int) -> list[Round]:
-    """The rounds of a stream, with their times; those of the other program, if there is one, must be the same."""
-    measured, *beside = run_repeatedly([words, *([other] if other else [])], stream, repeats)
-    others: list[float | None] = [None] * len(measured.seconds)
-    if beside:
-        require(beside[0].replies == measured.replies, "the two programs gave two outputs")
-        others = [*beside[0].seconds]
+def clock_of(pid: int) -> int:
+    """The system's clock of the processor time that all threads of a process take."""
+    return (~pid << 3) | 2
+
+
+def batches(lines: list[str]) -> list[list[str]]:
+    """The lines in pieces whose replies a pipe holds for all tenants."""
+    return [lines[start : start + BATCH] for start in range(0, len(lines), BATCH)]
+
+
+class Subjects(NamedTuple):
+    """What is measured: programs by their first words, with this many tenants, and one over LEMON's solvers, if any."""
+
+    programs: list[list[str]]
+    tenants: int
+    lemon: str | None
+    read_whole: bool  # the input, before they answer
+
+
+def time_stream(subjects: Subjects, stream: Stream, repeats: int) -> list[Timed]:
+    """The rounds of a stream, with the least times of some turns, of more where they are short and of fewer where they
+    take long: what a host does beside only adds to a time. Of differences of two runs, which it may lessen too, it is
+    the median. All programs must give the same replies."""
+    kind = ReadWhole if subjects.read_whole else Served
+    services = [kind(words, stream, subjects.tenants) for words in subjects.programs]
+    rounds = rounds_of(stream, services[0].run().replies)
+    begun, turns = time.monotonic(), list[list[Measured]]()
+    answers: list[list[dict[str, float]]] = []
+    while len(turns) < repeats or time.monotonic() - begun < SHORT * len(services):
+        turns.append([served.run() for served in services])
+        require(all(found.replies == turns[0][0].replies for found in turns[-1]), "two runs gave two outputs")
+        answers.append([solve(subjects.lemon, found) if subjects.lemon else {} for found in rounds])
+        if time.monotonic() - begun > LONG * len(services):
+            break
+    timed = []
+    for place, found in enumerate(rounds):
+        times = [[turn[number].seconds[place] for turn in turns] for number in range(len(services))]
+        programs = [median(each) if subjects.read_whole else min(each) for each in times]
+        names = answers[0][place]
+        timed.append(Timed(found, programs, {name: min(each[place][name] for each in answers) for name in names}))
+    return timed
+
+
+def rounds_of(stream: Stream, heard: list[list[str]]) -> list[Round]:
+    """The rounds of a stream that has these replies; each placement must be legal and cost what its reply says."""
     tenant, rounds = open_rows(stream.roster), []
-    for lines, replies, seconds, other_seconds in zip(stream.parts, measured.replies, measured.seconds, others):
+    for lines, replies in zip(stream.parts, heard):
         for line, reply in zip(lines, replies):
             hear(tenant, line, reply)
         rows = network(tenant)
         cost = hear_round(tenant, replies[-1])
-        rounds.append(Round(cost, len(rows.arcs), len(tenant.tasks), seconds, other_seconds, rows.text()))
+        rounds.append(Round(cost, len(rows.arcs), len(tenant.tasks), rows.text()))
     return rounds
 
 
@@ -146,8 +216,11 @@ def build_lemon(folder: str) -> str | None:
     return program
 
 
-def solve(lemon: str, text: str, repeats: int) -> dict[str, Solved]:
-    """What LEMON's solvers took and found, by their names."""
-    done = subprocess.run([lemon, str(repeats)], input=text, capture_output=True, text=True, check=True)
-    lines = [line.split() for line in done.stdout.splitlines()]
-    return {name: Solved(float(run), float(setup), int(cost)) for name, run, setup, cost in lines}
+def solve(lemon: str, found: Round) -> dict[str, float]:
+    """The least seconds of each of LEMON's solvers for a round's network; each must find the round's cost."""
+    done = subprocess.run([lemon, SOLVED], input=found.network, capture_output=True, text=True, check=True)
+    seconds = {}
+    for name, least, _, cost in map(str.split, done.stdout.splitlines()):
+        require(int(cost) == found.cost, f"the cost is {found.cost}, and LEMON's {name} finds {cost}")
+        seconds[name] = float(least)
+    return seconds

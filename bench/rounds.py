@@ -1,19 +1,19 @@
 """Measures rounds of the built program, with LEMON's solvers on the same networks beside it where LEMON is installed.
 
 usage: tools/run bench/rounds.py [--program FILE] [--measure FILE] [--beside FILE] [--sizes 100x20,..]
-                                 [--kinds fresh,..] [--repeats N] [--seed S] [--all-rounds] [--last] [--keep]
-                                 [--search]
+                                 [--kinds fresh,..] [--tenants N] [--repeats N] [--seed S] [--all-rounds] [--last]
+                                 [--keep] [--search] [--single]
 Prints tables in Markdown and keeps each round as a line of JSON in out/bench/rounds.jsonl; with `--search`, which times
-rounds found by searches alone, in out/bench/searched.jsonl. Times are processor times,
-the middle of some runs. Every placement is checked to be legal and to cost what the reply says, and that cost against
-LEMON's optimum; the exit status is 1 where one is wrong.
+rounds found by searches alone, in out/bench/searched.jsonl. Every placement is checked to be legal and to cost what the
+reply says, and that cost against LEMON's optimum; the exit status is 1 where one is wrong.
 
-A round's time, with one worker, from file to file, is the processor time of a run that ends with the round, less that
-of a run that ends one line earlier; the median of such pairs. It includes the way to the worker and back, the net, the
-flow, the choice among equal costs, the changes and their text. LEMON's time is `run()` of `NetworkSimplex` and
-`CostScaling` on the same network, without building it (as long again or less) or choosing among equal costs. Times are
-good to about a third, those below 0.3 ms to less: at 100 x 20 the paired runs differ by more than LEMON's time, and a
-figure may be negative. Looks and instructions are exact.
+Several tenants have the same stream and ask its rounds at once: as many as have 3,000 tasks together, 64 at most. A
+round's time, with one worker, is the processor time of all threads of the program from the first of these lines to the
+last reply, divided by the number of tenants: the least of some runs. It includes the ways of the line, to the worker
+and back, the choice, the changes and their text. A round that is asked alone (`--tenants 1`) takes longer, by the looks
+of the threads that wait for it before they sleep. With `--search` one tenant asks, from file to file. LEMON's time is
+`run()` of `NetworkSimplex` and `CostScaling` on the same network, without building it (as long again or less) or
+choosing among equal costs: the least of three times behind each of firm's runs. Looks are exact.
 """
 
 from __future__ import annotations
@@ -30,11 +30,13 @@ from typing import Callable, Iterable, TextIO
 import kept
 import results
 from kept import RoundRecord
-from measure import build_lemon, read_counts, run_stream, solve
+from measure import Subjects, build_lemon, read_counts, time_stream
 from shared import BUILT, CannotRun, Missed, built, kinds, program_file, require, run_script
 
 SIZES = "100x20,500x100,2000x500,3000x1000"
 ONE_WORKER = ("--workers", "1")
+MOST_TASKS = 3_000  # of all tenants together, so that their rows fit a processor's caches, as LEMON's network does
+MOST_TENANTS = 64
 
 
 @dataclass(frozen=True)
@@ -44,17 +46,25 @@ class Options:
     beside: str | None
     sizes: str
     kinds: str
+    tenants: int | None
     repeats: int
     seed: int
     all_rounds: bool
     last: bool
     keep: bool
     search: bool
+    single: bool
 
     @property
     def kept(self) -> str:
         """The file of the records."""
         return kept.SEARCHED if self.search else kept.ROUNDS
+
+    def tenants_at(self, tasks: int) -> int:
+        """How many tenants have a stream of this many tasks."""
+        if self.search:
+            return 1
+        return self.tenants or max(1, min(MOST_TENANTS, MOST_TASKS // tasks))
 
 
 def row(record: RoundRecord, timed: Iterable[str]) -> str:
@@ -76,33 +86,34 @@ def words_of(options: Options) -> tuple[list[str], list[str]]:
     """The first words of the program whose rounds are timed, and of the one that counts."""
     if options.search:
         return [options.measure, "--search"], [options.measure, "--search"]
+    if options.single:
+        return [options.measure], [options.measure]
     return [options.program, *ONE_WORKER], [options.measure]
 
 
 def measure_stream(options: Options, lemon: str | None, kind: str, size: str) -> list[RoundRecord]:
     """One record for each round of a stream."""
-    stream = kinds.make(kind, *kinds.read_size(size), options.seed)
+    tasks, machines = kinds.read_size(size)
+    stream = kinds.make(kind, tasks, machines, options.seed)
     served, measure = words_of(options)
-    beside = [options.beside, *ONE_WORKER] if options.beside else None
+    programs = [served, *([[options.beside, *ONE_WORKER]] if options.beside else [])]
     records, counts = [], read_counts(measure, stream)
-    for place, found in enumerate(run_stream(served, beside, stream, options.repeats)):
-        solved = solve(lemon, found.network, options.repeats) if lemon else {}
-        for name, answer in solved.items():
-            fault = f"{kind} {size}, round {place}: cost {found.cost}, and LEMON's {name} finds {answer.cost}"
-            require(answer.cost == found.cost, fault)
+    subjects = Subjects(programs, options.tenants_at(tasks), lemon, read_whole=options.search)
+    for place, timed in enumerate(time_stream(subjects, stream, options.repeats)):
+        firm, *beside = timed.programs
         record = RoundRecord(
             kind=kind,
             size=size,
             round=place,
-            tasks=found.tasks,
-            arcs=found.arcs,
-            cost=found.cost,
+            tasks=timed.round.tasks,
+            arcs=timed.round.arcs,
+            cost=timed.round.cost,
             searches=counts[place].searches,
             looks=counts[place].looks,
             proposed=counts[place].proposed,
-            firm=found.seconds,
-            beside=found.beside,
-            **{name: answer.seconds for name, answer in solved.items()},
+            firm=firm,
+            beside=beside[0] if beside else None,
+            **timed.solvers,
         )
         records.append(record)
     return records
@@ -195,6 +206,7 @@ def read_options() -> Options:
     parser.add_argument("--beside", type=program_file, help=beside)
     parser.add_argument("--sizes", default=SIZES)
     parser.add_argument("--kinds", default=",".join(kinds.KINDS))
+    parser.add_argument("--tenants", type=int, help="how many have the stream")
     parser.add_argument("--repeats", type=int, default=5)
     parser.add_argument("--seed", type=int, default=1)
     parser.add_argument("--all-rounds", action="store_true", help="a row for each round")
@@ -202,6 +214,8 @@ def read_options() -> Options:
     parser.add_argument("--keep", action="store_true", help=results.HELP)
     search = "the rounds of the program that counts, found by searches alone"
     parser.add_argument("--search", action="store_true", help=search)
+    single = "the rounds of the program that counts, which serves on one thread"
+    parser.add_argument("--single", action="store_true", help=single)
     return Options(**vars(parser.parse_args()))
 
 
