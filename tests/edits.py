@@ -3,7 +3,8 @@
 usage: tests/edits [--all | NAME..] [--more] [--record] [--libraries FOLDER] [--commit HASH]
 The edits are those of crates/NAME/must-fail and crates/NAME/edits, with --more also those of more-edits/. The edits of
 a crate are tried several in one check, over the libraries below it, and each must be refused for an open goal of the
-function that it changes. Where a check of several can't tell, an edit is tried alone.
+function that it changes. The first checks read no body but those of the changed functions, and judge these by the
+contracts of the others. What they don't refuse is tried with all bodies, alone where a check of several can't tell.
 
 With names those crates are tried, with --all all of them. With neither: each crate whose sum is not the one in
 tests/edits.tried, and a quarter of the others, picked by the commit. The sum is over all that decides what the prover

@@ -1,4 +1,8 @@
-"""Tries the edits of a crate, several in one check, until each is refused for a goal of its own or is tried alone."""
+"""Tries the edits of a crate, several in one check, until each is refused for a goal of its own or is tried alone.
+
+The first checks read no body but those of the functions that the edits change. What these don't show to be refused is
+tried with all bodies, and then alone.
+"""
 
 from __future__ import annotations
 
@@ -7,8 +11,9 @@ import shutil
 import subprocess
 import tempfile
 from pathlib import Path
-from typing import Callable, Iterable, NamedTuple
+from typing import Callable, Iterable, Iterator, NamedTuple
 
+from harness.bare import MAIN, strip
 from harness.edits import PARTS, BadEdit, Edit, Function, Texts, applied, changed_functions
 from harness.proving import Crate, prover_words
 from harness.refusals import Outcome, read_outcome
@@ -71,16 +76,25 @@ class Trial:
                 left.append(Planned(edit, frozenset(changed_functions(edit, self.crate.folder))))
             except BadEdit as bad:
                 verdicts.append(Verdict(edit, False, f"BAD EDIT: {bad}"))
-        is_alone = False
+        bare = [planned for planned in left if planned.functions and MAIN not in planned.functions]
+        ended = [*self.rounds(bare, is_bare=True)]
+        ended += self.rounds(self.without(left, ended), is_bare=False)
+        for planned in self.without(left, ended):
+            ended += self.judge(self.batch_of([planned]), is_bare=False)
+        return sorted([*verdicts, *ended])
+
+    def rounds(self, left: list[Planned], is_bare: bool) -> Iterator[Verdict]:
+        """Tries each of them once, beside others; gives the verdicts on those of which these checks tell."""
         while left:
-            batch = self.batch_of(left[:1] if is_alone else left)
-            ended = self.judge(batch, self.check(batch))
-            verdicts += ended
-            done = {verdict.edit for verdict in ended}
-            left = [planned for planned in left if planned.edit not in done]
-            # What a check of several could not tell is asked alone.
-            is_alone = not done or is_alone
-        return sorted(verdicts)
+            batch = self.batch_of(left)
+            yield from self.judge(batch, is_bare)
+            left = [planned for planned in left if planned not in batch.planned]
+
+    @staticmethod
+    def without(left: list[Planned], verdicts: list[Verdict]) -> list[Planned]:
+        """Those on which there is no verdict."""
+        done = {verdict.edit for verdict in verdicts}
+        return [planned for planned in left if planned.edit not in done]
 
     def batch_of(self, left: list[Planned]) -> Batch:
         """The first edits that change different functions and leave one another's texts as they are."""
@@ -98,25 +112,32 @@ class Trial:
             taken |= planned.functions
         return Batch(chosen, texts)
 
-    def check(self, batch: Batch) -> Outcome:
+    def check(self, batch: Batch, is_bare: bool) -> Outcome:
         """Asks the prover for the functions that the batch changes, or for the whole crate where it can't name one."""
         names = sorted({name for planned in batch.planned for name in self.names_of(planned)})
-        said = self.ask(batch.texts, names)
+        changed = {function for planned in batch.planned for function in planned.functions} if is_bare else None
+        said, texts = self.ask(batch.texts, names, changed)
         if names and said.returncode == 2 and "has no function" in said.stdout:
-            said = self.ask(batch.texts, [])
-        return read_outcome(said.stdout, {**self.sources, **batch.texts})
+            said, texts = self.ask(batch.texts, [], changed)
+        return read_outcome(said.stdout, texts)
 
     def names_of(self, planned: Planned) -> list[str]:
         """The functions of an edit as the prover names them."""
         found = []
         for function in planned.functions:
-            modules = self.types.get(function.kind) or {tuple(function.module)}
             own = [name for name in (function.owner, function.name) if name]
-            found += ["::".join([*module, *own]) for module in modules]
+            found += ["::".join([*module, *own]) for module in self.modules_by_name(function)]
         return found
 
-    def ask(self, texts: Texts, only: list[str]) -> subprocess.CompletedProcess[str]:
-        """Runs the prover on a copy of the crate with these texts."""
+    def modules_by_name(self, function: Function) -> set[tuple[str, ...]]:
+        """The modules of its type, where it has one that the crate declares, else its own."""
+        return self.types.get(function.kind) or {tuple(function.module)}
+
+    def ask(
+        self, texts: Texts, only: list[str], changed: set[Function] | None
+    ) -> tuple[subprocess.CompletedProcess[str], Texts]:
+        """Runs the prover on a copy of the crate with these texts, where no functions have bodies but the changed ones
+        if these are told; gives what it said, and the sources that it read."""
         self.checks += 1
         with tempfile.TemporaryDirectory(prefix="firm-edits-") as name:
             room = Path(name)
@@ -126,9 +147,12 @@ class Trial:
             for path, text in texts.items():
                 (room / path).write_text(text)
             words = [*prover_words("check", self.crate, self.libraries), "--jobs", "1", "--incremental", str(self.kept)]
+            if changed is not None:
+                strip(room, self.crate.name, changed, self.modules_by_name)
+                words.append("--allow-holes")
             for function in only:
                 words += ["--only", function]
-            return subprocess.run(
+            said = subprocess.run(
                 words,
                 cwd=room,
                 stdin=subprocess.DEVNULL,
@@ -137,13 +161,16 @@ class Trial:
                 text=True,
                 errors="replace",
             )
+            return said, {str(file.relative_to(room)): file.read_text() for file in room.rglob("*.rt")}
 
-    def judge(self, batch: Batch, outcome: Outcome) -> list[Verdict]:
-        """The verdicts on those edits of the batch of which the check tells."""
+    def judge(self, batch: Batch, is_bare: bool) -> list[Verdict]:
+        """The verdicts on those edits of the batch of which a check tells."""
+        outcome = self.check(batch, is_bare)
         found = []
         for planned in batch.planned:
-            verdict = self.verdict(planned, outcome, len(batch.planned) == 1)
-            if verdict is not None:
+            verdict = self.verdict(planned, outcome, len(batch.planned) == 1 and not is_bare)
+            # Without the other bodies it may be the copy that can't be read.
+            if verdict is not None and (verdict.is_refused or not is_bare):
                 found.append(verdict)
         return found
 
