@@ -1,8 +1,8 @@
 //! Worked rows, counted drops, memory that is refused, and a move to another thread by its bound.
+use super::expect;
 use firm_arena::{Arena, Id, Refused};
 use std::alloc::{AllocError, Global};
 use std::cell::Cell;
-use std::fmt::Debug;
 use std::marker::Send;
 use std::process::Abort;
 
@@ -22,7 +22,6 @@ fn to_another_thread<T: Send>(value: T) -> T {
     value
 }
 
-// A helper stands for each answer that is expected, so that no test has a branch.
 fn opened<T>(rt: &impl Abort, alloc: Global, capacity: u32) -> Arena<T> {
     Arena::new(alloc, capacity).expect(rt, "memory")
 }
@@ -36,30 +35,12 @@ fn put<T: Drop>(rt: &impl Abort, arena: &mut Arena<T>, value: T) -> Id {
 }
 
 fn expect_refused(rt: &impl Abort, arena: &mut Arena<u32>, value: u32, wanted: Refused<u32>) {
-    assert_eq!(rt; arena.put(value), Err(wanted));
-}
-
-fn expect_get<T: Copy + PartialEq + Debug>(
-    rt: &impl Abort,
-    arena: &Arena<T>,
-    id: Id,
-    wanted: Option<T>,
-) {
-    assert_eq!(rt; arena.get(id).copied(), wanted);
-}
-
-fn expect_take<T: Copy + PartialEq + Debug>(
-    rt: &impl Abort,
-    arena: &mut Arena<T>,
-    id: Id,
-    wanted: Option<T>,
-) {
-    assert_eq!(rt; arena.take(id), wanted);
+    assert!(rt; arena.put(value) == Err(wanted));
 }
 
 /// How many values are held, how many more fit, and how many fit at all.
 fn expect_counts<T>(rt: &impl Abort, arena: &Arena<T>, wanted: (u32, u32, u32)) {
-    assert_eq!(rt; (arena.len(), arena.room(), arena.capacity()), wanted);
+    assert!(rt; (arena.len(), arena.room(), arena.capacity()) == wanted);
 }
 
 #[test]
@@ -68,12 +49,12 @@ fn a_taken_id_stays_gone_when_its_place_is_used_again(rt: HostRuntime) {
     let first = put(&rt, &mut arena, 10);
     let second = put(&rt, &mut arena, 20);
     expect_refused(&rt, &mut arena, 30, Refused::Full(30));
-    expect_take(&rt, &mut arena, first, Some(10));
-    expect_get(&rt, &arena, first, None);
+    expect(&rt, arena.take(first), Some(10));
+    expect(&rt, arena.get(first).copied(), None);
     let third = put(&rt, &mut arena, 40);
-    expect_get(&rt, &arena, first, None);
-    expect_get(&rt, &arena, third, Some(40));
-    expect_get(&rt, &arena, second, Some(20));
+    expect(&rt, arena.get(first).copied(), None);
+    expect(&rt, arena.get(third).copied(), Some(40));
+    expect(&rt, arena.get(second).copied(), Some(20));
     expect_counts(&rt, &arena, (2, 0, 2));
 }
 
@@ -84,17 +65,13 @@ fn an_arena_of_no_places_is_full(rt: HostRuntime) {
     expect_counts(&rt, &arena, (0, 0, 0));
 }
 
-fn expect_stamp(rt: &impl Abort, id: Id, wanted: u64) {
-    assert_eq!(rt; id.stamp, wanted);
-}
-
 #[test]
 fn an_arena_gives_out_no_stamp_past_the_last(rt: HostRuntime) {
     let mut arena = opened_with_stamp(&rt, rt.alloc(), 2, u64::MAX - 1);
     let only = put(&rt, &mut arena, 1);
-    expect_stamp(&rt, only, u64::MAX - 1);
+    expect(&rt, only.stamp, u64::MAX - 1);
     expect_refused(&rt, &mut arena, 2, Refused::Worn(2));
-    expect_take(&rt, &mut arena, only, Some(1));
+    expect(&rt, arena.take(only), Some(1));
     expect_refused(&rt, &mut arena, 3, Refused::Worn(3));
 }
 
@@ -108,14 +85,6 @@ fn write(rt: &impl Abort, arena: &mut Arena<u64>, id: Id, value: u64) {
     *arena.get_mut(id).expect(rt, "the value is there") = value;
 }
 
-fn expect_gone(rt: &impl Abort, arena: &mut Arena<u64>, id: Id) {
-    assert!(rt; arena.get_mut(id).is_none());
-}
-
-fn expect_at(rt: &impl Abort, arena: &Arena<u64>, place: u32, wanted: Option<Id>) {
-    assert_eq!(rt; arena.id_at(place), wanted);
-}
-
 #[test]
 fn counts_ids_and_writes(rt: HostRuntime) {
     let mut arena = opened(&rt, rt.alloc(), 3);
@@ -123,23 +92,19 @@ fn counts_ids_and_writes(rt: HostRuntime) {
     let second = put(&rt, &mut arena, 6);
     expect_counts(&rt, &arena, (2, 1, 3));
     write(&rt, &mut arena, second, 60);
-    expect_get(&rt, &arena, second, Some(60));
-    expect_at(&rt, &arena, second.place, Some(second));
-    expect_take(&rt, &mut arena, first, Some(5));
-    expect_take(&rt, &mut arena, first, None);
-    expect_gone(&rt, &mut arena, first);
-    expect_at(&rt, &arena, first.place, None);
-    expect_at(&rt, &arena, 3, None);
+    expect(&rt, arena.get(second).copied(), Some(60));
+    expect(&rt, arena.id_at(second.place), Some(second));
+    expect(&rt, arena.take(first), Some(5));
+    expect(&rt, arena.take(first), None);
+    expect(&rt, arena.get_mut(first).is_none(), true);
+    expect(&rt, arena.id_at(first.place), None);
+    expect(&rt, arena.id_at(3), None);
     let stranger = Id {
         place: second.place,
         stamp: 9,
     };
-    expect_get(&rt, &arena, stranger, None);
+    expect(&rt, arena.get(stranger).copied(), None);
     expect_counts(&rt, &arena, (1, 2, 3));
-}
-
-fn expect_drops(rt: &impl Abort, drops: &Cell<u32>, wanted: u32) {
-    assert_eq!(rt; drops.get(), wanted);
 }
 
 #[test]
@@ -148,26 +113,26 @@ fn each_value_is_dropped_once(rt: HostRuntime) {
     let mut arena = opened(&rt, rt.alloc(), 2);
     let first = put(&rt, &mut arena, Counted { drops: &drops });
     put(&rt, &mut arena, Counted { drops: &drops });
-    expect_drops(&rt, &drops, 0);
+    expect(&rt, drops.get(), 0);
     // A refused value comes back, and is dropped by its owner.
     let refused = arena.put(Counted { drops: &drops });
-    expect_drops(&rt, &drops, 0);
+    expect(&rt, drops.get(), 0);
     drop(refused);
-    expect_drops(&rt, &drops, 1);
+    expect(&rt, drops.get(), 1);
     // So is one that is taken.
     let taken = arena.take(first);
-    expect_drops(&rt, &drops, 1);
+    expect(&rt, drops.get(), 1);
     drop(taken);
-    expect_drops(&rt, &drops, 2);
+    expect(&rt, drops.get(), 2);
     // The place is used again; the arena drops what it still holds, and no place twice.
     put(&rt, &mut arena, Counted { drops: &drops });
-    expect_drops(&rt, &drops, 2);
+    expect(&rt, drops.get(), 2);
     drop(arena);
-    expect_drops(&rt, &drops, 4);
+    expect(&rt, drops.get(), 4);
 }
 
 fn expect_too_large(rt: &impl Abort, made: Result<Arena<[u64; 16384]>, AllocError>) {
-    assert_eq!(rt; made.err(), Some(AllocError));
+    assert!(rt; made.err() == Some(AllocError));
 }
 
 #[test]
@@ -182,5 +147,5 @@ fn an_arena_goes_where_its_values_may(rt: HostRuntime) {
     let mut arena = opened(&rt, rt.alloc(), 1);
     let id = put(&rt, &mut arena, 8u32);
     let moved = to_another_thread(arena);
-    expect_get(&rt, &moved, id, Some(8));
+    expect(&rt, moved.get(id).copied(), Some(8));
 }
