@@ -1,4 +1,5 @@
 //! Worked tenants, their networks arc by arc, and the refusals in their order.
+use super::expect;
 use super::restored::{expect_alike, of_rows};
 use Choice::{On, Wait};
 use Seen::{
@@ -139,7 +140,7 @@ fn task(
 fn drain(rt: &impl Abort, graph: &mut Graph, bytes: &[u8], evicted: u32) {
     let name = name(rt, bytes);
     assert!(rt; graph.rows().has_machine(name));
-    assert_eq!(rt; graph.drop_machine(name), evicted);
+    assert!(rt; graph.drop_machine(name) == evicted);
 }
 
 fn close(rt: &impl Abort, graph: &mut Graph, bytes: &[u8]) {
@@ -160,10 +161,10 @@ fn nodes_of(rt: &impl Abort, alloc: Global, graph: &Graph) -> Vec<NodeId> {
     let mut nodes = Vec::new(alloc);
     for place in 0..graph.rows().machine_count() {
         let node = node_of(rt, graph, place);
-        assert_eq!(rt; graph.machine_of(node), Some(place));
+        assert!(rt; graph.machine_of(node) == Some(place));
         nodes.push(node).expect(rt, "memory");
     }
-    assert_eq!(rt; graph.machine_of(graph.hub()), None);
+    assert!(rt; graph.machine_of(graph.hub()) == None);
     nodes
 }
 
@@ -173,20 +174,6 @@ fn settle(rt: &impl Abort, alloc: Global, graph: &mut Graph, choices: &[Choice])
     let nodes = nodes_of(rt, alloc, graph);
     graph.settle(choices);
     assert!(rt; nodes_of(rt, alloc, graph).as_slice() == nodes.as_slice());
-}
-
-// One line each, so that no test has a branch for every answer.
-fn expect(rt: &impl Abort, answer: Result<(), GraphRefusal>, wanted: Result<(), GraphRefusal>) {
-    assert_eq!(rt; answer, wanted);
-}
-
-fn expect_asked(rt: &impl Abort, graph: &Graph, asked: u64) {
-    assert_eq!(rt; graph.asked(), asked);
-}
-
-// How many more nodes and arcs fit the limits.
-fn expect_room(rt: &impl Abort, graph: &Graph, nodes: u32, arcs: u32) {
-    assert_eq!(rt; graph.net().room(), (nodes, arcs));
 }
 
 fn opened(rt: &impl Abort, alloc: Global, nodes: u64, arcs: u64) -> Graph {
@@ -202,18 +189,8 @@ pub fn through(rt: &impl Abort, graph: &Graph, place: usize) -> ArcId {
     graph.hub_arc(place)
 }
 
-// The machine is still reached by this arc.
-fn expect_through(rt: &impl Abort, graph: &Graph, place: usize, arc: ArcId) {
-    assert!(rt; through(rt, graph, place) == arc);
-}
-
 pub fn head_of(rt: &impl Abort, net: &Net, arc: ArcId) -> NodeId {
     net.arc(arc).expect(rt, "the arc is there").head()
-}
-
-// The arc has this row.
-fn expect_row(rt: &impl Abort, net: &Net, arc: ArcId, row: ArcRow) {
-    assert_eq!(rt; net.arc(arc), Some(row));
 }
 
 // An arc with this row leaves its tail.
@@ -225,7 +202,11 @@ fn expect_leaves(rt: &impl Abort, net: &Net, row: ArcRow) {
 fn expect_machine(rt: &impl Abort, graph: &Graph, place: usize) {
     let arc = through(rt, graph, place);
     let node = head_of(rt, graph.net(), arc);
-    expect_row(rt, graph.net(), arc, row(rt, graph.hub(), node, 2, 0));
+    expect(
+        rt,
+        graph.net().arc(arc),
+        Some(row(rt, graph.hub(), node, 2, 0)),
+    );
     expect_leaves(rt, graph.net(), row(rt, node, graph.sink(), 1, 0));
     expect_leaves(rt, graph.net(), row(rt, node, graph.sink(), 1, 1));
 }
@@ -252,42 +233,42 @@ fn expect_task(rt: &impl Abort, graph: &Graph, place: usize, stay: (NodeId, u32)
     let arcs = arcs_of(rt, graph, place);
     let net = graph.net();
     let owner = head_of(rt, net, arcs.wait);
-    expect_row(
+    let wide = row(rt, node, graph.hub(), 1, costs.wide);
+    expect(rt, net.arc(arcs.wide), Some(wide));
+    expect(
         rt,
-        net,
-        arcs.wide,
-        row(rt, node, graph.hub(), 1, costs.wide),
+        net.arc(arcs.stay),
+        Some(row(rt, node, stay.0, stay.1, 0)),
     );
-    expect_row(rt, net, arcs.stay, row(rt, node, stay.0, stay.1, 0));
-    expect_row(rt, net, arcs.wait, row(rt, node, owner, 1, costs.wait));
+    expect(
+        rt,
+        net.arc(arcs.wait),
+        Some(row(rt, node, owner, 1, costs.wait)),
+    );
 }
 
 // Checks the machines and the cost of the arcs to those that the task at a place prefers.
 fn expect_preferred(rt: &impl Abort, graph: &Graph, place: usize, machines: &[usize], cost: u32) {
     let node = source(rt, graph, place);
     let preferred = arcs_of(rt, graph, place).preferred;
-    assert_eq!(rt; preferred.len(), machines.len());
+    assert!(rt; preferred.len() == machines.len());
     for (preference, machine) in machines.iter().enumerate() {
         assert!(rt; preference < preferred.len());
         let arc = preferred.at(preference);
         let head = node_of(rt, graph, *machine);
-        expect_row(rt, graph.net(), arc, row(rt, node, head, 1, cost));
+        expect(rt, graph.net().arc(arc), Some(row(rt, node, head, 1, cost)));
     }
 }
 
 // There are two sources, which differ.
 fn expect_two_sources(rt: &impl Abort, graph: &Graph) {
-    assert_eq!(rt; graph.sources().len(), 2);
+    assert!(rt; graph.sources().len() == 2);
     assert!(rt; source(rt, graph, 0) != source(rt, graph, 1));
 }
 
 // The node of the machine at a place.
 fn node_of(rt: &impl Abort, graph: &Graph, place: usize) -> NodeId {
     head_of(rt, graph.net(), through(rt, graph, place))
-}
-
-fn expect_apart(rt: &impl Abort, graph: &Graph, one: usize, other: usize) {
-    assert!(rt; node_of(rt, graph, one) != node_of(rt, graph, other));
 }
 
 fn expect_waiting(rt: &impl Abort, graph: &Graph, place: usize, costs: Costs) {
@@ -305,9 +286,9 @@ fn owner_of(rt: &impl Abort, graph: &Graph, place: usize) -> NodeId {
 }
 
 fn expect_one_job(rt: &impl Abort, graph: &Graph, places: &[usize]) {
-    assert_eq!(rt; graph.sources().len(), places.len());
+    assert!(rt; graph.sources().len() == places.len());
     for place in places {
-        assert_eq!(rt; owner_of(rt, graph, *place), owner_of(rt, graph, 0));
+        assert!(rt; owner_of(rt, graph, *place) == owner_of(rt, graph, 0));
     }
 }
 
@@ -321,19 +302,23 @@ fn expect_nothing(rt: &impl Abort, graph: &Graph) {
     assert!(rt; graph.sources().is_empty());
 }
 
-fn expect_flow(rt: &impl Abort, graph: &Graph, arc: ArcId, flow: u32) {
-    let row = graph.net().arc(arc).expect(rt, "the arc is there");
-    assert_eq!(rt; row.flow(), flow);
+// The flow along the arc from the hub to the machine at a place.
+fn flow_to(rt: &impl Abort, graph: &Graph, place: usize) -> u32 {
+    let arc = through(rt, graph, place);
+    graph.net().arc(arc).expect(rt, "the arc is there").flow()
 }
 
 fn see(rt: &impl Abort, graph: &Graph, seen: &Seen) {
     match seen {
-        Flow(place, flow) => expect_flow(rt, graph, through(rt, graph, *place), *flow),
-        Room(nodes, arcs) => expect_room(rt, graph, *nodes, *arcs),
-        Asked(asked) => expect_asked(rt, graph, *asked),
+        Flow(place, flow) => expect(rt, flow_to(rt, graph, *place), *flow),
+        Room(nodes, arcs) => expect(rt, graph.net().room(), (*nodes, *arcs)),
+        Asked(asked) => expect(rt, graph.asked(), *asked),
         Nothing => expect_nothing(rt, graph),
         TwoSlots(place) => expect_machine(rt, graph, *place),
-        Apart(one, other) => expect_apart(rt, graph, *one, *other),
+        Apart(one, other) => {
+            let (one, other) = (node_of(rt, graph, *one), node_of(rt, graph, *other));
+            expect(rt, one == other, false);
+        }
         Waits(place, wide, wait) => {
             let (wide, wait) = (*wide, *wait);
             expect_waiting(rt, graph, *place, Costs { wide, wait });
@@ -371,28 +356,20 @@ fn expect_refused(
 fn drain_before(rt: &impl Abort, graph: &mut Graph, bytes: &[u8], before: usize, after: usize) {
     let node = node_of(rt, graph, before);
     drain(rt, graph, bytes, 0);
-    assert_eq!(rt; node_of(rt, graph, after), node);
-}
-
-fn hold(rt: &impl Abort, graph: &mut Graph, arc: ArcId, low: u32, held: bool) {
-    assert_eq!(rt; graph.hold(arc, low), held);
-}
-
-fn push(rt: &impl Abort, graph: &mut Graph, arc: ArcId, way: Way, pushed: bool) {
-    assert_eq!(rt; graph.push(arc, way), pushed);
+    assert!(rt; node_of(rt, graph, after) == node);
 }
 
 fn drain_first(rt: &impl Abort, graph: &mut Graph, bytes: &[u8]) {
     let arc = through(rt, graph, 0);
     drain(rt, graph, bytes, 0);
-    hold(rt, graph, arc, 0, false);
-    push(rt, graph, arc, Way::Forward, false);
+    expect(rt, graph.hold(arc, 0), false);
+    expect(rt, graph.push(arc, Way::Forward), false);
 }
 
 fn expect_least(rt: &impl Abort, alloc: Global, graph: &mut Graph, cost: i64) {
     let mut prices = Prices::new(alloc, graph.net()).expect(rt, "memory");
     let mut scratch = Scratch::new(alloc, graph.net()).expect(rt, "memory");
-    assert_eq!(rt; graph.least(&mut prices, &mut scratch), cost);
+    assert!(rt; graph.least(&mut prices, &mut scratch) == cost);
 }
 
 fn take(rt: &impl Abort, alloc: Global, graph: &mut Graph, step: &Step) {
@@ -419,13 +396,15 @@ fn take(rt: &impl Abort, alloc: Global, graph: &mut Graph, step: &Step) {
         Least(cost) => expect_least(rt, alloc, graph, *cost),
         Hold(place, low, held) => {
             let arc = through(rt, graph, *place);
-            hold(rt, graph, arc, *low, *held);
-            expect_through(rt, graph, *place, arc);
+            expect(rt, graph.hold(arc, *low), *held);
+            // The machine is still reached by this arc.
+            expect(rt, through(rt, graph, *place), arc);
         }
         Push(place, way, pushed) => {
             let arc = through(rt, graph, *place);
-            push(rt, graph, arc, *way, *pushed);
-            expect_through(rt, graph, *place, arc);
+            expect(rt, graph.push(arc, *way), *pushed);
+            // The machine is still reached by this arc.
+            expect(rt, through(rt, graph, *place), arc);
         }
         See(seen) => see(rt, graph, seen),
     }
