@@ -289,7 +289,7 @@ fn only_a_lack_of_room_for_answers_waits_for_a_round_of_another(rt: HostRuntime)
         let (lines, answers) = held_lines(&rt, rt.alloc(), 1_016, behind);
         let gate = HoldsUntilRead::new(1, true, looks);
         let has_read_on = reads_on(&rt, &gate, lines.as_bytes(), b"", answers.as_bytes());
-        assert_eq!(rt; has_read_on, wanted, "{}", behind.0);
+        assert!(rt; has_read_on == wanted, "{}", behind.0);
     }
 }
 
@@ -497,7 +497,7 @@ fn a_failed_flush_is_a_failed_write(rt: HostRuntime) {
     let mut reader = Bytes::new(b"a round\n".as_slice());
     let mut writer = Unflushed { failed: false };
     let ended = serve_one(rt.alloc(), &mut reader, &mut writer, &roster, MOST);
-    assert_eq!(rt; ended, Err(ServeFault::Write));
+    assert!(rt; ended == Err(ServeFault::Write));
     let mut reader = Bytes::new(b"a round\n".as_slice());
     let mut writer = Unflushed { failed: false };
     let ended = serve(
@@ -510,5 +510,5 @@ fn a_failed_flush_is_a_failed_write(rt: HostRuntime) {
         &Open,
         MOST,
     );
-    assert_eq!(rt; ended.err(), Some(ServeFault::Write));
+    assert!(rt; ended.err() == Some(ServeFault::Write));
 }

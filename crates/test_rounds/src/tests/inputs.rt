@@ -114,11 +114,11 @@ fn gives_all_bytes_and_reads_none_twice(rt: HostRuntime) -> Result<(), Fail> {
             let mut source = firm_input::open(&rt, alloc, reader)?;
             let (given, end) = all_of(&rt, alloc, &mut source, &mut [0; 7], waited_each)?;
             assert!(rt; given.as_slice() == TEXT, "{waited_each}");
-            assert_eq!(rt; end, last, "{waited_each}");
-            assert_eq!(rt; count.load(Ordering::SeqCst), reads, "{waited_each}");
-            assert_eq!(rt; source.read(&mut [0; 7]), Ok(0), "asked behind its end");
+            assert!(rt; end == last, "{waited_each}");
+            assert!(rt; count.load(Ordering::SeqCst) == reads, "{waited_each}");
+            assert!(rt; source.read(&mut [0; 7]) == Ok(0), "asked behind its end");
             source.close();
-            assert_eq!(rt; Arc::strong_count(&count), 1, "the thread has ended");
+            assert!(rt; Arc::strong_count(&count) == 1, "the thread has ended");
         }
     }
     Ok(())
@@ -137,11 +137,11 @@ fn is_ready_once_a_byte_is_there(rt: HostRuntime) -> Result<(), Fail> {
     assert!(rt; !source.is_ready(Some(&waker)));
     go.store(1, Ordering::SeqCst);
     wait_until_ready(&rt, &mut source, &waker);
-    assert_eq!(rt; source.read(&mut []), Ok(0));
+    assert!(rt; source.read(&mut []) == Ok(0));
     assert!(rt; source.is_ready(None));
     let mut buffer = [0; 3];
-    assert_eq!(rt; source.read(&mut buffer), Ok(1));
-    assert_eq!(rt; buffer, *b"x\0\0");
+    assert!(rt; source.read(&mut buffer) == Ok(1));
+    assert!(rt; buffer == *b"x\0\0");
     assert!(rt; !source.is_ready(None));
     source.close();
     Ok(())

@@ -117,7 +117,7 @@ fn expect_served<R: Abort + Wait>(
     ensures { pass.new.queue ≡ pass.old.queue }
 {
     let served = serve(rt, alloc, queue, pass);
-    assert_eq!(rt; served, wanted);
+    assert!(rt; served == wanted);
 }
 
 // Both tickets are got in order, and then none.
@@ -128,7 +128,7 @@ fn get_both<R: Abort + Wait>(rt: &R, alloc: Global, queue: &Queue, pass: &mut Po
     expect_served(rt, alloc, queue, pass, Some(ticket(0, 1)));
     expect_served(rt, alloc, queue, pass, Some(ticket(1, 1)));
     expect_served(rt, alloc, queue, pass, None);
-    assert_eq!(rt; pass.count(), 2);
+    assert!(rt; pass.count() == 2);
 }
 
 // A look finds no answer before the jobs are got, and one afterwards.
@@ -175,12 +175,12 @@ fn expect_none_left(rt: &impl Abort, alloc: Global, left: Option<Vec<Job>>) {
 
 fn expect_ticket(rt: &impl Abort, jobs: &[Job], number: usize, wanted: Ticket) {
     let job = jobs.get(number).expect(rt, "the job is there");
-    assert_eq!(rt; job.ticket(), wanted);
+    assert!(rt; job.ticket() == wanted);
 }
 
 // These are jobs of these tickets, in order. They are finished.
 fn expect_jobs(rt: &impl Abort, alloc: Global, jobs: Vec<Job>, wanted: &[Ticket]) {
-    assert_eq!(rt; jobs.len(), wanted.len());
+    assert!(rt; jobs.len() == wanted.len());
     for (number, ticket) in wanted.iter().enumerate() {
         expect_ticket(rt, &jobs, number, *ticket);
     }

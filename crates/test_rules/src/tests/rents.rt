@@ -56,7 +56,7 @@ fn expect_shown(
     assert!(rt; case.is_legal(placement));
     assert!(rt; rents.as_slice().len() == case.machine_count());
     let shown = shows_least(case, rents, placement);
-    assert_eq!(rt; (shown.least, shown.cost, shown.paid, shown.gains), wanted);
+    assert!(rt; (shown.least, shown.cost, shown.paid, shown.gains) == wanted);
 }
 
 // What one more slot of the machine saves by the low rents, and what one less costs by the high ones.
@@ -70,8 +70,8 @@ fn expect_slots(
     assert!(rt; place < case.machine_count());
     assert!(rt; low.as_slice().len() == case.machine_count());
     assert!(rt; high.as_slice().len() == case.machine_count());
-    assert_eq!(rt; saved_by_slot(case, low, place), saved);
-    assert_eq!(rt; lost_by_slot(case, high, place), lost);
+    assert!(rt; saved_by_slot(case, low, place) == saved);
+    assert!(rt; lost_by_slot(case, high, place) == lost);
 }
 
 // The cheapest machine for w2 but one.

@@ -45,12 +45,15 @@ fn expect_not_legal(rt: &impl Abort, rows: &Rows, placement: &[Choice]) {
 
 fn expect_cost(rt: &impl Abort, rows: &Rows, placement: &[Choice], cost: i64) {
     assert!(rt; legal(rows, placement), "{placement:?}");
-    assert_eq!(rt; cost_of(rows, placement), cost, "{placement:?}");
+    assert!(rt; cost_of(rows, placement) == cost, "{placement:?}");
 }
 
 fn expect_order(rt: &impl Abort, rows: &Rows, one: &[Choice], other: &[Choice], before: bool) {
     assert!(rt; legal(rows, one) && legal(rows, other));
-    assert_eq!(rt; ranks_before(rows, one, other), before, "{one:?} {other:?}");
+    assert!(rt;
+        ranks_before(rows, one, other) == before,
+        "{one:?} {other:?}"
+    );
 }
 
 // Of this one and those listed it comes before just those from this place on.
@@ -91,7 +94,7 @@ fn listed(rt: &impl Abort, alloc: Global, changed: &[Changed]) -> Vec<Change> {
 
 fn expect_list(rt: &impl Abort, alloc: Global, changes: &Changes, changed: &[Changed]) {
     let wanted = listed(rt, alloc, changed);
-    assert_eq!(rt; changes.as_slice(), wanted.as_slice());
+    assert!(rt; changes.as_slice() == wanted.as_slice());
     let same = Changes::from(wanted);
     assert!(rt; *changes == same);
 }
@@ -381,7 +384,7 @@ fn a_list_of_another_length_or_place_is_not_legal(rt: HostRuntime) {
 }
 
 fn expect_costs(rt: &impl Abort, costs: &RecentCosts, wanted: &[i64]) {
-    assert_eq!(rt; costs.as_slice(), wanted);
+    assert!(rt; costs.as_slice() == wanted);
 }
 
 #[test]

@@ -61,9 +61,9 @@ fn fill<A: Allocator>(rt: &impl Abort, rows: &mut Rows<A>) {
 }
 
 fn expect_preferred(rt: &impl Abort, preferred: &Preferred, machines: &[&[u8]]) {
-    assert_eq!(rt; preferred.len(), machines.len());
+    assert!(rt; preferred.len() == machines.len());
     for (own, bytes) in preferred.as_slice().iter().zip(machines.iter()) {
-        assert_eq!(rt; own.as_bytes(), *bytes);
+        assert!(rt; own.as_bytes() == *bytes);
         assert!(rt; preferred.contains(name(rt, bytes)));
     }
 }
@@ -98,7 +98,7 @@ fn expect_use<A: Allocator>(rt: &impl Abort, rows: &Rows<A>, nodes: u64, arcs: u
 // How many machines, jobs and tasks there are.
 fn expect_counts<A: Allocator>(rt: &impl Abort, rows: &Rows<A>, wanted: [usize; 3]) {
     let counts = [rows.machine_count(), rows.job_count(), rows.task_count()];
-    assert_eq!(rt; counts, wanted);
+    assert!(rt; counts == wanted);
 }
 
 fn expect_machines<A: Allocator>(rt: &impl Abort, rows: &Rows<A>, added: &Added) {
@@ -140,7 +140,7 @@ fn drain<A: Allocator>(rt: &impl Abort, rows: &mut Rows<A>, machine: &[u8], evic
     let Some(place) = rows.machine_place(name(rt, machine)) else {
         panic!(rt; "no such machine")
     };
-    assert_eq!(rt; rows.drain(place), evicted);
+    assert!(rt; rows.drain(place) == evicted);
 }
 
 fn expect_preferences<A: Allocator>(rt: &impl Abort, rows: &Rows<A>, machines: &[&[u8]]) {

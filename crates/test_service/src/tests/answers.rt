@@ -32,5 +32,5 @@ fn answers_are_held_in_order_and_written(rt: HostRuntime) {
     assert!(rt; write_held(&mut writer, &mut output).is_ok());
     assert!(rt; output.is_empty());
     let wanted = b"! line-too-long\n! unknown-tenant\na 3 ok\n+ no 28 operator-memory\n";
-    assert_eq!(rt; writer.into_inner().as_slice(), wanted.as_slice());
+    assert!(rt; writer.into_inner().as_slice() == wanted.as_slice());
 }

@@ -71,10 +71,10 @@ fn let_wait(rt: &impl Abort, rows: &mut Rows) {
 fn tasks_are_restored_and_placed(rt: HostRuntime) {
     let mut rows = rows(&rt, rt.alloc());
     assert!(rt; rows.task_at(0) == Some(runs(&rt)) && rows.task_at(1) == Some(waits(&rt)));
-    assert_eq!(rt; rows.running(), 1);
+    assert!(rt; rows.running() == 1);
     let_wait(&rt, &mut rows);
     assert!(rt; rows.task_at(0) == Some(task(&rt, b"x", None, 5, &[])));
-    assert_eq!(rt; rows.running(), 0);
+    assert!(rt; rows.running() == 0);
 }
 
 fn costs(cost: i64) -> RecentCosts {
@@ -98,8 +98,8 @@ static BOOKS: [(i64, u64, Option<BookFault>); 8] = [
 
 fn expect_parts(rt: &impl Abort, book: &Book, cost: i64, given: u64) {
     assert!(rt; book.costs() == costs(cost));
-    assert_eq!(rt; book.given(), given);
-    assert_eq!(rt; book.rows().task_count(), 2);
+    assert!(rt; book.given() == given);
+    assert!(rt; book.rows().task_count() == 2);
 }
 
 fn expect_book(rt: &impl Abort, alloc: Global, cost: i64, given: u64, wanted: Option<BookFault>) {
@@ -107,7 +107,7 @@ fn expect_book(rt: &impl Abort, alloc: Global, cost: i64, given: u64, wanted: Op
     if let Ok(book) = &made {
         expect_parts(rt, book, cost, given);
     }
-    assert_eq!(rt; made.err(), wanted, "{cost} {given}");
+    assert!(rt; made.err() == wanted, "{cost} {given}");
 }
 
 #[test]
@@ -122,7 +122,7 @@ fn a_wait_shows_its_rounds(rt: HostRuntime) {
     let mut rows = rows(&rt, rt.alloc());
     let_wait(&rt, &mut rows);
     let made = Book::new(rows, costs(5), 100);
-    assert_eq!(rt; made.err(), Some(Rounds));
+    assert!(rt; made.err() == Some(Rounds));
 }
 
 /// The spread and churn of two tasks of weight 10 on one machine, and what is wrong with them after two rounds.
@@ -145,7 +145,7 @@ fn expect_crowd(
     fill(rt, &mut rows);
     settle(rt, &mut rows, &[Choice::On(1), Choice::On(1)]);
     let made = Book::new(rows, costs(5), 100);
-    assert_eq!(rt; made.err(), wanted, "{spread} {churn}");
+    assert!(rt; made.err() == wanted, "{spread} {churn}");
 }
 
 #[test]
@@ -182,7 +182,7 @@ fn expect_bid(
     settle(rt, &mut rows, &[Choice::On(0)]);
     with_restored(&mut rows, task(rt, b"y", None, 2, &[])).expect(rt, "a task");
     let made = Book::new(rows, costs(5), 100);
-    assert_eq!(rt; made.err(), wanted, "{heavy} {churn} {remote}");
+    assert!(rt; made.err() == wanted, "{heavy} {churn} {remote}");
 }
 
 #[test]
@@ -218,7 +218,7 @@ fn expect_written(rt: &impl Abort, alloc: Global, tenant: &Tenant) {
         tenant.costs(),
         tenant.given(),
     );
-    assert_eq!(rt; put.expect(rt, "memory"), 7);
+    assert!(rt; put.expect(rt, "memory") == 7);
     assert!(rt; text.as_slice() == TEXT);
 }
 
@@ -244,7 +244,7 @@ fn expect_going_on(rt: &impl Abort, alloc: Global, tenant: &mut Tenant) {
         outcome: Outcome::Costs(costs(5)),
     };
     expect(rt, alloc, tenant, Command::Costs, recent);
-    assert_eq!(rt; tenant.life_left(), 88);
+    assert!(rt; tenant.life_left() == 88);
 }
 
 #[test]
@@ -280,7 +280,7 @@ fn again(rt: &impl Abort, register: &Register) -> Register {
 /// Expects these entries of the first two places, and that no other place was given.
 fn expect_entries(rt: &impl Abort, register: &Register, first: &Entry, second: &Entry) {
     let entries = register.entries();
-    assert_eq!(rt; given_count(entries), 2);
+    assert!(rt; given_count(entries) == 2);
     assert!(rt; entries.get(0) == Some(first));
     assert!(rt; entries.get(1) == Some(second));
     assert!(rt; entries.get(2) == Some(&Entry::EMPTY));
@@ -290,7 +290,7 @@ fn expect_entries(rt: &impl Abort, register: &Register, first: &Entry, second: &
 fn a_register_is_restored(rt: HostRuntime) {
     let roster = roster_of(rt.alloc(), TWO).expect(&rt, "a roster");
     let mut register = Register::of(&roster);
-    assert_eq!(rt; register.retire(name(&rt, b"beta")), Ok(1));
+    assert!(rt; register.retire(name(&rt, b"beta")) == Ok(1));
     let mut register = again(&rt, &register);
     let alpha = Entry {
         tenant: Some(name(&rt, b"alpha")),
@@ -301,8 +301,8 @@ fn a_register_is_restored(rt: HostRuntime) {
         admissions: 1,
     };
     expect_entries(&rt, &register, &alpha, &left);
-    assert_eq!(rt; register.place_of(name(&rt, b"alpha")), Some(0));
-    assert_eq!(rt; register.admit(name(&rt, b"gamma")), Ok(1));
+    assert!(rt; register.place_of(name(&rt, b"alpha")) == Some(0));
+    assert!(rt; register.admit(name(&rt, b"gamma")) == Ok(1));
     let gamma = Entry {
         tenant: Some(name(&rt, b"gamma")),
         admissions: 2,

@@ -171,7 +171,7 @@ fn read_at_last(rt: &impl Abort, alloc: Global, text: &[u8]) -> Saved {
     match Saved::read(alloc, text) {
         Ok(saved) => saved,
         Err(fault) => {
-            assert_eq!(rt; fault.kind, FaultKind::Memory);
+            assert!(rt; fault.kind == FaultKind::Memory);
             read(rt, alloc, text)
         }
     }
@@ -194,7 +194,7 @@ fn state_at_last(rt: &impl Abort, alloc: Global, saved: &Saved) -> Vec<u8> {
     match serve_to_state(alloc, &mut reader, &mut writer, opening, MOST_INPUT) {
         Ok(tenants) => state_of(rt, alloc, &tenants),
         Err(fault) => {
-            assert_eq!(rt; fault, ServeFault::Memory);
+            assert!(rt; fault == ServeFault::Memory);
             served(rt, alloc, opening, b"").state
         }
     }
@@ -286,7 +286,7 @@ fn expect_served(
     let mut reader = Bytes::new(lines);
     let mut writer = Bytes::new(Vec::new(alloc));
     let ended = serve_one_from(alloc, &mut reader, &mut writer, opening, MOST_INPUT);
-    assert_eq!(rt; ended, Ok(()));
+    assert!(rt; ended == Ok(()));
     assert!(rt; writer.into_inner().as_slice() == wanted);
 }
 
@@ -304,9 +304,9 @@ fn expect_watched(
         after: 0,
     };
     let ended = serve_watched_from(alloc, &mut reader, &mut writer, &mut counts, opening);
-    assert_eq!(rt; ended, Ok(()));
+    assert!(rt; ended == Ok(()));
     assert!(rt; writer.into_inner().as_slice() == wanted);
-    assert_eq!(rt; counts.after, count_of(wanted, b" ok round "));
+    assert!(rt; counts.after == count_of(wanted, b" ok round "));
     assert!(rt; counts.after <= counts.before);
 }
 
@@ -350,7 +350,7 @@ fn answers(rt: &impl Abort, alloc: Global, roster: &Roster) -> Vec<u8> {
     let mut reader = Bytes::new(STREAM);
     let mut writer = Bytes::new(Vec::new(alloc));
     let ended = serve_one(alloc, &mut reader, &mut writer, roster, MOST_INPUT);
-    assert_eq!(rt; ended, Ok(()));
+    assert!(rt; ended == Ok(()));
     writer.into_inner()
 }
 
@@ -361,7 +361,7 @@ fn a_stream_may_be_cut_at_each_line(rt: HostRuntime) {
     let answers = answers(&rt, alloc, &roster);
     let whole = served(&rt, alloc, Opening::Roster(&roster), STREAM);
     assert!(rt; whole.written.as_slice() == answers.as_slice());
-    assert_eq!(rt; count_of(&answers, b"\n"), 35);
+    assert!(rt; count_of(&answers, b"\n") == 35);
     expect_cuts(&rt, alloc, &roster, &whole);
 }
 
@@ -373,5 +373,5 @@ fn a_stream_that_is_too_long_leaves_no_state(rt: HostRuntime) {
     let mut writer = Bytes::new(Vec::new(alloc));
     let opening = Opening::State(&saved);
     let ended = serve_to_state(alloc, &mut reader, &mut writer, opening, 9);
-    assert_eq!(rt; ended.err(), Some(ServeFault::TooLong));
+    assert!(rt; ended.err() == Some(ServeFault::TooLong));
 }

@@ -39,7 +39,7 @@ fn expect_text(rt: &impl Abort, text: &[u8], wanted: &str) {
 fn expect_read(rt: &impl Abort, alloc: Global, text: &str, given: usize) {
     let read = read(rt, alloc, text.as_bytes());
     let saved = Saved::of(read.into_places());
-    assert_eq!(rt; saved.places().len(), 64);
+    assert!(rt; saved.places().len() == 64);
     expect_text(rt, &text_of(rt, alloc, &saved), text);
     expect_text(rt, &text_by_places(rt, alloc, &saved, given), text);
 }
@@ -135,7 +135,7 @@ fn changed(alloc: Global, number: usize, change: &str) -> Result<String, AllocEr
 
 fn expect_fault(rt: &impl Abort, alloc: Global, text: &[u8], kind: FaultKind, line: u64) {
     let fault = Saved::read(alloc, text).err().expect(rt, "a fault");
-    assert_eq!(rt; (fault.kind, fault.line), (kind, line), "of {text:?}");
+    assert!(rt; (fault.kind, fault.line) == (kind, line), "of {text:?}");
 }
 
 fn expect_change(
@@ -398,7 +398,7 @@ static FAULTS: [(FaultKind, u32, &str); 16] = [
 #[test]
 fn faults_of_states_have_their_numbers_and_names(rt: HostRuntime) {
     for (kind, code, name) in &FAULTS {
-        assert_eq!(rt; kind.code(), *code);
-        assert_eq!(rt; kind.name(), *name);
+        assert!(rt; kind.code() == *code);
+        assert!(rt; kind.name() == *name);
     }
 }

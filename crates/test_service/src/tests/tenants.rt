@@ -54,7 +54,7 @@ fn expect(rt: &impl Abort, tenant: &mut Tenant, alloc: Global, command: Command,
 }
 
 fn expect_life(rt: &impl Abort, tenant: &Tenant, wanted: u64) {
-    assert_eq!(rt; tenant.life_left(), wanted);
+    assert!(rt; tenant.life_left() == wanted);
 }
 
 fn answers_until_worn(rt: &impl Abort, tenant: &mut Tenant, alloc: Global) {
@@ -129,7 +129,7 @@ fn a_tenant_fills_every_arc(rt: HostRuntime) {
 fn counts_a_round_without_memory(rt: &impl Abort, tenant: &mut Tenant, alloc: Global) {
     assert!(rt; 0 < tenant.life_left());
     let refused = replied(1, Outcome::Refused(Refusal::Memory));
-    assert_eq!(rt; tenant.no_memory(), refused);
+    assert!(rt; tenant.no_memory() == refused);
     let none = Outcome::Costs(RecentCosts::new());
     expect(rt, tenant, alloc, Command::Costs, replied(2, none));
     expect_life(rt, tenant, 0);

@@ -66,7 +66,7 @@ fn read_flows(rt: &impl Abort, alloc: Global, world: &World) -> Vec<u32> {
     let mut flows = Vec::new(alloc);
     for arc in &world.arcs {
         let row = world.net.arc(*arc).expect(rt, "the arc is there");
-        assert_eq!(rt; row.low(), 0);
+        assert!(rt; row.low() == 0);
         flows.push(row.flow()).expect(rt, "memory");
     }
     flows
@@ -86,7 +86,7 @@ fn solve_twice(
     let sources = nodes_at(rt, alloc, world, sources);
     let first = solve_once(rt, world, &sources, sink);
     let answer = solve_once(rt, world, &sources, sink);
-    assert_eq!(rt; answer, first);
+    assert!(rt; answer == first);
     assert!(rt; has_room(&world.net));
     Solved {
         answer,
@@ -186,7 +186,7 @@ fn check_flow(rt: &impl Abort, network: &Network, sources: &[usize], solved: &So
     let Network { links, nodes, sink } = *network;
     assert!(rt; is_feasible(links, &solved.flows, nodes as usize, sources, sink));
     assert!(rt; are_valid(links, &solved.flows, &solved.prices));
-    assert_eq!(rt; cost_of(links, &solved.flows), cost);
+    assert!(rt; cost_of(links, &solved.flows) == cost);
 }
 
 /// Checks that nothing flows, and that all prices are 0.
@@ -210,7 +210,7 @@ fn expect(
         "{:?} and not {answer:?}",
         solved.answer
     );
-    assert_eq!(rt; solved.flows.len(), network.links.len());
+    assert!(rt; solved.flows.len() == network.links.len());
     match answer {
         Ok(cost) => check_flow(rt, network, sources, &solved, cost),
         Err(NoWay) => check_no_flow(rt, &solved),
@@ -219,7 +219,7 @@ fn expect(
 }
 
 fn expect_flows(rt: &impl Abort, solved: &Solved, wanted: &[u32]) {
-    assert_eq!(rt; solved.flows.as_slice(), wanted);
+    assert!(rt; solved.flows.as_slice() == wanted);
 }
 
 /// The network of two machines of 2 slots, one job, and two tasks that wait. Nodes: the sink, the hub, the two
@@ -267,7 +267,7 @@ fn two_running_tasks() -> [Link; 16] {
 /// So much flows along these arcs.
 fn expect_along(rt: &impl Abort, solved: &Solved, wanted: &[(usize, u32)]) {
     for (arc, flow) in wanted {
-        assert_eq!(rt; solved.flows.get(*arc), Some(flow), "along arc {arc}");
+        assert!(rt; solved.flows.get(*arc) == Some(flow), "along arc {arc}");
     }
 }
 
@@ -307,10 +307,10 @@ fn expect_counts(
     answer: Result<i64, NoWay>,
     counts: (u64, u64),
 ) {
-    assert_eq!(rt; solved, answer);
+    assert!(rt; solved == answer);
     let scratch = &world.scratch;
-    assert_eq!(rt; (scratch.searches(), scratch.looks()), counts);
-    assert_eq!(rt; scratch.begins(), 0);
+    assert!(rt; (scratch.searches(), scratch.looks()) == counts);
+    assert!(rt; scratch.begins() == 0);
 }
 
 #[test]

@@ -112,7 +112,7 @@ fn expect_read<S: Source>(
     buffer: &mut [u8; 2],
     wanted: Result<usize, Failed>,
 ) {
-    assert_eq!(rt; source.read(buffer), wanted);
+    assert!(rt; source.read(buffer) == wanted);
 }
 
 fn expect_write<S: Sink>(
@@ -121,15 +121,15 @@ fn expect_write<S: Sink>(
     bytes: &[u8],
     wanted: Result<usize, Failed>,
 ) {
-    assert_eq!(rt; sink.write(bytes), wanted);
+    assert!(rt; sink.write(bytes) == wanted);
 }
 
 fn expect_flush<S: Sink>(rt: &impl Abort, sink: &mut S, wanted: Result<(), Failed>) {
-    assert_eq!(rt; sink.flush(), wanted);
+    assert!(rt; sink.flush() == wanted);
 }
 
 fn expect_bytes(rt: &impl Abort, bytes: &[u8], wanted: &[u8]) {
-    assert_eq!(rt; bytes, wanted);
+    assert!(rt; bytes == wanted);
 }
 
 #[test]
@@ -186,7 +186,7 @@ fn fails_second(kind: ErrorKind) -> Bytes<FailsAt> {
 }
 
 fn expect_calls(rt: &impl Abort, device: Bytes<FailsAt>, wanted: u64) {
-    assert_eq!(rt; device.into_inner().calls, wanted);
+    assert!(rt; device.into_inner().calls == wanted);
 }
 
 fn expect_one_failed_read(rt: &impl Abort, kind: ErrorKind) {

@@ -79,7 +79,7 @@ fn with_spaces(alloc: Global, text: &[u8], count: usize) -> Result<Vec<u8>, Allo
 }
 
 fn expect_line(rt: &impl Abort, bytes: &[u8], wanted: Line) {
-    assert_eq!(rt; line(bytes), wanted, "{bytes:?}");
+    assert!(rt; line(bytes) == wanted, "{bytes:?}");
 }
 
 fn expect_row(rt: &impl Abort, alloc: Global, row: &Row) {

@@ -10,7 +10,7 @@ use test_kit::{limits, patient};
 type Admission = (&'static [u8], &'static [u8], [u64; 6]);
 
 fn expect_asked(rt: &impl Abort, bytes: &[u8], asked: OperatorLine) {
-    assert_eq!(rt; line(bytes), Line::Operator(asked), "{bytes:?}");
+    assert!(rt; line(bytes) == Line::Operator(asked), "{bytes:?}");
 }
 
 static ADMISSIONS: [Admission; 7] = [
@@ -136,10 +136,10 @@ static COMMENTS: [&[u8]; 2] = [b"#+ retire b", b"# + retire b"];
 #[test]
 fn lines_that_are_not_the_operators(rt: HostRuntime) {
     for bytes in &NAMELESS {
-        assert_eq!(rt; line(bytes), Line::Nameless, "{bytes:?}");
+        assert!(rt; line(bytes) == Line::Nameless, "{bytes:?}");
     }
     for bytes in &COMMENTS {
-        assert_eq!(rt; line(bytes), Line::Nothing, "{bytes:?}");
+        assert!(rt; line(bytes) == Line::Nothing, "{bytes:?}");
     }
 }
 
@@ -157,7 +157,7 @@ fn a_line_of_the_operator_has_at_most_256_bytes(rt: HostRuntime) {
     let longest = with_spaces(rt.alloc(), 246).ok().expect(&rt, "memory");
     expect_asked(&rt, &longest, OperatorLine::Retire(name(&rt, b"b")));
     let longer = with_spaces(rt.alloc(), 247).ok().expect(&rt, "memory");
-    assert_eq!(rt; line(&longer), Line::Long);
+    assert!(rt; line(&longer) == Line::Long);
 }
 
 /// Expects this text of a reply, behind what stood there.
@@ -167,7 +167,7 @@ fn expect_text(rt: &impl Abort, alloc: Global, reply: OperatorReply, wanted: &[u
         .expect(rt, "memory");
     let put = put_operator_reply(&mut text, reply);
     put.ok().expect(rt, "memory");
-    assert_eq!(rt; text.as_slice(), wanted);
+    assert!(rt; text.as_slice() == wanted);
 }
 
 static REFUSALS: [(OperatorRefusal, &[u8]); 8] = [

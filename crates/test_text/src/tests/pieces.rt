@@ -13,18 +13,18 @@ fn expect_fed(rt: &impl Abort, cutter: &mut Cutter, piece: &[u8], used: usize, e
     ensures { cutter.new.has_ended ≡ ended }
 {
     let fed = cutter.feed(piece);
-    assert_eq!(rt; fed.used, used);
-    assert_eq!(rt; fed.ended, ended);
+    assert!(rt; fed.used == used);
+    assert!(rt; fed.ended == ended);
 }
 
 fn expect_rest(rt: &impl Abort, cutter: &Cutter, wanted: bool) {
-    assert_eq!(rt; cutter.rest(), wanted);
+    assert!(rt; cutter.rest() == wanted);
 }
 
 fn expect_taken(rt: &impl Abort, cutter: &mut Cutter, wanted: Line)
     ensures { cutter.new.has_ended ≡ false }
 {
-    assert_eq!(rt; cutter.take(), wanted);
+    assert!(rt; cutter.take() == wanted);
 }
 
 /// The line of these bytes, of which a proof knows nothing.
@@ -58,7 +58,7 @@ fn line_in_pieces(pieces: &[&[u8]]) -> Line {
 }
 
 fn expect_pieces(rt: &impl Abort, pieces: &[&[u8]], wanted: Line) {
-    assert_eq!(rt; line_in_pieces(pieces), wanted, "of {pieces:?}");
+    assert!(rt; line_in_pieces(pieces) == wanted, "of {pieces:?}");
 }
 
 static WHOLE: [(&[&[u8]], &[u8]); 5] = [

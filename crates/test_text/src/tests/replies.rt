@@ -9,7 +9,7 @@ use std::process::Abort;
 fn expect_text(rt: &impl Abort, alloc: Global, number: u64, outcome: Outcome, wanted: &[u8]) {
     let reply = Reply { number, outcome };
     let text = reply_text(alloc, name(rt, b"alpha"), &reply);
-    assert_eq!(rt; text.ok().expect(rt, "memory").as_slice(), wanted);
+    assert!(rt; text.ok().expect(rt, "memory").as_slice() == wanted);
 }
 
 #[test]
@@ -97,7 +97,7 @@ fn a_reply_is_added_to_what_stands(rt: HostRuntime) {
         outcome: Outcome::Waits(3),
     };
     assert!(rt; put_reply(&mut text, a, &reply).is_ok());
-    assert_eq!(rt; text.as_slice(), b"b 1 ok\na 2 ok waits 3".as_slice());
+    assert!(rt; text.as_slice() == b"b 1 ok\na 2 ok waits 3".as_slice());
 }
 
 static REFUSALS: [(Refusal, &[u8]); 14] = [

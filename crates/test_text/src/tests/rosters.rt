@@ -18,18 +18,18 @@ fn admitted(rt: &impl Abort, alloc: Global, text: &[u8]) -> Roster {
 }
 
 fn expect_place(rt: &impl Abort, roster: &Roster, name: Name, wanted: Option<usize>) {
-    assert_eq!(rt; roster.place_of(name), wanted);
+    assert!(rt; roster.place_of(name) == wanted);
 }
 
 fn expect_tenant(rt: &impl Abort, roster: &Roster, place: usize, name: Name, limits: Limits) {
-    assert_eq!(rt; roster.get(place), Some((name, limits)));
+    assert!(rt; roster.get(place) == Some((name, limits)));
     expect_place(rt, roster, name, Some(place));
 }
 
 /// Expects this number of tenants, and none by this name.
 fn expect_end(rt: &impl Abort, roster: &Roster, count: usize, absent: Name) {
-    assert_eq!(rt; roster.len(), count);
-    assert_eq!(rt; roster.get(count), None);
+    assert!(rt; roster.len() == count);
+    assert!(rt; roster.get(count) == None);
     expect_place(rt, roster, absent, None);
 }
 
@@ -126,7 +126,7 @@ fn the_first_fault_of_a_record_of_seven_or_eight(rt: HostRuntime) {
 
 fn expect_fault(rt: &impl Abort, alloc: Global, text: &[u8], wanted: RosterFault) {
     let fault = roster(alloc, text).err();
-    assert_eq!(rt; fault, Some(wanted), "of {text:?}");
+    assert!(rt; fault == Some(wanted), "of {text:?}");
 }
 
 static WITHOUT_HEADING: [&str; 14] = [
@@ -271,8 +271,8 @@ fn expect_filled(
     wanted: Option<RosterFault>,
 ) {
     let text = filled(alloc, text, byte, count).ok().expect(rt, "memory");
-    assert_eq!(rt; text.len(), count);
-    assert_eq!(rt; roster(alloc, &text).err(), wanted);
+    assert!(rt; text.len() == count);
+    assert!(rt; roster(alloc, &text).err() == wanted);
 }
 
 #[test]
@@ -284,8 +284,8 @@ fn a_roster_has_at_most_65536_bytes(rt: HostRuntime) {
 }
 
 fn expect_told(rt: &impl Abort, fault: RosterFault, code: u32, name: &str) {
-    assert_eq!(rt; fault.code(), code);
-    assert_eq!(rt; fault.name(), name);
+    assert!(rt; fault.code() == code);
+    assert!(rt; fault.name() == name);
 }
 
 /// The rows of a roster, and the number and the name of its fault.

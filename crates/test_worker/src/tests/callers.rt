@@ -215,7 +215,7 @@ fn rounds_of_four_callers_go_to_two_workers_and_come_back(rt: HostRuntime) {
         empty,
     };
     let rounds = rounds_at_close(&rt, rt.alloc(), over);
-    assert_eq!(rt; rounds, Some(4 * ROUNDS));
+    assert!(rt; rounds == Some(4 * ROUNDS));
 }
 
 #[test]
@@ -229,5 +229,5 @@ fn four_callers_ask_eight_rounds(rt: HostRuntime) {
         empty,
     };
     let rounds = rounds_at_close(&rt, rt.alloc(), over);
-    assert_eq!(rt; rounds, Some(8));
+    assert!(rt; rounds == Some(8));
 }

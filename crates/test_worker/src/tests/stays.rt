@@ -35,8 +35,8 @@ impl Notes {
     }
 
     fn expect_last(&self, rt: &impl Abort, place: u64, number: u64) {
-        assert_eq!(rt; self.place.load(Ordering::SeqCst), place);
-        assert_eq!(rt; self.number.load(Ordering::SeqCst), number);
+        assert!(rt; self.place.load(Ordering::SeqCst) == place);
+        assert!(rt; self.number.load(Ordering::SeqCst) == number);
     }
 }
 
@@ -134,7 +134,7 @@ fn the_next_stay_begins_anew_and_its_tickets_go_on(rt: HostRuntime) {
         empty,
     };
     let rounds = rounds_at_close(&rt, rt.alloc(), over);
-    assert_eq!(rt; rounds, Some(2));
+    assert!(rt; rounds == Some(2));
 }
 
 /// A tenant comes to the place and leaves it.
@@ -157,7 +157,7 @@ fn stays_until_worn(rt: &impl Abort, alloc: Global, empty: EmptyDesk) -> u32 {
 }
 
 fn expect_stays(rt: &impl Abort, alloc: Global, empty: EmptyDesk, wanted: u32) {
-    assert_eq!(rt; stays_until_worn(rt, alloc, empty), wanted);
+    assert!(rt; stays_until_worn(rt, alloc, empty) == wanted);
 }
 
 #[test]
