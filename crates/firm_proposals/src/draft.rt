@@ -158,6 +158,14 @@ impl Draft {
         self.paid(way) == self.paid_by(table, way.task)
     }
 
+    /// Whether no machine costs the task less than others, and going to any and waiting cost it different amounts.
+    #[inline(always)]
+    pub(crate) fn has_one_way(&self, table: &Table, task: u32) -> bool {
+        let ways = table.ways_of(task);
+        ways.from.saturating_add(2) == ways.to
+            && self.paid(table.way(ways.from)) != table.wait(task)
+    }
+
     /// Where the task is, `NONE` while it is left out.
     #[inline(always)]
     pub(crate) fn place_of(&self, table: &Table, task: u32) -> u32 {

@@ -91,7 +91,10 @@ impl First {
                 return false;
             }
             self.now = task;
-            let place = self.place_for(table, draft, task, work);
+            let mut place = self.told_place(table, draft, task);
+            if place == NONE {
+                place = self.place_for(table, draft, task, work);
+            }
             if place == NONE || work.is_short() {
                 return false;
             }
@@ -99,6 +102,30 @@ impl First {
             self.links.leave(draft, task);
         }
         true
+    }
+
+    // The first place that the task can have, where that is told at once: it is on its own machine, or no machine costs
+    // it less than others, and it had rather wait or a unit from the hub is left for it. Else `NONE`.
+    fn told_place(&mut self, table: &Table, draft: &mut Draft, task: u32) -> u32 {
+        let (taken, ways) = (draft.taken(task), table.ways_of(task));
+        let home = table.home(task);
+        if home != NONE && taken == ways.from {
+            return home;
+        }
+        let hub_way = ways.from;
+        let wait_way = hub_way.saturating_add(1);
+        if wait_way.saturating_add(1) != ways.to {
+            return NONE;
+        }
+        if taken == wait_way && !draft.is_tight(table, hub_way) {
+            return table.outside();
+        }
+        let machine = self.first_alive(table, draft);
+        if taken != hub_way || !draft.is_loose(machine) {
+            return NONE;
+        }
+        self.hold(table, draft, machine, time_of(table, task));
+        machine
     }
 
     // The first place that the task can have; `NONE` if none was found.

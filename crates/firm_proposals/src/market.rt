@@ -130,12 +130,13 @@ impl Traders {
         self.near.clear();
         self.waiting.clear();
         for task in 0..table.tasks() {
+            if table.is_plain(task) {
+                continue;
+            }
             let runs = table.home(task) != NONE;
             let preferred = table.preferred_ways(task);
             let prefers = preferred.from < preferred.to;
-            if runs || prefers {
-                self.movers.push(task);
-            }
+            self.movers.push(task);
             if prefers {
                 self.near.push(task);
             }
@@ -162,7 +163,7 @@ impl Traders {
     ) -> Market
         ensures most { work.new.most ≡ work.old.most }
     {
-        begin(table, draft, price);
+        self.begin(table, draft, price);
         for count in 1..=MOST_PREFERRED {
             for at in 0..self.waiting.count() {
                 prefer(table, draft, self.waiting.at(at), count);
@@ -194,6 +195,24 @@ impl Traders {
         market
     }
 
+    // Each task that runs stays, and all others are left out.
+    fn begin(&self, table: &Table, draft: &mut Draft, price: u32) {
+        draft.clear(table);
+        draft.set_price(table.hub(), price);
+        for at in 0..self.movers.count() {
+            let task = self.movers.at(at);
+            let home = table.home(task);
+            if home != NONE {
+                draft.take(task, table.own_way(task));
+                draft.add_load(home);
+            }
+        }
+        for machine in 0..table.machines() {
+            let top = top_price(table, draft, machine);
+            draft.set_price(machine, top);
+        }
+    }
+
     // Has prices fall until no task on a machine had rather go.
     fn fall(&self, table: &Table, draft: &mut Draft, work: &mut Work)
         ensures most { work.new.most ≡ work.old.most }
@@ -221,23 +240,6 @@ impl Traders {
         if falls {
             forget(table, draft);
         }
-    }
-}
-
-// Each task that runs stays, and all others are left out.
-fn begin(table: &Table, draft: &mut Draft, price: u32) {
-    draft.clear(table);
-    draft.set_price(table.hub(), price);
-    for task in 0..table.tasks() {
-        let home = table.home(task);
-        if home != NONE {
-            draft.take(task, table.own_way(task));
-            draft.add_load(home);
-        }
-    }
-    for machine in 0..table.machines() {
-        let top = top_price(table, draft, machine);
-        draft.set_price(machine, top);
     }
 }
 
@@ -334,8 +336,31 @@ fn forget(table: &Table, draft: &mut Draft) {
 // at the hub's price.
 #[inline(always)]
 fn settle(table: &Table, draft: &mut Draft, task: u32, price: u32) -> Stand {
+    let ways = table.ways_of(task);
+    let hub_way = ways.to.saturating_sub(2);
+    if ways.from == hub_way {
+        return settle_plain(table, draft, task, hub_way, price);
+    }
+    settle_mover(table, draft, task, price)
+}
+
+// For a task that no machine costs less than others, which is left out.
+#[inline(always)]
+fn settle_plain(table: &Table, draft: &mut Draft, task: u32, hub_way: u32, price: u32) -> Stand {
+    let wide = table.way(hub_way).cost.saturating_add(price);
+    let wait = table.wait(task);
+    if wait < wide {
+        draft.take(task, hub_way.saturating_add(1));
+        return Stand::Settled;
+    }
+    draft.take(task, hub_way);
+    if wait > wide { Stand::Sure } else { Stand::Tie }
+}
+
+// For a task that some machines may cost less than others.
+fn settle_mover(table: &Table, draft: &mut Draft, task: u32, price: u32) -> Stand {
     let stand = if draft.taken(task) == NONE {
-        settle_left(table, draft, task)
+        settle_near(table, draft, task)
     } else {
         Stand::Settled
     };
@@ -343,24 +368,14 @@ fn settle(table: &Table, draft: &mut Draft, task: u32, price: u32) -> Stand {
     if home != NONE
         && draft.price(home) == price
         && draft.taken(task) == table.own_way(task)
-        && table.way(table.wait_way(task)).cost == price
+        && table.wait(task) == price
     {
         return Stand::HomeTie;
     }
     stand
 }
 
-#[inline(always)]
-fn settle_left(table: &Table, draft: &mut Draft, task: u32) -> Stand {
-    let ways = table.ways_of(task);
-    let hub_way = ways.to.saturating_sub(2);
-    if ways.from == hub_way {
-        return settle_wide(table, draft, task);
-    }
-    settle_near(table, draft, task)
-}
-
-// For a task that some machines may cost less than others.
+// For such a task that is left out.
 fn settle_near(table: &Table, draft: &mut Draft, task: u32) -> Stand {
     let ways = table.ways_of(task);
     let hub_way = table.hub_way(task);
@@ -379,7 +394,7 @@ fn settle_near(table: &Table, draft: &mut Draft, task: u32) -> Stand {
         draft.add_load(table.way(way).place);
         return Stand::Settled;
     }
-    let is_sure = table.way(table.wait_way(task)).cost > best.paid;
+    let is_sure = table.wait(task) > best.paid;
     let is_at_hub = draft.paid(table.way(hub_way)) == best.paid;
     if is_at_hub {
         draft.take(task, hub_way);
@@ -390,21 +405,6 @@ fn settle_near(table: &Table, draft: &mut Draft, task: u32) -> Stand {
         (false, true) => Stand::Left,
         (false, false) => Stand::LeftTie,
     }
-}
-
-// For a task that no machine costs less than others.
-#[inline(always)]
-fn settle_wide(table: &Table, draft: &mut Draft, task: u32) -> Stand {
-    let hub_way = table.hub_way(task);
-    let wait_way = table.wait_way(task);
-    let wide = draft.paid(table.way(hub_way));
-    let wait = table.way(wait_way).cost;
-    if wait < wide {
-        draft.take(task, wait_way);
-        return Stand::Settled;
-    }
-    draft.take(task, hub_way);
-    if wait > wide { Stand::Sure } else { Stand::Tie }
 }
 
 /// How many slots are left on machines of this price that cost less, and how many that cost as much.

@@ -12,18 +12,18 @@ pub(crate) struct Nearest {
     heap: Stack,
     distances: Numbers,
     // Where each place stands in the heap, `NONE` if it isn't in it.
-    spots: Numbers,
+    indices: Numbers,
 }
 
 impl Nearest {
     pub(crate) fn new(alloc: Global, places: usize) -> Result<Nearest, AllocError> {
         let heap = Stack::new(alloc, places)?;
         let distances = Numbers::new(alloc, places)?;
-        let spots = Numbers::new(alloc, places)?;
+        let indices = Numbers::new(alloc, places)?;
         Ok(Nearest {
             heap,
             distances,
-            spots,
+            indices,
         })
     }
 
@@ -31,7 +31,7 @@ impl Nearest {
     pub(crate) fn clear(&mut self, places: u32) {
         self.heap.clear();
         self.distances.reset(places, NONE);
-        self.spots.reset(places, NONE);
+        self.indices.reset(places, NONE);
     }
 
     /// How far the place is, as far as is known.
@@ -43,12 +43,12 @@ impl Nearest {
     /// Brings a place nearer.
     pub(crate) fn bring(&mut self, place: u32, distance: u32) {
         self.distances.set(place, distance);
-        let mut spot = self.spots.at(place);
-        if spot == NONE {
-            spot = self.heap.count();
+        let mut index = self.indices.at(place);
+        if index == NONE {
+            index = self.heap.count();
             self.heap.push(place);
         }
-        self.rise(place, spot);
+        self.rise(place, index);
     }
 
     /// The nearest place, which is taken out; `NONE` if there is none.
@@ -58,38 +58,38 @@ impl Nearest {
         if last == NONE {
             return NONE;
         }
-        self.spots.set(nearest, NONE);
+        self.indices.set(nearest, NONE);
         if last != nearest {
             self.sink(last);
         }
         nearest
     }
 
-    // Puts a place at this spot or above it, where none before it is farther.
+    // Puts a place at this index or above it, where none before it is farther.
     fn rise(&mut self, place: u32, from: u32) {
         let distance = self.distances.at(place);
-        let mut spot = from;
+        let mut index = from;
         for _ in 0..MOST_DEPTH {
-            if spot == 0 {
+            if index == 0 {
                 break;
             }
-            let parent = spot.saturating_sub(1) >> 1;
+            let parent = index.saturating_sub(1) >> 1;
             let above = self.heap.at(parent);
             if self.distances.at(above) <= distance {
                 break;
             }
-            self.put(above, spot);
-            spot = parent;
+            self.put(above, index);
+            index = parent;
         }
-        self.put(place, spot);
+        self.put(place, index);
     }
 
     // Puts a place at the top or below it, where none behind it is nearer.
     fn sink(&mut self, place: u32) {
         let distance = self.distances.at(place);
-        let mut spot = 0;
+        let mut index = 0;
         for _ in 0..MOST_DEPTH {
-            let child = self.nearer_child(spot);
+            let child = self.nearer_child(index);
             let below = if child < self.heap.count() {
                 self.heap.at(child)
             } else {
@@ -98,15 +98,15 @@ impl Nearest {
             if below == NONE || self.distances.at(below) >= distance {
                 break;
             }
-            self.put(below, spot);
-            spot = child;
+            self.put(below, index);
+            index = child;
         }
-        self.put(place, spot);
+        self.put(place, index);
     }
 
-    // The spot behind this one whose place is nearer.
-    fn nearer_child(&self, spot: u32) -> u32 {
-        let left = spot.saturating_mul(2).saturating_add(1);
+    // The index behind this one whose place is nearer.
+    fn nearer_child(&self, index: u32) -> u32 {
+        let left = index.saturating_mul(2).saturating_add(1);
         let right = left.saturating_add(1);
         if right < self.heap.count()
             && self.distances.at(self.heap.at(right)) < self.distances.at(self.heap.at(left))
@@ -117,8 +117,8 @@ impl Nearest {
         }
     }
 
-    fn put(&mut self, place: u32, spot: u32) {
-        self.heap.set(spot, place);
-        self.spots.set(place, spot);
+    fn put(&mut self, place: u32, index: u32) {
+        self.heap.set(index, place);
+        self.indices.set(place, index);
     }
 }

@@ -74,10 +74,6 @@ impl Stack {
         self.count
     }
 
-    pub(crate) fn as_slice(&self) -> &[u32] {
-        self.items.first(self.count)
-    }
-
     #[inline(always)]
     pub(crate) fn at(&self, place: u32) -> u32 {
         self.items.at(place)

@@ -25,8 +25,11 @@ pub(crate) struct Paths {
     settled: Stack,
     /// How many units are lacking at the hub.
     pub(crate) lacks: u32,
-    // The place where the search ends.
+    // The place where the search ends, and the hub if it ends there too.
     goal: u32,
+    hub_goal: u32,
+    // The first of them that was seen over ways that cost nothing more.
+    end: u32,
 }
 
 impl Paths {
@@ -50,6 +53,8 @@ impl Paths {
             settled,
             lacks: 0,
             goal: 0,
+            hub_goal: NONE,
+            end: NONE,
         })
     }
 
@@ -81,7 +86,7 @@ impl Paths {
     ) -> bool
         ensures most { work.new.most ≡ work.old.most }
     {
-        self.begin(table.outside());
+        self.begin(table, table.outside());
         let paid = draft.cheapest(table, table.ways_of(task), NONE).paid;
         self.see_ways(
             table,
@@ -106,7 +111,7 @@ impl Paths {
     ) -> bool
         ensures most { work.new.most ≡ work.old.most }
     {
-        self.begin(table.hub());
+        self.begin(table, table.hub());
         self.seen.set(table.outside(), self.search);
         self.see(
             Step {
@@ -129,7 +134,7 @@ impl Paths {
     ) -> bool
         ensures most { work.new.most ≡ work.old.most }
     {
-        self.begin(table.hub());
+        self.begin(table, table.hub());
         self.seen.set(table.outside(), self.search);
         let paid = draft.paid_by(table, task);
         let from = table.outside();
@@ -142,14 +147,17 @@ impl Paths {
         self.dead.at(place) == self.sweep
     }
 
-    fn begin(&mut self, goal: u32) {
+    fn begin(&mut self, table: &Table, goal: u32) {
         self.search = self.search.saturating_add(1);
         self.goal = goal;
+        self.hub_goal = if self.lacks > 0 { table.hub() } else { NONE };
+        self.end = NONE;
         self.queue.clear();
     }
 
-    fn is_end(&self, table: &Table, place: u32) -> bool {
-        place == self.goal || place == table.hub() && self.lacks > 0
+    #[inline(always)]
+    fn is_end(&self, place: u32) -> bool {
+        place == self.goal || place == self.hub_goal
     }
 
     #[inline(always)]
@@ -166,6 +174,9 @@ impl Paths {
         self.from.set(step.to, step.from);
         self.by.set(step.to, step.by);
         self.queue.push(step.to);
+        if self.end == NONE && self.is_end(step.to) {
+            self.end = step.to;
+        }
     }
 
     // Sees where a task's other ways lead that cost as much as it pays.
@@ -190,21 +201,21 @@ impl Paths {
         }
     }
 
-    // Goes on from what was seen, breadth first, and makes the steps to the first end.
+    // Goes on from what was seen, breadth first, up to the first end, and makes the steps to it.
     fn follow(&mut self, table: &Table, draft: &mut Draft, work: &mut Work) -> bool
         ensures most { work.new.most ≡ work.old.most }
     {
         for at in 0..table.places() {
-            if at >= self.queue.count() {
+            if self.end != NONE || at >= self.queue.count() {
                 break;
             }
             let place = self.queue.at(at);
-            if self.is_end(table, place) {
-                self.make(table, draft, place);
-                return true;
-            }
             self.see_units(table, draft, place, work);
             self.see_tasks(table, draft, place, work);
+        }
+        if self.end != NONE {
+            self.make(table, draft, self.end);
+            return true;
         }
         for closed in 0..self.queue.count().min(table.places()) {
             self.dead.set(self.queue.at(closed), self.sweep);
@@ -239,7 +250,7 @@ impl Paths {
     {
         let mut task = draft.first(place);
         for _ in 0..table.tasks() {
-            if task == NONE {
+            if task == NONE || self.end != NONE {
                 return;
             }
             let paid = draft.paid_by(table, task);
@@ -334,7 +345,7 @@ impl Paths {
         ensures most { work.new.most ≡ work.old.most }
     {
         work.begin_search();
-        self.begin(goal);
+        self.begin(table, goal);
         self.nearest.clear(table.places());
         self.settled.clear();
     }
@@ -348,7 +359,7 @@ impl Paths {
             if place == NONE {
                 return NONE;
             }
-            if self.is_end(table, place) {
+            if self.is_end(place) {
                 return place;
             }
             self.settled.push(place);

@@ -121,7 +121,8 @@ impl Mark {
     };
 }
 
-/// The places that a side saw, depth first; hub and outside, which have many links, come last.
+/// The places that a side saw, the nearest first. Whether a machine leads to the hub or the outside is looked at once
+/// it is seen; these two, which have many links, are looked along where nothing else is left.
 #[derive(Drop)]
 pub(crate) struct Side {
     is_ahead: bool,
@@ -130,9 +131,16 @@ pub(crate) struct Side {
     // Whether the hub and the outside were seen in this search.
     saw_hub: bool,
     saw_outside: bool,
-    walks: Vec<Walk>,
-    depth: u32,
+    // The machine that was seen last, and its links of units that are not looked at.
+    last: u32,
+    units: UnitLinks,
+    // The machines that may lead on, how many of them were gone into, and the walk from the last of those.
+    near: Stack,
+    entered: u32,
+    walk: Walk,
+    // The hub and the outside, while they are not gone into, and the walk from the last of those.
     far: Stack,
+    far_walk: Walk,
     // The machines between which and the hub or the outside units may go, without those seen to be of other classes.
     at_hub: Circle,
     at_edge: Circle,
@@ -142,7 +150,7 @@ impl Side {
     pub(crate) fn new(alloc: Global, nodes: usize, is_ahead: bool) -> Result<Side, AllocError> {
         let seen = Stack::new(alloc, nodes)?;
         let marks = vec![in alloc; Mark::NONE; nodes]?;
-        let walks = vec![in alloc; Walk::NONE; nodes]?;
+        let near = Stack::new(alloc, nodes)?;
         let far = Stack::new(alloc, 2)?;
         let at_hub = Circle::new(alloc, nodes)?;
         let at_edge = Circle::new(alloc, nodes)?;
@@ -152,9 +160,13 @@ impl Side {
             marks,
             saw_hub: false,
             saw_outside: false,
-            walks,
-            depth: 0,
+            last: NONE,
+            units: UnitLinks::NONE,
+            near,
+            entered: 0,
+            walk: Walk::NONE,
             far,
+            far_walk: Walk::NONE,
             at_hub,
             at_edge,
         })
@@ -185,11 +197,14 @@ impl Side {
     /// Begins a search at a place.
     pub(crate) fn begin(&mut self, view: View, place: u32) {
         self.seen.clear();
+        self.near.clear();
+        self.entered = 0;
+        self.walk = Walk::NONE;
         self.far.clear();
-        self.depth = 0;
-        self.seen.push(place);
-        self.saw_hub = place == view.table.hub();
-        self.saw_outside = place == view.table.outside();
+        self.far_walk = Walk::NONE;
+        self.units = UnitLinks::NONE;
+        self.saw_hub = false;
+        self.saw_outside = false;
         if let Some(mark) = self.marks.get_mut(place as usize) {
             let search = view.search;
             *mark = Mark {
@@ -197,7 +212,11 @@ impl Side {
                 ..Mark::NONE
             };
         }
-        self.walk(view, place);
+        self.enter(view, place);
+        if place >= view.table.hub() {
+            self.far.clear();
+            self.far_walk = self.walk_from(view, place);
+        }
     }
 
     #[inline(always)]
@@ -216,23 +235,23 @@ impl Side {
     pub(crate) fn look(&mut self, view: View, other: &Side, work: &mut Work) -> Found
         ensures most { work.new.most ≡ work.old.most }
     {
-        if self.depth == 0 {
-            return self.look_far(view, work);
-        }
-        let top = self.depth.saturating_sub(1);
-        let mut walk = self.walks.get(top as usize).copied().unwrap_or(Walk::NONE);
-        let place = if walk.units.machines > 0 {
-            self.look_round(view, other, &mut walk, work)
+        let place = if !self.units.are_none() {
+            self.look_at_unit(view, work)
+        } else if !self.walk.is_done() || self.goes_on(view) {
+            let mut walk = self.walk;
+            let place = self.look_along(view, &mut walk, work);
+            self.walk = walk;
+            place
+        } else if !self.far_walk.is_done() {
+            let mut walk = self.far_walk;
+            let place = self.look_round(view, other, &mut walk, work);
+            self.far_walk = walk;
+            place
         } else {
-            self.look_along(view, &mut walk, work)
+            return self.look_far(view, work);
         };
         if work.is_short() {
             return Found::Short;
-        }
-        if walk.is_done() {
-            self.depth = top;
-        } else if let Some(kept) = self.walks.get_mut(top as usize) {
-            *kept = walk;
         }
         if place == NONE {
             return Found::On;
@@ -242,6 +261,36 @@ impl Side {
         }
         self.enter(view, place);
         Found::On
+    }
+
+    // Looks at a link of units of the machine that was seen last; gives the place at its other end if that is new, else
+    // `NONE`.
+    fn look_at_unit(&mut self, view: View, work: &mut Work) -> u32
+        ensures most { work.new.most ≡ work.old.most }
+    {
+        if !work.look() {
+            return NONE;
+        }
+        let from = self.last;
+        let to = self.units.next(view.table);
+        if self.mark_new(view, Step { from, to, by: UNIT }) {
+            to
+        } else {
+            NONE
+        }
+    }
+
+    // Goes into the next machine that leads on, and says whether there is one.
+    fn goes_on(&mut self, view: View) -> bool {
+        for next in self.entered..self.near.count() {
+            self.entered = next.saturating_add(1);
+            let place = self.near.at(next);
+            self.walk = self.walk_from(view, place);
+            if !self.walk.is_done() {
+                return true;
+            }
+        }
+        false
     }
 
     // Looks whether the hub or the outside is left.
@@ -255,23 +304,27 @@ impl Side {
         if place == NONE {
             return Found::Closed;
         }
-        self.walk(view, place);
+        self.far_walk = self.walk_from(view, place);
         Found::On
     }
 
     // Looks at machines between which and the hub or the outside a unit may go, up to a new one that leads on, which it
-    // gives; `NONE` if there is none. One of another class is forgotten: classes that were parted stay so.
+    // gives; `NONE` if there is none. One of another class is forgotten: classes that were parted stay so. Behind the
+    // machines come the tasks.
     #[inline(always)]
     fn look_round(&mut self, view: View, other: &Side, walk: &mut Walk, work: &mut Work) -> u32
         ensures most { work.new.most ≡ work.old.most }
     {
+        if walk.machines == 0 {
+            return self.look_along(view, walk, work);
+        }
         let from = walk.place;
         let is_hub = from == view.table.hub();
         for _ in 0..view.turn {
-            if walk.units.machines == 0 || !work.look() {
+            if walk.machines == 0 || !work.look() {
                 return NONE;
             }
-            walk.units.machines = walk.units.machines.saturating_sub(1);
+            walk.machines = walk.machines.saturating_sub(1);
             let circle = if is_hub {
                 &mut self.at_hub
             } else {
@@ -315,10 +368,9 @@ impl Side {
                 return NONE;
             }
             let Link { by, at: to } = if self.is_ahead {
-                view.links.look_ahead(view.table, view.draft, walk)
+                view.links.look_ahead(view.draft, walk)
             } else {
-                view.links
-                    .look_behind(view.table, view.draft, walk, view.now)
+                view.links.look_behind(view.draft, walk, view.now)
             };
             if self.mark_new(view, Step { from, to, by }) {
                 return to;
@@ -345,12 +397,14 @@ impl Side {
         true
     }
 
-    // Goes into a new place, the hub and the outside later.
+    // Keeps a new place to be gone into, the hub and the outside last.
     #[inline(always)]
     fn enter(&mut self, view: View, place: u32) {
         self.seen.push(place);
         if place < view.table.hub() {
-            self.walk(view, place);
+            self.last = place;
+            self.units = self.units_of(view, place);
+            self.near.push(place);
         } else {
             self.saw_hub = self.saw_hub || place == view.table.hub();
             self.saw_outside = self.saw_outside || place == view.table.outside();
@@ -369,28 +423,21 @@ impl Side {
         has_links || !self.units_of(view, machine).are_none()
     }
 
-    // Goes into a place, if it leads anywhere.
+    // The walk from a place.
     #[inline(always)]
-    fn walk(&mut self, view: View, place: u32) {
+    fn walk_from(&mut self, view: View, place: u32) -> Walk {
         let hub = view.table.hub();
-        let units = if place < hub {
-            self.units_of(view, place)
+        let machines = if place < hub {
+            0
         } else if place == hub {
-            UnitLinks::with(self.at_hub.begin())
+            self.at_hub.begin()
         } else {
-            UnitLinks::with(self.at_edge.begin())
+            self.at_edge.begin()
         };
-        let walk = if self.is_ahead {
-            view.links.walk_ahead(view.draft, place, units)
+        if self.is_ahead {
+            view.links.walk_ahead(view.draft, place, machines)
         } else {
-            view.links.walk_behind(place, units)
-        };
-        if walk.is_done() {
-            return;
-        }
-        if let Some(top) = self.walks.get_mut(self.depth as usize) {
-            *top = walk;
-            self.depth = self.depth.saturating_add(1);
+            view.links.walk_behind(place, machines)
         }
     }
 
@@ -407,11 +454,7 @@ impl Side {
         let hub = !self.saw_hub
             && draft.price(machine) == draft.price(view.table.hub())
             && (!self.is_ahead || draft.is_loose(machine));
-        UnitLinks {
-            outside,
-            hub,
-            machines: 0,
-        }
+        UnitLinks { outside, hub }
     }
 
     /// The step between a place and the one from which this side saw it; none where it began.

@@ -61,6 +61,8 @@ pub(crate) struct Table {
     firsts: Numbers,
     // The machine that each task runs on, `NONE` if it waits.
     homes: Numbers,
+    // What each task's wait costs.
+    waits: Numbers,
     slots: Numbers,
     // How many tasks prefer each machine.
     demands: Numbers,
@@ -79,6 +81,7 @@ impl Table {
         let table = vec![in alloc; Way::NONE; ways]?;
         let firsts = Numbers::new(alloc, nodes)?;
         let homes = Numbers::new(alloc, nodes)?;
+        let waits = Numbers::new(alloc, nodes)?;
         let slots = Numbers::new(alloc, nodes)?;
         let demands = Numbers::new(alloc, nodes)?;
         let slot_costs = Numbers::new(alloc, MOST_SLOTS as usize)?;
@@ -87,6 +90,7 @@ impl Table {
             way_count: 0,
             firsts,
             homes,
+            waits,
             slots,
             demands,
             tasks: 0,
@@ -138,6 +142,17 @@ impl Table {
         self.homes.at(task)
     }
 
+    /// What the task's wait costs.
+    #[inline(always)]
+    pub(crate) fn wait(&self, task: u32) -> u32 {
+        self.waits.at(task)
+    }
+
+    /// What the waits of all tasks cost.
+    pub(crate) fn waits(&self) -> &[u32] {
+        self.waits.first(self.tasks)
+    }
+
     #[inline(always)]
     pub(crate) fn way(&self, number: u32) -> Way {
         self.ways.get(number as usize).copied().unwrap_or(Way::NONE)
@@ -154,6 +169,13 @@ impl Table {
             from: self.firsts.at(task),
             to: self.firsts.at(task.saturating_add(1)),
         }
+    }
+
+    /// Whether no machine costs the task less than others: it does not run, and prefers none.
+    #[inline(always)]
+    pub(crate) fn is_plain(&self, task: u32) -> bool {
+        let ways = self.ways_of(task);
+        ways.from.saturating_add(2) == ways.to
     }
 
     /// The numbers of the task's ways to machines that it prefers and does not run on.
@@ -283,6 +305,7 @@ impl Table {
         let hub = self.hub();
         self.add_way(task, hub, away);
         let wait = case.cost_of_choice(number, Choice::Wait) as u32;
+        self.waits.set(task, wait);
         let outside = self.outside();
         self.add_way(task, outside, wait);
     }
