@@ -1,12 +1,16 @@
 """Measures how long a small tenant's reply takes beside large neighbours, by a client that holds its input open.
 
 usage: tools/run bench/neighbours.py [--program FILE] [--beside FILE] [--workers N] [--kind crowded] [--size 2500x700]
-                           [--tenants N] [--repeats R] [--keep]
+                           [--tenants N] [--repeats R] [--usual] [--keep]
 Lines are written at once: a round of tenant `a`, which is small, and lines of others behind it. Times are from the
 write to a's reply, by the clock on the wall: the least, the middle and the ninetieth of a hundred. In the last row a
 large tenant's round, and a line that waits for it, stand before another's round, whose reply is timed. Each is of a new
 service, in which the rounds of the large tenants are their first. With `--beside` another built program is measured by
 turns with it.
+
+The client has a priority above all others, so that a time ends once the service has written the reply. With `--usual`
+it has the usual one: then a time also has the client's own wait for a processor, since a kernel may wake it behind a
+worker that solves a large tenant's round. The service has the usual priority in both.
 """
 
 from __future__ import annotations
@@ -24,7 +28,7 @@ from statistics import median
 from typing import NamedTuple
 
 import results
-from shared import BUILT, TENANT, kinds, opened, program_file, read_size, run_script
+from shared import BUILT, TENANT, CannotRun, kinds, opened, program_file, read_size, run_script
 
 SMALL_LINES = ["a machine m 2", "a job j 10", "a task j t", "a round"]
 LIMIT_SECONDS = 20
@@ -41,6 +45,7 @@ class Options:
     size: tuple[int, int]
     tenants: int
     repeats: int
+    is_usual: bool
     keep: bool
 
 
@@ -128,11 +133,22 @@ def cells(times: list[float]) -> str:
     return " | ".join(f"{1000 * each:.2f}" for each in (ordered[0], median(ordered), ordered[len(ordered) * 9 // 10]))
 
 
+def run_first() -> None:
+    """From now on this process runs before those of the usual priority, as those that it starts are."""
+    try:
+        os.sched_setscheduler(0, os.SCHED_FIFO | os.SCHED_RESET_ON_FORK, os.sched_param(1))
+    except PermissionError:
+        raise CannotRun("the client may not raise its priority: only --usual can be measured") from None
+
+
 def show(options: Options) -> int:
     """Measures and prints; the exit status."""
+    if not options.is_usual:
+        run_first()
     programs = [options.program, *([options.beside] if options.beside else [])]
     tasks, machines = options.size
-    print(f"load before: {os.getloadavg()[0]:.1f} on {os.cpu_count()} processors; {options.kind} {tasks}x{machines}\n")
+    print(f"load before: {os.getloadavg()[0]:.1f} on {os.cpu_count()} processors; {options.kind} {tasks}x{machines}")
+    print(f"The client has {'the usual' if options.is_usual else 'a higher'} priority.\n")
     print("| written at once | workers |" + " least, ms | middle, ms | 90 of 100, ms |" * len(programs))
     print("| --- | ---: |" + " ---: | ---: | ---: |" * len(programs))
     large = large_tenant(options)
@@ -156,6 +172,7 @@ def read_options() -> Options:
     parser.add_argument("--size", type=read_size, default="2500x700", help="tasks and machines of a large tenant")
     parser.add_argument("--tenants", type=int, default=12, help="how many are large in the last row")
     parser.add_argument("--repeats", type=int, default=20)
+    parser.add_argument("--usual", dest="is_usual", action="store_true", help="the client has the usual priority")
     parser.add_argument("--keep", action="store_true", help=results.HELP)
     return Options(**vars(parser.parse_args()))
 
