@@ -9,3 +9,8 @@ use std::process::Abort;
 fn expect<T: Copy + PartialEq>(rt: &impl Abort, found: T, wanted: T) {
     assert!(rt; found == wanted);
 }
+
+// The value of this number in order of addition.
+fn at<T: Copy>(rt: &impl Abort, added: &Vec<T>, number: usize) -> T {
+    added.get(number).copied().expect(rt, "it was added")
+}
