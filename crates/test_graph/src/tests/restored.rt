@@ -1,14 +1,10 @@
 //! The graph of a tenant's rows beside the one that their commands built.
-use super::graph::{arcs_of, head_of, through};
+use super::seen::{arcs_of, head_of, through};
+use super::{check, expect};
 use firm_graph::Graph;
 use firm_net::{ArcId, ArcRow};
 use std::alloc::Global;
 use std::process::Abort;
-
-/// The graph of another one's rows.
-pub fn of_rows(rt: &impl Abort, alloc: Global, graph: &Graph) -> Graph {
-    Graph::of_rows(alloc, graph.rows()).expect(rt, "memory")
-}
 
 // An arc by the place of the machine to which it leads, its capacity and its cost.
 type Shown = (Option<usize>, u32, u32);
@@ -61,11 +57,17 @@ fn shown(rt: &impl Abort, alloc: Global, graph: &Graph) -> Vec<Shown> {
     shown
 }
 
+fn expect_shown(rt: &impl Abort, alloc: Global, one: &Graph, other: &Graph) {
+    let (shown, others) = (shown(rt, alloc, one), shown(rt, alloc, other));
+    check(rt, shown.as_slice() == others.as_slice(), "the arcs");
+}
+
 /// One graph shows what another shows, whose rows are the same.
 pub fn expect_alike(rt: &impl Abort, alloc: Global, one: &Graph, other: &Graph) {
-    assert!(rt; one.rows().machines().eq(other.rows().machines()));
-    assert!(rt; one.rows().jobs().eq(other.rows().jobs()));
-    assert!(rt; one.rows().tasks().eq(other.rows().tasks()));
-    assert!(rt; one.net().room() == other.net().room());
-    assert!(rt; shown(rt, alloc, one).as_slice() == shown(rt, alloc, other).as_slice());
+    let (rows, others) = (one.rows(), other.rows());
+    check(rt, rows.machines().eq(others.machines()), "the machines");
+    check(rt, rows.jobs().eq(others.jobs()), "the jobs");
+    check(rt, rows.tasks().eq(others.tasks()), "the tasks");
+    expect(rt, one.net().room(), other.net().room());
+    expect_shown(rt, alloc, one, other);
 }
