@@ -1,4 +1,7 @@
 //! Names and numbers, rows, rounds, and the rents of one round.
+//!
+//! Rows that a function owns end by a call of `drop`, so that the proof follows the drop of all they hold only once.
+ghost use Rattle.std.specs.Prelude.{IsTrue};
 
 mod names;
 mod rents;
@@ -7,6 +10,12 @@ mod rows;
 
 use firm_rules::Name;
 use std::process::Abort;
+
+fn check(rt: &impl Abort, holds: bool, what: &str)
+    ensures { IsTrue holds }
+{
+    assert!(rt; holds, "{what}");
+}
 
 fn name(rt: &impl Abort, bytes: &[u8]) -> Name {
     Name::read(bytes).expect(rt, "a name")

@@ -1,5 +1,5 @@
 //! Names, limits, slots, weights, and what refusals are called.
-use super::name;
+use super::{check, name};
 use firm_rules::{Limits, LineFault, Name, Refusal, Slots, Weight};
 use std::alloc::Global;
 use std::process::Abort;
@@ -17,8 +17,8 @@ static NAMES: [&[u8]; 7] = [
 
 #[test]
 fn a_name_is_read_from_its_bytes(rt: HostRuntime) {
-    for bytes in NAMES {
-        assert!(rt; name(&rt, bytes).as_bytes() == bytes);
+    for bytes in &NAMES {
+        check(&rt, name(&rt, bytes).as_bytes() == *bytes, "a name's bytes");
     }
 }
 
@@ -45,28 +45,26 @@ static NO_NAMES: [&[u8]; 18] = [
 
 #[test]
 fn bytes_without_the_form_are_no_name(rt: HostRuntime) {
-    for bytes in NO_NAMES {
-        assert!(rt; Name::read(bytes) == None, "{bytes:?}");
+    for bytes in &NO_NAMES {
+        check(&rt, Name::read(bytes).is_none(), "no name");
     }
 }
 
 #[test]
 fn names_are_equal_where_their_bytes_are(rt: HostRuntime) {
-    assert!(rt; name(&rt, b"ab") == name(&rt, b"ab"));
-    assert!(rt; name(&rt, b"ab") != name(&rt, b"ab0"));
+    let own = name(&rt, b"ab");
+    check(&rt, own == name(&rt, b"ab"), "the same bytes");
+    check(&rt, own != name(&rt, b"ab0"), "a byte more");
 }
 
 fn printed(rt: &impl Abort, alloc: Global, name: Name) -> String {
-    let Ok(printed) = format!(in alloc; "{name:?}") else {
-        panic!(rt; "no memory")
-    };
-    printed
+    format!(in alloc; "{name:?}").expect(rt, "memory")
 }
 
 #[test]
 fn a_name_is_printed_as_its_bytes(rt: HostRuntime) {
     let printed = printed(&rt, rt.alloc(), name(&rt, b"ab0"));
-    assert!(rt; printed.as_str() == "ab0");
+    check(&rt, printed.as_str() == "ab0", "a name in print");
 }
 
 const LONGEST: u64 = 1_099_511_627_776;
@@ -92,7 +90,11 @@ fn numbers_of(limits: &Limits) -> [u64; 6] {
 fn limits_within_their_ranges_are_taken(rt: HostRuntime) {
     for numbers in &LIMITS {
         let limits = limits(numbers).expect(&rt, "limits");
-        assert!(rt; numbers_of(&limits) == *numbers);
+        check(
+            &rt,
+            numbers_of(&limits) == *numbers,
+            "the numbers of limits",
+        );
     }
 }
 
@@ -108,55 +110,80 @@ static NO_LIMITS: [[u64; 6]; 9] = [
     [u64::MAX, 0, 1, 0, 0, 0],
 ];
 
-fn expect_no_limits(rt: &impl Abort, numbers: &[u64; 6]) {
-    assert!(rt; limits(numbers) == None, "{numbers:?}");
-}
-
 #[test]
 fn limits_out_of_their_ranges_are_refused(rt: HostRuntime) {
     for numbers in &NO_LIMITS {
-        expect_no_limits(&rt, numbers);
+        check(&rt, limits(numbers).is_none(), "no limits");
     }
 }
 
 fn expect_patience(rt: &impl Abort, patience: u64) {
     let numbers = [9, 24, 100, 1, 2, 7];
     let limits = patient(&numbers, patience).expect(rt, "limits");
-    assert!(rt; limits.patience() == patience);
-    assert!(rt; numbers_of(&limits) == numbers);
+    check(rt, limits.patience() == patience, "a patience");
+    check(rt, numbers_of(&limits) == numbers, "the numbers of limits");
 }
+
+static PATIENCES: [u64; 3] = [0, 3, 1_000_000];
+
+static NO_PATIENCES: [u64; 2] = [1_000_001, u64::MAX];
 
 #[test]
 fn a_patience_is_checked_at_each_end(rt: HostRuntime) {
-    for patience in [0, 3, 1_000_000] {
-        expect_patience(&rt, patience);
+    for patience in &PATIENCES {
+        expect_patience(&rt, *patience);
     }
     let limits = limits(&[2, 0, 1, 0, 0, 0]).expect(&rt, "limits");
-    assert!(rt; limits.patience() == 1_000_000);
-    for patience in [1_000_001, u64::MAX] {
-        assert!(rt; limits.with_patience(patience) == None);
+    check(&rt, limits.patience() == 1_000_000, "the patience of old");
+    for patience in &NO_PATIENCES {
+        check(
+            &rt,
+            limits.with_patience(*patience).is_none(),
+            "no patience",
+        );
     }
 }
+
+// A number that is taken is read again.
+fn slots(number: u64) -> Option<u64> {
+    let slots = Slots::check(number)?;
+    Some(u64::from(slots.get()))
+}
+
+static SLOTS: [(u64, Option<u64>); 6] = [
+    (1, Some(1)),
+    (2, Some(2)),
+    (64, Some(64)),
+    (0, None),
+    (65, None),
+    (u64::MAX, None),
+];
 
 #[test]
 fn slots_are_checked_at_each_end(rt: HostRuntime) {
-    for number in [1, 2, 64] {
-        let slots = Slots::check(number).expect(&rt, "slots");
-        assert!(rt; u64::from(slots.get()) == number);
-    }
-    for number in [0, 65, u64::MAX] {
-        assert!(rt; Slots::check(number) == None);
+    for (number, wanted) in &SLOTS {
+        check(&rt, slots(*number) == *wanted, "slots");
     }
 }
 
+fn weight(number: u64) -> Option<u64> {
+    let weight = Weight::check(number)?;
+    Some(u64::from(weight.get()))
+}
+
+static WEIGHTS: [(u64, Option<u64>); 6] = [
+    (1, Some(1)),
+    (10, Some(10)),
+    (1_000_000, Some(1_000_000)),
+    (0, None),
+    (1_000_001, None),
+    (u64::MAX, None),
+];
+
 #[test]
 fn weights_are_checked_at_each_end(rt: HostRuntime) {
-    for number in [1, 10, 1_000_000] {
-        let weight = Weight::check(number).expect(&rt, "a weight");
-        assert!(rt; u64::from(weight.get()) == number);
-    }
-    for number in [0, 1_000_001, u64::MAX] {
-        assert!(rt; Weight::check(number) == None);
+    for (number, wanted) in &WEIGHTS {
+        check(&rt, weight(*number) == *wanted, "a weight");
     }
 }
 
@@ -180,8 +207,8 @@ static REFUSALS: [(Refusal, u32, &str); 14] = [
 #[test]
 fn refusals_have_their_codes_and_names(rt: HostRuntime) {
     for (refusal, code, name) in &REFUSALS {
-        assert!(rt; refusal.code() == *code);
-        assert!(rt; refusal.name() == *name);
+        check(&rt, refusal.code() == *code, "a code");
+        check(&rt, refusal.name() == *name, "a name");
     }
 }
 
@@ -194,6 +221,6 @@ static OF_LINES: [(LineFault, Refusal); 3] = [
 #[test]
 fn faults_of_a_line_are_refusals(rt: HostRuntime) {
     for (fault, refusal) in &OF_LINES {
-        assert!(rt; Refusal::from(*fault) == *refusal);
+        check(&rt, Refusal::from(*fault) == *refusal, "a fault");
     }
 }

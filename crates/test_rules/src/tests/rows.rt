@@ -1,5 +1,5 @@
 //! Rows that are added and go, and the growth of each table, which may be refused.
-use super::name;
+use super::{check, name};
 use firm_rules::{Job, Limits, Machine, Preferred, Rows, Slots, Task, Use, Weight, use_of};
 use linked_list_allocator::LocalHeap;
 use std::alloc::Allocator;
@@ -7,7 +7,7 @@ use std::process::Abort;
 use test_kit::{NotAdded, limits, preferring, with_job, with_machine, with_restored, with_task};
 
 // Two machines of two slots, a job, and a task of the job.
-#[derive(Clone, Copy)]
+#[derive(Drop)]
 struct Added {
     first: Machine,
     second: Machine,
@@ -53,7 +53,7 @@ fn made(rt: &impl Abort) -> Added {
 }
 
 // Adds what `made` gives.
-fn fill<A: Allocator>(rt: &impl Abort, rows: &mut Rows<A>) {
+fn fill(rt: &impl Abort, rows: &mut Rows) {
     with_machine(rows, b"m1", 2).expect(rt, "a machine");
     with_machine(rows, b"m2", 2).expect(rt, "a machine");
     with_job(rows, b"j", 10).expect(rt, "a job");
@@ -61,10 +61,10 @@ fn fill<A: Allocator>(rt: &impl Abort, rows: &mut Rows<A>) {
 }
 
 fn expect_preferred(rt: &impl Abort, preferred: &Preferred, machines: &[&[u8]]) {
-    assert!(rt; preferred.len() == machines.len());
+    check(rt, preferred.len() == machines.len(), "their number");
     for (own, bytes) in preferred.as_slice().iter().zip(machines.iter()) {
-        assert!(rt; own.as_bytes() == *bytes);
-        assert!(rt; preferred.contains(name(rt, bytes)));
+        check(rt, own.as_bytes() == *bytes, "a machine in its place");
+        check(rt, preferred.contains(name(rt, bytes)), "a machine");
     }
 }
 
@@ -72,19 +72,20 @@ fn expect_preferred(rt: &impl Abort, preferred: &Preferred, machines: &[&[u8]]) 
 fn a_machine_is_preferred_once_and_no_more_than_four_are(rt: HostRuntime) {
     let none = Preferred::new();
     expect_preferred(&rt, &none, &[]);
-    assert!(rt; !none.contains(name(&rt, b"m1")));
+    check(&rt, !none.contains(name(&rt, b"m1")), "no machine");
     let two = preferred(&rt, &[b"m2", b"m1", b"m2"]);
     expect_preferred(&rt, &two, &[b"m2", b"m1"]);
     let four = preferred(&rt, &[b"m4", b"m3", b"m2", b"m1"]);
     expect_preferred(&rt, &four, &[b"m4", b"m3", b"m2", b"m1"]);
-    assert!(rt; four != two && two != none);
+    check(&rt, four != two, "other machines");
+    check(&rt, two != none, "two machines");
 }
 
 fn expect_row<Row: PartialEq>(rt: &impl Abort, found: Option<&Row>, wanted: &Row) {
-    assert!(rt; found.is_some_and(|row| row == wanted));
+    check(rt, found == Some(wanted), "the row");
 }
 
-fn expect_last<A: Allocator>(rt: &impl Abort, rows: &Rows<A>, added: &Added) {
+fn expect_last(rt: &impl Abort, rows: &Rows, added: &Added) {
     expect_row(rt, rows.machines().next(), &added.first);
     expect_row(rt, rows.machines().last(), &added.second);
     expect_row(rt, rows.jobs().last(), &added.job);
@@ -92,74 +93,85 @@ fn expect_last<A: Allocator>(rt: &impl Abort, rows: &Rows<A>, added: &Added) {
 }
 
 fn expect_use<A: Allocator>(rt: &impl Abort, rows: &Rows<A>, nodes: u64, arcs: u64) {
-    assert!(rt; use_of(rows) == Use { nodes, arcs });
+    check(rt, use_of(rows) == Use { nodes, arcs }, "what is used");
 }
 
 // How many machines, jobs and tasks there are.
-fn expect_counts<A: Allocator>(rt: &impl Abort, rows: &Rows<A>, wanted: [usize; 3]) {
+fn expect_counts(rt: &impl Abort, rows: &Rows, wanted: [usize; 3]) {
     let counts = [rows.machine_count(), rows.job_count(), rows.task_count()];
-    assert!(rt; counts == wanted);
+    check(rt, counts == wanted, "the counts");
 }
 
-fn expect_machines<A: Allocator>(rt: &impl Abort, rows: &Rows<A>, added: &Added) {
-    assert!(rt; rows.machine_at(1) == Some(added.second));
-    assert!(rt; rows.machine_at(2).is_none());
+fn expect_machines(rt: &impl Abort, rows: &Rows, added: &Added) {
+    check(rt, rows.machine_at(1) == Some(added.second), "a machine");
+    check(rt, rows.machine_at(2).is_none(), "no machine");
 }
 
-fn expect_job<A: Allocator>(rt: &impl Abort, rows: &Rows<A>, added: &Added) {
-    assert!(rt; rows.job_at(0) == Some(added.job));
-    assert!(rt; rows.job_at(1).is_none());
+fn expect_job(rt: &impl Abort, rows: &Rows, added: &Added) {
+    check(rt, rows.job_at(0) == Some(added.job), "a job");
+    check(rt, rows.job_at(1).is_none(), "no job");
 }
 
-fn expect_task<A: Allocator>(rt: &impl Abort, rows: &Rows<A>, added: &Added) {
-    assert!(rt; rows.task_at(0) == Some(added.task));
-    assert!(rt; rows.task_at(1).is_none());
-    assert!(rt; rows.task_named(added.task.name) == Some(added.task));
-    assert!(rt; rows.task_named(added.job.name).is_none());
+fn expect_task(rt: &impl Abort, rows: &Rows, added: &Added) {
+    let task = Some(added.task);
+    check(rt, rows.task_at(0) == task, "a task");
+    check(rt, rows.task_at(1).is_none(), "no task");
+    check(rt, rows.task_named(added.task.name) == task, "its name");
+    check(rt, rows.task_named(added.job.name).is_none(), "no name");
 }
 
 fn some_limits(rt: &impl Abort) -> Limits {
     limits(&[9, 24, 100, 1, 2, 7]).expect(rt, "limits")
 }
 
+fn expect_filled(rt: &impl Abort, rows: &Rows, added: &Added) {
+    expect_last(rt, rows, added);
+    expect_use(rt, rows, 6, 11);
+    expect_counts(rt, rows, [2, 1, 1]);
+    expect_machines(rt, rows, added);
+    expect_job(rt, rows, added);
+    expect_task(rt, rows, added);
+}
+
+fn add_rows(rt: &impl Abort, rows: &mut Rows) {
+    expect_use(rt, rows, 2, 0);
+    fill(rt, rows);
+    expect_filled(rt, rows, &made(rt));
+}
+
 #[test]
 fn rows_are_added_last_and_their_use_is_counted(rt: HostRuntime) {
-    let added = made(&rt);
     let mut rows = Rows::new(rt.alloc(), some_limits(&rt));
-    expect_use(&rt, &rows, 2, 0);
-    fill(&rt, &mut rows);
-    expect_last(&rt, &rows, &added);
-    expect_use(&rt, &rows, 6, 11);
-    expect_counts(&rt, &rows, [2, 1, 1]);
-    expect_machines(&rt, &rows, &added);
-    expect_job(&rt, &rows, &added);
-    expect_task(&rt, &rows, &added);
+    add_rows(&rt, &mut rows);
+    drop(rows);
 }
 
-fn drain<A: Allocator>(rt: &impl Abort, rows: &mut Rows<A>, machine: &[u8], evicted: u32) {
-    let Some(place) = rows.machine_place(name(rt, machine)) else {
-        panic!(rt; "no such machine")
-    };
-    assert!(rt; rows.drain(place) == evicted);
+fn drain(rt: &impl Abort, rows: &mut Rows, machine: &[u8], evicted: u32) {
+    let place = rows.machine_place(name(rt, machine));
+    let place = place.expect(rt, "a machine of this name");
+    check(rt, rows.drain(place) == evicted, "the tasks that it had");
 }
 
-fn expect_preferences<A: Allocator>(rt: &impl Abort, rows: &Rows<A>, machines: &[&[u8]]) {
-    let Some(task) = rows.task_at(0) else {
-        panic!(rt; "no task")
-    };
+fn expect_preferences(rt: &impl Abort, rows: &Rows, machines: &[&[u8]]) {
+    let task = rows.task_at(0).expect(rt, "a task");
     expect_preferred(rt, &task.preferred, machines);
+}
+
+fn drain_preferred(rt: &impl Abort, rows: &mut Rows) {
+    fill(rt, rows);
+    expect_preferences(rt, rows, &[b"m2"]);
+    drain(rt, rows, b"m2", 0);
+    expect_use(rt, rows, 5, 7);
+    expect_preferences(rt, rows, &[]);
+    with_machine(rows, b"m2", 2).expect(rt, "a machine");
+    expect_preferences(rt, rows, &[]);
 }
 
 #[test]
 fn a_drained_machine_is_preferred_no_longer(rt: HostRuntime) {
     let mut rows = Rows::new(rt.alloc(), some_limits(&rt));
-    fill(&rt, &mut rows);
-    expect_preferences(&rt, &rows, &[b"m2"]);
-    drain(&rt, &mut rows, b"m2", 0);
-    expect_use(&rt, &rows, 5, 7);
-    expect_preferences(&rt, &rows, &[]);
-    with_machine(&mut rows, b"m2", 2).expect(&rt, "a machine");
-    expect_preferences(&rt, &rows, &[]);
+    drain_preferred(&rt, &mut rows);
+    drop(rows);
 }
 
 // The task, which prefers no machine, once it has waited for five rounds.
@@ -174,7 +186,7 @@ fn waiting(task: Task) -> Task {
 }
 
 // The first row of each table; a last one of the tasks is restored.
-fn grow<A: Allocator>(rows: &mut Rows<A>, task: &Task, table: usize) -> Result<(), NotAdded> {
+fn grow(rows: &mut Rows<&LocalHeap>, task: &Task, table: usize) -> Result<(), NotAdded> {
     match table {
         0 => with_machine(rows, b"m1", 2),
         1 => with_job(rows, b"j", 10),
@@ -189,7 +201,15 @@ fn hog<'a>(rt: &impl Abort, heap: &'a LocalHeap) -> Vec<u8, &'a LocalHeap> {
     Vec::with_capacity(heap, free).expect(rt, "memory")
 }
 
-// A hog holds the heap: the row finds no memory, and nothing changes. It is added once the hog is gone.
+// The row finds no memory, and nothing changes.
+fn expect_refused(rt: &impl Abort, rows: &mut Rows<&LocalHeap>, task: &Task, table: usize) {
+    let before = use_of(rows);
+    let refused = grow(rows, task, table) == Err(NotAdded::Memory);
+    check(rt, refused, "no memory");
+    check(rt, use_of(rows) == before, "what is used");
+}
+
+// A hog holds the heap: the row is refused. It is added once the hog is gone.
 fn grow_at_last<'a>(
     rt: &impl Abort,
     heap: &'a LocalHeap,
@@ -197,20 +217,29 @@ fn grow_at_last<'a>(
     task: &Task,
     table: usize,
 ) {
-    let before = use_of(rows);
     let hog = hog(rt, heap);
-    assert!(rt; grow(rows, task, table) == Err(NotAdded::Memory));
-    assert!(rt; use_of(rows) == before);
+    expect_refused(rt, rows, task, table);
     drop(hog);
     grow(rows, task, table).expect(rt, "memory");
 }
 
+fn grow_all<'a>(
+    rt: &impl Abort,
+    heap: &'a LocalHeap,
+    rows: &mut Rows<&'a LocalHeap>,
+    task: &Task,
+    last: usize,
+) {
+    grow_at_last(rt, heap, rows, task, 0);
+    grow_at_last(rt, heap, rows, task, 1);
+    grow_at_last(rt, heap, rows, task, last);
+    expect_use(rt, rows, 5, 7);
+}
+
 fn grow_after_refusals(rt: &impl Abort, heap: &LocalHeap, task: &Task, last: usize) {
     let mut rows = Rows::new(heap, some_limits(rt));
-    for table in [0, 1, last] {
-        grow_at_last(rt, heap, &mut rows, task, table);
-    }
-    expect_use(rt, &rows, 5, 7);
+    grow_all(rt, heap, &mut rows, task, last);
+    drop(rows);
 }
 
 #[test]
