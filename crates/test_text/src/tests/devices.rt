@@ -1,218 +1,155 @@
 //! Sources and sinks over readers and writers.
+use super::{check, vector};
+use Answer::{Fails, Moves};
+use Call::{Flush, Read, Write};
 use firm_text::{Bytes, Failed, Sink, Source};
-use std::alloc::Global;
-use std::io::{self, ErrorKind, Read, Write};
+use std::io::{self, ErrorKind};
 use std::process::Abort;
 
-/// A reader and writer that is interrupted at each call.
-struct Interrupted;
-
-impl Read for Interrupted {
-    fn read(&mut self, _: &mut [u8]) -> io::Result<usize> {
-        Err(ErrorKind::Interrupted.into())
-    }
+/// A call of a source or a sink. A read has room for two bytes.
+enum Call {
+    Read,
+    Write(&'static [u8]),
+    Flush,
 }
 
-impl Write for Interrupted {
-    fn write(&mut self, _: &[u8]) -> io::Result<usize> {
-        Err(ErrorKind::Interrupted.into())
-    }
-
-    fn flush(&mut self) -> io::Result<()> {
-        Err(ErrorKind::Interrupted.into())
-    }
+/// What the device answers: it moves this number of bytes at most, or fails.
+enum Answer {
+    Moves(usize),
+    Fails,
 }
 
-/// A writer that takes no byte.
-struct Full;
+/// A call, what the device answers, and what comes of the call: how many bytes it moved, which is none at a flush.
+type Row = (Call, Answer, Result<usize, Failed>);
 
-impl Write for Full {
-    fn write(&mut self, _: &[u8]) -> io::Result<usize> {
-        Ok(0)
-    }
-
-    fn flush(&mut self) -> io::Result<()> {
-        Ok(())
-    }
-}
-
-/// A reader and writer one of whose calls, counted from 0, fails with an error of this kind; each other call moves one
-/// byte.
+/// A reader and writer that answers its calls as these rows say, and fails with errors of this kind.
 #[derive(Drop)]
-struct FailsAt {
-    failing: u64,
+struct Device {
+    rows: &'static [Row],
     kind: ErrorKind,
-    calls: u64,
+    calls: usize,
 }
 
-impl FailsAt {
-    fn count_call(&mut self) -> io::Result<()> {
-        let call = self.calls;
-        self.calls = call.saturating_add(1);
-        if call == self.failing {
-            return Err(self.kind.into());
+impl Device {
+    /// The most bytes that the next call moves.
+    fn next_most(&mut self) -> io::Result<usize> {
+        let row = self.rows.get(self.calls);
+        self.calls = self.calls.saturating_add(1);
+        match row {
+            Some((_, Moves(most), _)) => Ok(*most),
+            _ => Err(self.kind.into()),
         }
+    }
+}
+
+impl io::Read for Device {
+    fn read(&mut self, buffer: &mut [u8]) -> io::Result<usize> {
+        Ok(buffer.len().min(self.next_most()?))
+    }
+}
+
+impl io::Write for Device {
+    fn write(&mut self, bytes: &[u8]) -> io::Result<usize> {
+        Ok(bytes.len().min(self.next_most()?))
+    }
+
+    fn flush(&mut self) -> io::Result<()> {
+        self.next_most()?;
         Ok(())
     }
 }
 
-impl Read for FailsAt {
-    fn read(&mut self, buffer: &mut [u8]) -> io::Result<usize> {
-        self.count_call()?;
-        Ok(buffer.len().min(1))
-    }
-}
-
-impl Write for FailsAt {
-    fn write(&mut self, bytes: &[u8]) -> io::Result<usize> {
-        self.count_call()?;
-        Ok(bytes.len().min(1))
-    }
-
-    fn flush(&mut self) -> io::Result<()> {
-        self.count_call()
-    }
-}
-
-/// A reader and writer whose first call moves no byte and whose later calls each move one.
-#[derive(Drop)]
-struct StallsOnce {
-    has_stalled: bool,
-}
-
-impl StallsOnce {
-    fn most(&mut self) -> usize {
-        if self.has_stalled {
-            return 1;
+fn made(device: &mut Bytes<Device>, call: &Call) -> Result<usize, Failed> {
+    match call {
+        Read => device.read(&mut [0; 2]),
+        Write(bytes) => device.write(bytes),
+        Flush => {
+            device.flush()?;
+            Ok(0)
         }
-        self.has_stalled = true;
-        0
     }
 }
 
-impl Read for StallsOnce {
-    fn read(&mut self, buffer: &mut [u8]) -> io::Result<usize> {
-        Ok(buffer.len().min(self.most()))
+/// Makes each call in turn. None of them is to be tried again, so the device is called as often.
+fn play(rt: &impl Abort, kind: ErrorKind, rows: &'static [Row]) {
+    let mut device = Bytes::new(Device {
+        rows,
+        kind,
+        calls: 0,
+    });
+    for (call, _, wanted) in rows {
+        check(rt, made(&mut device, call) == *wanted, b"a call");
     }
+    let calls = device.into_inner().calls;
+    check(rt, calls == rows.len(), b"all calls");
 }
 
-impl Write for StallsOnce {
-    fn write(&mut self, bytes: &[u8]) -> io::Result<usize> {
-        Ok(bytes.len().min(self.most()))
-    }
-
-    fn flush(&mut self) -> io::Result<()> {
-        Ok(())
-    }
-}
-
-fn expect_read<S: Source>(
-    rt: &impl Abort,
-    source: &mut S,
-    buffer: &mut [u8; 2],
-    wanted: Result<usize, Failed>,
-) {
-    assert!(rt; source.read(buffer) == wanted);
-}
-
-fn expect_write<S: Sink>(
-    rt: &impl Abort,
-    sink: &mut S,
-    bytes: &[u8],
-    wanted: Result<usize, Failed>,
-) {
-    assert!(rt; sink.write(bytes) == wanted);
-}
-
-fn expect_flush<S: Sink>(rt: &impl Abort, sink: &mut S, wanted: Result<(), Failed>) {
-    assert!(rt; sink.flush() == wanted);
-}
-
-fn expect_bytes(rt: &impl Abort, bytes: &[u8], wanted: &[u8]) {
-    assert!(rt; bytes == wanted);
-}
+static OF_A_SLICE: [(usize, &[u8]); 3] = [(2, b"ab"), (1, b"cb"), (0, b"cb")];
 
 #[test]
 fn a_slice_is_read_to_its_end(rt: HostRuntime) {
     let mut source = Bytes::new(b"abc".as_slice());
     let mut buffer = [0; 2];
-    expect_read(&rt, &mut source, &mut buffer, Ok(2));
-    expect_bytes(&rt, &buffer, b"ab");
-    expect_read(&rt, &mut source, &mut buffer, Ok(1));
-    expect_bytes(&rt, &buffer, b"cb");
-    expect_read(&rt, &mut source, &mut buffer, Ok(0));
-    expect_bytes(&rt, source.into_inner(), b"");
+    for (count, wanted) in &OF_A_SLICE {
+        check(&rt, source.read(&mut buffer) == Ok(*count), wanted);
+        check(&rt, buffer.as_slice() == *wanted, wanted);
+    }
+    check(&rt, source.into_inner().is_empty(), b"the end");
 }
 
-fn vector(rt: &impl Abort, alloc: Global, bytes: &[u8]) -> Vec<u8> {
-    Vec::from_slice(alloc, bytes).ok().expect(rt, "memory")
+fn expect_written(rt: &impl Abort, sink: &mut Bytes<Vec<u8>>) {
+    check(rt, sink.write(b"bc") == Ok(2), b"bc");
+    check(rt, sink.write(b"") == Ok(0), b"");
+    check(rt, sink.flush() == Ok(()), b"a flush");
 }
 
 #[test]
 fn a_vector_is_written(rt: HostRuntime) {
     let mut sink = Bytes::new(vector(&rt, rt.alloc(), b"a"));
-    expect_write(&rt, &mut sink, b"bc", Ok(2));
-    expect_write(&rt, &mut sink, b"", Ok(0));
-    expect_flush(&rt, &mut sink, Ok(()));
-    expect_bytes(&rt, &sink.into_inner(), b"abc");
+    expect_written(&rt, &mut sink);
+    let written = sink.into_inner();
+    check(&rt, written.as_slice() == b"abc".as_slice(), &written);
 }
+
+static OF_FAILURES: [Row; 3] = [
+    (Read, Fails, Err(Failed)),
+    (Write(b"a"), Fails, Err(Failed)),
+    (Flush, Fails, Err(Failed)),
+];
 
 #[test]
 fn an_interrupted_call_fails(rt: HostRuntime) {
-    let mut device = Bytes::new(Interrupted);
-    let mut buffer = [0; 2];
-    expect_read(&rt, &mut device, &mut buffer, Err(Failed));
-    expect_write(&rt, &mut device, b"a", Err(Failed));
-    expect_flush(&rt, &mut device, Err(Failed));
-    let Interrupted = device.into_inner();
+    play(&rt, ErrorKind::Interrupted, &OF_FAILURES);
 }
+
+static OF_A_FULL_DEVICE: [Row; 3] = [
+    (Write(b"a"), Moves(0), Err(Failed)),
+    (Write(b""), Moves(0), Ok(0)),
+    (Flush, Moves(0), Ok(0)),
+];
 
 #[test]
 fn a_write_of_no_byte_fails(rt: HostRuntime) {
-    let mut sink = Bytes::new(Full);
-    expect_write(&rt, &mut sink, b"a", Err(Failed));
-    expect_write(&rt, &mut sink, b"", Ok(0));
-    expect_flush(&rt, &mut sink, Ok(()));
-    let Full = sink.into_inner();
+    play(&rt, ErrorKind::Other, &OF_A_FULL_DEVICE);
 }
 
-/// A device whose second call fails.
-fn fails_second(kind: ErrorKind) -> Bytes<FailsAt> {
-    Bytes::new(FailsAt {
-        failing: 1,
-        kind,
-        calls: 0,
-    })
-}
+static OF_ONE_FAILED_READ: [Row; 3] = [
+    (Read, Moves(1), Ok(1)),
+    (Read, Fails, Err(Failed)),
+    (Read, Moves(1), Ok(1)),
+];
 
-fn expect_calls(rt: &impl Abort, device: Bytes<FailsAt>, wanted: u64) {
-    assert!(rt; device.into_inner().calls == wanted);
-}
+static OF_ONE_FAILED_WRITE: [Row; 3] = [
+    (Write(b"ab"), Moves(1), Ok(1)),
+    (Write(b"ab"), Fails, Err(Failed)),
+    (Write(b"ab"), Moves(1), Ok(1)),
+];
 
-fn expect_one_failed_read(rt: &impl Abort, kind: ErrorKind) {
-    let mut buffer = [0; 2];
-    let mut source = fails_second(kind);
-    expect_read(rt, &mut source, &mut buffer, Ok(1));
-    expect_read(rt, &mut source, &mut buffer, Err(Failed));
-    expect_read(rt, &mut source, &mut buffer, Ok(1));
-    expect_calls(rt, source, 3);
-}
-
-fn expect_one_failed_write(rt: &impl Abort, kind: ErrorKind) {
-    let mut sink = fails_second(kind);
-    expect_write(rt, &mut sink, b"ab", Ok(1));
-    expect_write(rt, &mut sink, b"ab", Err(Failed));
-    expect_write(rt, &mut sink, b"ab", Ok(1));
-    expect_calls(rt, sink, 3);
-}
-
-fn expect_one_failed_flush(rt: &impl Abort, kind: ErrorKind) {
-    let mut sink = fails_second(kind);
-    expect_flush(rt, &mut sink, Ok(()));
-    expect_flush(rt, &mut sink, Err(Failed));
-    expect_flush(rt, &mut sink, Ok(()));
-    expect_calls(rt, sink, 3);
-}
+static OF_ONE_FAILED_FLUSH: [Row; 3] = [
+    (Flush, Moves(1), Ok(0)),
+    (Flush, Fails, Err(Failed)),
+    (Flush, Moves(1), Ok(0)),
+];
 
 static KINDS: [ErrorKind; 4] = [
     ErrorKind::Interrupted,
@@ -224,23 +161,21 @@ static KINDS: [ErrorKind; 4] = [
 #[test]
 fn a_call_that_fails_is_not_tried_again(rt: HostRuntime) {
     for kind in &KINDS {
-        expect_one_failed_read(&rt, *kind);
-        expect_one_failed_write(&rt, *kind);
-        expect_one_failed_flush(&rt, *kind);
+        play(&rt, *kind, &OF_ONE_FAILED_READ);
+        play(&rt, *kind, &OF_ONE_FAILED_WRITE);
+        play(&rt, *kind, &OF_ONE_FAILED_FLUSH);
     }
 }
 
-fn stalls_once() -> Bytes<StallsOnce> {
-    Bytes::new(StallsOnce { has_stalled: false })
-}
+static OF_A_STALLED_READ: [Row; 2] = [(Read, Moves(0), Ok(0)), (Read, Moves(1), Ok(1))];
+
+static OF_A_STALLED_WRITE: [Row; 2] = [
+    (Write(b"ab"), Moves(0), Err(Failed)),
+    (Write(b"ab"), Moves(1), Ok(1)),
+];
 
 #[test]
 fn a_call_that_moves_no_byte_is_not_tried_again(rt: HostRuntime) {
-    let mut buffer = [0; 2];
-    let mut source = stalls_once();
-    expect_read(&rt, &mut source, &mut buffer, Ok(0));
-    expect_read(&rt, &mut source, &mut buffer, Ok(1));
-    let mut sink = stalls_once();
-    expect_write(&rt, &mut sink, b"ab", Err(Failed));
-    expect_write(&rt, &mut sink, b"ab", Ok(1));
+    play(&rt, ErrorKind::Other, &OF_A_STALLED_READ);
+    play(&rt, ErrorKind::Other, &OF_A_STALLED_WRITE);
 }

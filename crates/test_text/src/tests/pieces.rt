@@ -1,49 +1,53 @@
 //! Input that comes in pieces.
 ghost use Rattle.std.specs.Prelude.{◌≡◌, false};
 
-use firm_text::{Cutter, Fed, Line, line};
+use super::check;
+use firm_text::{Cutter, Line, line};
 use std::process::Abort;
 
 const SPACES: &[u8] = &[b' '; 250];
 
 const LONG: &[u8] = &[b'x'; 600];
 
-fn expect_fed(rt: &impl Abort, cutter: &mut Cutter, piece: &[u8], used: usize, ended: bool)
+/// A piece, how many bytes of it are taken, the line that they end, if any, and whether a byte of the next line came.
+type Piece = (&'static [u8], usize, Option<&'static [u8]>, bool);
+
+/// The line of these bytes; no bytes make nothing.
+fn line_of(bytes: &[u8]) -> Line {
+    match bytes {
+        [] => Line::Nothing,
+        bytes => line(bytes),
+    }
+}
+
+fn expect_piece(rt: &impl Abort, cutter: &mut Cutter, row: &Piece)
     requires { cutter.old.has_ended ≡ false }
-    ensures { cutter.new.has_ended ≡ ended }
-{
-    let fed = cutter.feed(piece);
-    assert!(rt; fed.used == used);
-    assert!(rt; fed.ended == ended);
-}
-
-fn expect_rest(rt: &impl Abort, cutter: &Cutter, wanted: bool) {
-    assert!(rt; cutter.rest() == wanted);
-}
-
-fn expect_taken(rt: &impl Abort, cutter: &mut Cutter, wanted: Line)
     ensures { cutter.new.has_ended ≡ false }
 {
-    assert!(rt; cutter.take() == wanted);
+    let (piece, used, ended, rest) = row;
+    let fed = cutter.feed(piece);
+    check(rt, fed.used == *used, piece);
+    check(rt, fed.ended == ended.is_some(), piece);
+    if let Some(wanted) = ended {
+        check(rt, cutter.take() == line_of(wanted), wanted);
+    }
+    check(rt, cutter.rest() == *rest, piece);
 }
 
-/// The line of these bytes, of which a proof knows nothing.
-fn whole(bytes: &[u8]) -> Line {
-    line(bytes)
-}
+static PIECES: [Piece; 4] = [
+    (b"a sh", 4, None, true),
+    (b"ow\na show\n", 3, Some(b"a show"), false),
+    (b"", 0, None, false),
+    (b"\n", 1, Some(b""), false),
+];
 
 #[test]
 fn a_piece_is_taken_up_to_its_first_line_feed(rt: HostRuntime) {
     let mut cutter = Cutter::new();
-    expect_rest(&rt, &cutter, false);
-    expect_fed(&rt, &mut cutter, b"a sh", 4, false);
-    expect_rest(&rt, &cutter, true);
-    expect_fed(&rt, &mut cutter, b"ow\na show\n", 3, true);
-    expect_taken(&rt, &mut cutter, whole(b"a show"));
-    expect_rest(&rt, &cutter, false);
-    expect_fed(&rt, &mut cutter, b"", 0, false);
-    expect_fed(&rt, &mut cutter, b"\n", 1, true);
-    expect_taken(&rt, &mut cutter, Line::Nothing);
+    check(&rt, !cutter.rest(), b"no piece");
+    for row in &PIECES {
+        expect_piece(&rt, &mut cutter, row);
+    }
 }
 
 /// What the line of these pieces is, where a line feed can only end the last.
@@ -57,23 +61,28 @@ fn line_in_pieces(pieces: &[&[u8]]) -> Line {
     cutter.take()
 }
 
-fn expect_pieces(rt: &impl Abort, pieces: &[&[u8]], wanted: Line) {
-    assert!(rt; line_in_pieces(pieces) == wanted, "of {pieces:?}");
+/// Expects that each of these inputs, which come in pieces, makes this line.
+fn expect_line(rt: &impl Abort, inputs: &[&[&[u8]]], wanted: Line) {
+    for pieces in inputs {
+        check(rt, line_in_pieces(pieces) == wanted, b"pieces");
+    }
 }
 
-static WHOLE: [(&[&[u8]], &[u8]); 5] = [
-    (&[b"a s", b"", b"how"], b"a show"),
-    (&[b"a show", b"\r", b"\n"], b"a show"),
-    (&[b"a show", b"\r", b"\r\n"], b"a show\r"),
-    (&[b"a\r", b" show"], b"a\r show"),
-    (&[b"a show", SPACES, b"\r"], b"a show"),
+static SHOWING: [&[&[u8]]; 3] = [
+    &[b"a s", b"", b"how"],
+    &[b"a show", b"\r", b"\n"],
+    &[b"a show", SPACES, b"\r"],
 ];
+
+static RETURNED: [&[&[u8]]; 1] = [&[b"a show", b"\r", b"\r\n"]];
+
+static BROKEN: [&[&[u8]]; 1] = [&[b"a\r", b" show"]];
 
 #[test]
 fn the_pieces_of_a_line_make_one(rt: HostRuntime) {
-    for (pieces, bytes) in &WHOLE {
-        expect_pieces(&rt, pieces, whole(bytes));
-    }
+    expect_line(&rt, &SHOWING, line(b"a show"));
+    expect_line(&rt, &RETURNED, line(b"a show\r"));
+    expect_line(&rt, &BROKEN, line(b"a\r show"));
 }
 
 static TOO_LONG: [&[&[u8]]; 3] = [
@@ -84,16 +93,12 @@ static TOO_LONG: [&[&[u8]]; 3] = [
 
 #[test]
 fn the_pieces_of_a_long_line_make_one(rt: HostRuntime) {
-    for pieces in &TOO_LONG {
-        expect_pieces(&rt, pieces, Line::Long);
-    }
+    expect_line(&rt, &TOO_LONG, Line::Long);
 }
 
 static NO_LINE: [&[&[u8]]; 2] = [&[], &[b"#", LONG, LONG]];
 
 #[test]
 fn no_piece_and_the_pieces_of_a_comment_make_nothing(rt: HostRuntime) {
-    for pieces in &NO_LINE {
-        expect_pieces(&rt, pieces, Line::Nothing);
-    }
+    expect_line(&rt, &NO_LINE, Line::Nothing);
 }
