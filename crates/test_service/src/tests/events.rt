@@ -8,13 +8,13 @@ use firm_rules::{Changes, Command, Limits, Outcome, Refusal, Reply, Ticket, Weig
 use firm_table::{Event, Table};
 use firm_text::{MOST_ADMISSIONS, PLACES};
 use std::alloc::Global;
+use std::ops::Range;
 use std::process::Abort;
 use test_kit::{TWO, limits, roster_of};
 
 const ONE: &str = "t,2,0,1,0,0";
 
 /// An event, its limits and its command as they are written.
-#[derive(Clone, Copy, Debug)]
 enum Given {
     Show(usize),
     Costs(usize),
@@ -31,7 +31,6 @@ enum Given {
 }
 
 /// What answers an event. A ticket is a place and a number, and a reply begins with its number.
-#[derive(Clone, Copy, Debug)]
 enum Wanted {
     NotNow,
     Queued(u32, u64),
@@ -58,18 +57,18 @@ fn limits_of(rt: &impl Abort, nodes: u64, arcs: u64) -> Limits {
     limits(&[nodes, arcs, 9, 0, 0, 0]).expect(rt, "limits")
 }
 
-fn event(rt: &impl Abort, given: Given) -> Event {
+fn event(rt: &impl Abort, given: &Given) -> Event {
     match given {
-        Show(place) => Event::Post(place, Command::Show),
-        Costs(place) => Event::Post(place, Command::Costs),
-        Round(place) => Event::Post(place, Command::Round),
-        Job(place) => Event::Post(place, add_job(rt)),
-        Ask(place) => Event::Ask(place),
-        Take(worker) => Event::Take(worker),
-        Answer(worker) => Event::Answer(worker),
-        Collect(place) => Event::Collect(place),
-        Admit(place, nodes, arcs) => Event::Admit(place, limits_of(rt, nodes, arcs)),
-        Retire(place) => Event::Retire(place),
+        Show(place) => Event::Post(*place, Command::Show),
+        Costs(place) => Event::Post(*place, Command::Costs),
+        Round(place) => Event::Post(*place, Command::Round),
+        Job(place) => Event::Post(*place, add_job(rt)),
+        Ask(place) => Event::Ask(*place),
+        Take(worker) => Event::Take(*worker),
+        Answer(worker) => Event::Answer(*worker),
+        Collect(place) => Event::Collect(*place),
+        Admit(place, nodes, arcs) => Event::Admit(*place, limits_of(rt, *nodes, *arcs)),
+        Retire(place) => Event::Retire(*place),
     }
 }
 
@@ -97,34 +96,47 @@ fn shows_nothing(nodes_limit: u64, arcs_limit: u64) -> Outcome {
     }
 }
 
-fn answer(alloc: Global, wanted: Wanted) -> firm_table::Answer {
+fn ticket(place: u32, number: u64) -> Ticket {
+    Ticket { place, number }
+}
+
+fn answer(alloc: Global, wanted: &Wanted) -> firm_table::Answer {
     match wanted {
         NotNow => firm_table::Answer::NotNow,
-        Queued(place, number) => firm_table::Answer::Queued(Ticket { place, number }),
-        Took(place, number) => firm_table::Answer::Took(Ticket { place, number }),
-        Solved(place, number) => firm_table::Answer::Solved(Ticket { place, number }),
+        Queued(place, number) => firm_table::Answer::Queued(ticket(*place, *number)),
+        Took(place, number) => firm_table::Answer::Took(ticket(*place, *number)),
+        Solved(place, number) => firm_table::Answer::Solved(ticket(*place, *number)),
         Admitted => firm_table::Answer::Admitted,
         Retired => firm_table::Answer::Retired,
-        Done(number) => replied(number, Outcome::Plain),
-        Idle(number) => replied(number, idle_round(alloc)),
-        Worn(number) => replied(number, Outcome::Refused(Refusal::Worn)),
-        Shows(number, nodes, arcs) => replied(number, shows_nothing(nodes, arcs)),
+        Done(number) => replied(*number, Outcome::Plain),
+        Idle(number) => replied(*number, idle_round(alloc)),
+        Worn(number) => replied(*number, Outcome::Refused(Refusal::Worn)),
+        Shows(number, nodes, arcs) => replied(*number, shows_nothing(*nodes, *arcs)),
     }
 }
 
-fn expect(rt: &impl Abort, alloc: Global, table: &mut Table, given: Given, wanted: Wanted) {
-    let answered = table.event(alloc, event(rt, given));
+fn expect(rt: &impl Abort, alloc: Global, table: &mut Table, event: Event, wanted: &Wanted) {
+    let answered = table.event(alloc, event);
+    let wanted = answer(alloc, wanted);
     assert!(rt;
-        answered == answer(alloc, wanted),
-        "{given:?} gave {answered:?}, not {wanted:?}"
+        answered == wanted,
+        "{event:?} gave {answered:?}, not {wanted:?}"
     );
+}
+
+fn expect_rows(rt: &impl Abort, alloc: Global, table: &mut Table, rows: &[Row]) {
+    for (given, wanted) in rows {
+        expect(rt, alloc, table, event(rt, given), wanted);
+    }
 }
 
 fn opened(rt: &impl Abort, alloc: Global, records: &str, workers: usize) -> Table
     requires { (1 ≤ workers) × (workers ≤ 8) }
 {
     let roster = roster_of(alloc, records).expect(rt, "a roster");
-    Table::open(alloc, &roster, workers).expect(rt, "memory")
+    let table = Table::open(alloc, &roster, workers);
+    drop(roster);
+    table.expect(rt, "memory")
 }
 
 /// Each event in turn of a table that is opened for these tenants and workers.
@@ -132,9 +144,7 @@ fn play(rt: &impl Abort, alloc: Global, records: &str, workers: usize, rows: &[R
     requires { (1 ≤ workers) × (workers ≤ 8) }
 {
     let mut table = opened(rt, alloc, records, workers);
-    for (given, wanted) in rows {
-        expect(rt, alloc, &mut table, *given, *wanted);
-    }
+    expect_rows(rt, alloc, &mut table, rows);
 }
 
 static OF_ONE_WORKER: [Row; 18] = [
@@ -227,27 +237,36 @@ fn a_place_goes_from_tenant_to_tenant(rt: HostRuntime) {
     play(&rt, rt.alloc(), TWO, 1, &OF_ONE_PLACE);
 }
 
+/// A tenant comes to each of these places, and is answered so.
+fn admit(rt: &impl Abort, alloc: Global, table: &mut Table, places: Range<usize>, wanted: &Wanted) {
+    for place in places {
+        let event = Event::Admit(place, limits_of(rt, 2, 0));
+        expect(rt, alloc, table, event, wanted);
+    }
+}
+
 #[test]
 fn each_place_takes_one_tenant(rt: HostRuntime) {
     let mut table = opened(&rt, rt.alloc(), TWO, 1);
-    for place in 0..PLACES {
-        let wanted = if place < 2 { NotNow } else { Admitted };
-        expect(&rt, rt.alloc(), &mut table, Admit(place, 2, 0), wanted);
-    }
-    for place in 0..PLACES + 1 {
-        expect(&rt, rt.alloc(), &mut table, Admit(place, 2, 0), NotNow);
-    }
+    admit(&rt, rt.alloc(), &mut table, 0..2, &NotNow);
+    admit(&rt, rt.alloc(), &mut table, 2..PLACES, &Admitted);
+    admit(&rt, rt.alloc(), &mut table, 0..PLACES + 1, &NotNow);
 }
+
+static COMES_AND_GOES: [Row; 2] = [(Retire(0), Retired), (Admit(0, 2, 0), Admitted)];
+
+static OF_A_WORN_PLACE: [Row; 3] = [
+    (Retire(0), Retired),
+    (Admit(0, 2, 0), NotNow),
+    (Admit(1, 2, 0), Admitted),
+];
 
 #[test]
 fn a_place_is_given_so_often_and_no_more(rt: HostRuntime) {
     let mut table = opened(&rt, rt.alloc(), ONE, 1);
     // The roster's row is the first admission to its place.
     for _ in 1..MOST_ADMISSIONS {
-        expect(&rt, rt.alloc(), &mut table, Retire(0), Retired);
-        expect(&rt, rt.alloc(), &mut table, Admit(0, 2, 0), Admitted);
+        expect_rows(&rt, rt.alloc(), &mut table, &COMES_AND_GOES);
     }
-    expect(&rt, rt.alloc(), &mut table, Retire(0), Retired);
-    expect(&rt, rt.alloc(), &mut table, Admit(0, 2, 0), NotNow);
-    expect(&rt, rt.alloc(), &mut table, Admit(1, 2, 0), Admitted);
+    expect_rows(&rt, rt.alloc(), &mut table, &OF_A_WORN_PLACE);
 }

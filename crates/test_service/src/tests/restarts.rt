@@ -1,5 +1,8 @@
 //! Services that stop at any line, and go on from the text of their state.
+ghost use Rattle.std.specs.Prelude.{◌≤◌, ◌^◌};
+
 use super::states::{read, text_of};
+use super::{check, count_of};
 use firm_rules::{Name, RecentCosts, Rows};
 use firm_saved::{FaultKind, Saved, put_state};
 use firm_table::{
@@ -37,15 +40,45 @@ struct Outcome {
     state: Vec<u8>,
 }
 
-fn served(rt: &impl Abort, alloc: Global, opening: Opening<'_>, lines: &[u8]) -> Outcome {
+/// The tenants in their state after these lines, and what is written for them.
+fn run(
+    alloc: Global,
+    opening: Opening<'_>,
+    lines: &[u8],
+    most: u64,
+) -> (Result<Tenants, ServeFault>, Vec<u8>)
+    requires { (1 ≤ most) × (most ≤ 2 ^ 32) }
+{
     let mut reader = Bytes::new(lines);
     let mut writer = Bytes::new(Vec::new(alloc));
-    let ended = serve_to_state(alloc, &mut reader, &mut writer, opening, MOST_INPUT);
+    let ended = serve_to_state(alloc, &mut reader, &mut writer, opening, most);
+    (ended, writer.into_inner())
+}
+
+fn served(rt: &impl Abort, alloc: Global, opening: Opening<'_>, lines: &[u8]) -> Outcome {
+    let (ended, written) = run(alloc, opening, lines, MOST_INPUT);
     let tenants = ended.ok().expect(rt, "no fault");
     Outcome {
-        written: writer.into_inner(),
+        written,
         state: state_of(rt, alloc, &tenants),
     }
+}
+
+/// The outcome of a service of this roster.
+fn served_by(rt: &impl Abort, alloc: Global, roster: &[u8], lines: &[u8]) -> Outcome {
+    let roster = admitted(rt, alloc, roster);
+    served(rt, alloc, Opening::Roster(&roster), lines)
+}
+
+/// The outcome of a service that goes on from this state.
+fn served_from(rt: &impl Abort, alloc: Global, state: &[u8], lines: &[u8]) -> Outcome {
+    let saved = read(rt, alloc, state);
+    served(rt, alloc, Opening::State(&saved), lines)
+}
+
+fn expect_outcome(rt: &impl Abort, outcome: &Outcome, written: &[u8], state: &[u8]) {
+    check(rt, outcome.written.as_slice() == written, &outcome.written);
+    check(rt, outcome.state.as_slice() == state, &outcome.state);
 }
 
 /// Two of three tasks run by the first round; the second leaves the third waiting, which would cost 3 to exchange.
@@ -84,12 +117,11 @@ rows 14
 
 #[test]
 fn the_state_after_two_rounds(rt: HostRuntime) {
-    let roster = admitted(&rt, rt.alloc(), ROSTER);
-    let ended = served(&rt, rt.alloc(), Opening::Roster(&roster), TWO_ROUNDS);
-    assert!(rt;
+    let ended = served_by(&rt, rt.alloc(), ROSTER, TWO_ROUNDS);
+    check(
+        &rt,
         ended.state.as_slice() == AFTER_TWO_ROUNDS,
-        "{:?}",
-        ended.state
+        &ended.state,
     );
 }
 
@@ -122,6 +154,8 @@ alpha 8 ok round cost 3
 alpha 9 ok round cost 3
 ";
 
+static ONE_MORE_REPLY: &[u8] = b"alpha 10 ok round cost 3\n";
+
 static AFTER_EQUALS: &[u8] = b"\
 firm state 1
 place admissions 1
@@ -134,35 +168,15 @@ task j b waits 2
 rows 7
 ";
 
-fn expect_replies(
-    rt: &impl Abort,
-    alloc: Global,
-    opening: Opening<'_>,
-    lines: &[u8],
-    written: &[u8],
-) {
-    let ended = served(rt, alloc, opening, lines);
-    assert!(rt; ended.written.as_slice() == written, "{:?}", ended.written);
-}
-
 #[test]
 fn patience_lasts_through_rounds_and_states(rt: HostRuntime) {
-    let roster = admitted(&rt, rt.alloc(), PATIENT);
-    let ended = served(&rt, rt.alloc(), Opening::Roster(&roster), OF_EQUALS);
-    assert!(rt;
-        ended.written.as_slice() == REPLIES_TO_EQUALS,
-        "{:?}",
-        ended.written
-    );
-    assert!(rt; ended.state.as_slice() == AFTER_EQUALS, "{:?}", ended.state);
-    let saved = read(&rt, rt.alloc(), AFTER_EQUALS);
-    let opening = Opening::State(&saved);
-    expect_replies(
+    let ended = served_by(&rt, rt.alloc(), PATIENT, OF_EQUALS);
+    expect_outcome(&rt, &ended, REPLIES_TO_EQUALS, AFTER_EQUALS);
+    let more = served_from(&rt, rt.alloc(), AFTER_EQUALS, b"alpha round\n");
+    check(
         &rt,
-        rt.alloc(),
-        opening,
-        b"alpha round\n",
-        b"alpha 10 ok round cost 3\n",
+        more.written.as_slice() == ONE_MORE_REPLY,
+        &more.written,
     );
 }
 
@@ -171,7 +185,7 @@ fn read_at_last(rt: &impl Abort, alloc: Global, text: &[u8]) -> Saved {
     match Saved::read(alloc, text) {
         Ok(saved) => saved,
         Err(fault) => {
-            assert!(rt; fault.kind == FaultKind::Memory);
+            check(rt, fault.kind == FaultKind::Memory, text);
             read(rt, alloc, text)
         }
     }
@@ -189,12 +203,11 @@ fn text_at_last(rt: &impl Abort, alloc: Global, saved: &Saved) -> Vec<u8> {
 /// The text of the state of a service that opens with this one, for which memory is refused once at most.
 fn state_at_last(rt: &impl Abort, alloc: Global, saved: &Saved) -> Vec<u8> {
     let opening = Opening::State(saved);
-    let mut reader = Bytes::new(b"".as_slice());
-    let mut writer = Bytes::new(Vec::new(alloc));
-    match serve_to_state(alloc, &mut reader, &mut writer, opening, MOST_INPUT) {
+    let (ended, _) = run(alloc, opening, b"", MOST_INPUT);
+    match ended {
         Ok(tenants) => state_of(rt, alloc, &tenants),
         Err(fault) => {
-            assert!(rt; fault == ServeFault::Memory);
+            check(rt, fault == ServeFault::Memory, b"memory");
             served(rt, alloc, opening, b"").state
         }
     }
@@ -205,9 +218,9 @@ fn state_at_last(rt: &impl Abort, alloc: Global, saved: &Saved) -> Vec<u8> {
 fn a_service_opens_with_a_state(rt: HostRuntime) {
     let saved = read_at_last(&rt, rt.alloc(), AFTER_TWO_ROUNDS);
     let text = text_at_last(&rt, rt.alloc(), &saved);
-    assert!(rt; text.as_slice() == AFTER_TWO_ROUNDS);
+    check(&rt, text.as_slice() == AFTER_TWO_ROUNDS, &text);
     let text = state_at_last(&rt, rt.alloc(), &saved);
-    assert!(rt; text.as_slice() == AFTER_TWO_ROUNDS);
+    check(&rt, text.as_slice() == AFTER_TWO_ROUNDS, &text);
 }
 
 static STREAM: &[u8] = b"\
@@ -266,70 +279,62 @@ impl Watcher for Counts {
     }
 }
 
-/// At how many places of the text the word begins.
-fn count_of(text: &[u8], word: &[u8]) -> usize {
-    let mut count = 0_usize;
-    for place in 0..text.len() {
-        let (_, rest) = text.split_at(place);
-        count = count.saturating_add(rest.starts_with(word) as usize);
-    }
-    count
-}
-
-fn expect_served(
-    rt: &impl Abort,
-    alloc: Global,
-    opening: Opening<'_>,
-    lines: &[u8],
-    wanted: &[u8],
-) {
+fn expect_served(rt: &impl Abort, alloc: Global, saved: &Saved, lines: &[u8], wanted: &[u8]) {
     let mut reader = Bytes::new(lines);
     let mut writer = Bytes::new(Vec::new(alloc));
+    let opening = Opening::State(saved);
     let ended = serve_one_from(alloc, &mut reader, &mut writer, opening, MOST_INPUT);
-    assert!(rt; ended == Ok(()));
-    assert!(rt; writer.into_inner().as_slice() == wanted);
+    check(rt, ended == Ok(()), lines);
+    let written = writer.into_inner();
+    check(rt, written.as_slice() == wanted, &written);
 }
 
-fn expect_watched(
-    rt: &impl Abort,
-    alloc: Global,
-    opening: Opening<'_>,
-    lines: &[u8],
-    wanted: &[u8],
-) {
+fn expect_watched(rt: &impl Abort, alloc: Global, saved: &Saved, lines: &[u8], wanted: &[u8]) {
     let mut reader = Bytes::new(lines);
     let mut writer = Bytes::new(Vec::new(alloc));
     let mut counts = Counts {
         before: 0,
         after: 0,
     };
+    let opening = Opening::State(saved);
     let ended = serve_watched_from(alloc, &mut reader, &mut writer, &mut counts, opening);
-    assert!(rt; ended == Ok(()));
-    assert!(rt; writer.into_inner().as_slice() == wanted);
-    assert!(rt; counts.after == count_of(wanted, b" ok round "));
-    assert!(rt; counts.after <= counts.before);
+    check(rt, ended == Ok(()), lines);
+    let written = writer.into_inner();
+    check(rt, written.as_slice() == wanted, &written);
+    check(rt, counts.after == count_of(wanted, b" ok round "), wanted);
+    check(rt, counts.after <= counts.before, wanted);
 }
 
 /// Expects that a service goes on from a state with these answers, to that state.
 fn expect_rest(rt: &impl Abort, alloc: Global, saved: &Saved, rest: &[u8], wanted: (&[u8], &[u8])) {
     let (answers, state) = wanted;
-    let opening = Opening::State(saved);
-    expect_served(rt, alloc, opening, rest, answers);
-    expect_watched(rt, alloc, opening, rest, answers);
-    let again = served(rt, alloc, opening, rest);
-    assert!(rt; again.written.as_slice() == answers);
-    assert!(rt; again.state.as_slice() == state);
+    expect_served(rt, alloc, saved, rest, answers);
+    expect_watched(rt, alloc, saved, rest, answers);
+    let again = served(rt, alloc, Opening::State(saved), rest);
+    expect_outcome(rt, &again, answers, state);
 }
 
 /// Expects that the stream may be cut here.
 fn expect_cut(rt: &impl Abort, alloc: Global, roster: &Roster, whole: &Outcome, place: usize) {
-    assert!(rt; place <= STREAM.len());
+    check(rt, place <= STREAM.len(), b"a place of the stream");
     let (front, rest) = STREAM.split_at(place);
     let half = served(rt, alloc, Opening::Roster(roster), front);
-    assert!(rt; whole.written.starts_with(&half.written));
+    expect_joined(rt, alloc, &half, whole, rest);
+}
+
+/// The state of a text, which is the text of it.
+fn read_whole(rt: &impl Abort, alloc: Global, state: &[u8]) -> Saved {
+    let saved = read(rt, alloc, state);
+    let text = text_of(rt, alloc, &saved);
+    check(rt, text.as_slice() == state, &text);
+    saved
+}
+
+/// Expects that the rest of the stream leads from one outcome to the other.
+fn expect_joined(rt: &impl Abort, alloc: Global, half: &Outcome, whole: &Outcome, rest: &[u8]) {
+    check(rt, whole.written.starts_with(&half.written), &half.written);
     let (_, answers) = whole.written.split_at(half.written.len());
-    let saved = read(rt, alloc, &half.state);
-    assert!(rt; text_of(rt, alloc, &saved).as_slice() == half.state.as_slice());
+    let saved = read_whole(rt, alloc, &half.state);
     expect_rest(rt, alloc, &saved, rest, (answers, &whole.state));
 }
 
@@ -350,28 +355,27 @@ fn answers(rt: &impl Abort, alloc: Global, roster: &Roster) -> Vec<u8> {
     let mut reader = Bytes::new(STREAM);
     let mut writer = Bytes::new(Vec::new(alloc));
     let ended = serve_one(alloc, &mut reader, &mut writer, roster, MOST_INPUT);
-    assert!(rt; ended == Ok(()));
+    check(rt, ended == Ok(()), STREAM);
     writer.into_inner()
+}
+
+fn expect_whole(rt: &impl Abort, alloc: Global, roster: &Roster, whole: &Outcome) {
+    let answers = answers(rt, alloc, roster);
+    check(rt, whole.written.as_slice() == answers.as_slice(), &answers);
+    check(rt, count_of(&answers, b"\n") == 35, &answers);
 }
 
 #[test]
 fn a_stream_may_be_cut_at_each_line(rt: HostRuntime) {
-    let alloc = rt.alloc();
-    let roster = admitted(&rt, alloc, ROSTER);
-    let answers = answers(&rt, alloc, &roster);
-    let whole = served(&rt, alloc, Opening::Roster(&roster), STREAM);
-    assert!(rt; whole.written.as_slice() == answers.as_slice());
-    assert!(rt; count_of(&answers, b"\n") == 35);
-    expect_cuts(&rt, alloc, &roster, &whole);
+    let roster = admitted(&rt, rt.alloc(), ROSTER);
+    let whole = served(&rt, rt.alloc(), Opening::Roster(&roster), STREAM);
+    expect_whole(&rt, rt.alloc(), &roster, &whole);
+    expect_cuts(&rt, rt.alloc(), &roster, &whole);
 }
 
 #[test]
 fn a_stream_that_is_too_long_leaves_no_state(rt: HostRuntime) {
-    let alloc = rt.alloc();
-    let saved = read(&rt, alloc, AFTER_TWO_ROUNDS);
-    let mut reader = Bytes::new(STREAM);
-    let mut writer = Bytes::new(Vec::new(alloc));
-    let opening = Opening::State(&saved);
-    let ended = serve_to_state(alloc, &mut reader, &mut writer, opening, 9);
-    assert!(rt; ended.err() == Some(ServeFault::TooLong));
+    let saved = read(&rt, rt.alloc(), AFTER_TWO_ROUNDS);
+    let (ended, _) = run(rt.alloc(), Opening::State(&saved), STREAM, 9);
+    check(&rt, ended.err() == Some(ServeFault::TooLong), STREAM);
 }

@@ -1,10 +1,13 @@
 //! The text of a state, and what may be wrong with it.
+use super::{check, count_of};
 use FaultKind::{
     ArenaArcs, ArenaNodes, BadName, BadNumber, Commands, Crowded, Memory, NoRoom, NoSuchJob,
     NoSuchMachine, Places, Repeated, Rounds, Row, Rows, Version,
 };
-use firm_saved::{FaultKind, Saved, put_heading, put_place, put_row, put_state};
-use std::alloc::{AllocError, Global};
+use firm_saved::{
+    FaultKind, Saved, SavedPlace, StateFault, put_heading, put_place, put_row, put_state,
+};
+use std::alloc::Global;
 use std::process::Abort;
 
 pub fn read(rt: &impl Abort, alloc: Global, text: &[u8]) -> Saved {
@@ -17,31 +20,37 @@ pub fn text_of(rt: &impl Abort, alloc: Global, saved: &Saved) -> Vec<u8> {
     text
 }
 
-/// The text of a state, put together of the text of each of its first places.
-fn text_by_places(rt: &impl Abort, alloc: Global, saved: &Saved, given: usize) -> Vec<u8> {
-    let mut text = Vec::new(alloc);
-    let mut count = 0_u64;
-    put_heading(&mut text).expect(rt, "memory");
-    for place in saved.places().iter().take(given) {
-        let more = put_place(&mut text, place).expect(rt, "memory");
-        count = count.saturating_add(more);
-    }
-    let last = firm_saved::Row::Rows(count);
-    put_row(&mut text, &last).expect(rt, "memory");
-    text
+/// Adds the rows of a place. How many there are so far.
+fn put_more(rt: &impl Abort, text: &mut Vec<u8>, place: &SavedPlace, rows: u64) -> u64 {
+    let more = put_place(text, place).expect(rt, "memory");
+    rows.saturating_add(more)
 }
 
-fn expect_text(rt: &impl Abort, text: &[u8], wanted: &str) {
-    assert!(rt; text == wanted.as_bytes(), "{wanted}");
+fn put_places(rt: &impl Abort, text: &mut Vec<u8>, places: &[SavedPlace]) {
+    let mut rows = 0_u64;
+    put_heading(text).expect(rt, "memory");
+    for place in places {
+        rows = put_more(rt, text, place, rows);
+    }
+    put_row(text, &firm_saved::Row::Rows(rows)).expect(rt, "memory");
+}
+
+/// Expects that the text is put together of those of its first places.
+fn expect_places(rt: &impl Abort, alloc: Global, saved: &Saved, given: usize, wanted: &[u8]) {
+    let mut text = Vec::new(alloc);
+    let places = saved.places();
+    check(rt, places.len() == 64 && given <= places.len(), wanted);
+    put_places(rt, &mut text, &places[..given]);
+    check(rt, text.as_slice() == wanted, &text);
 }
 
 /// Expects that a text is read, that its state is written as this text, and that this number of places was given.
-fn expect_read(rt: &impl Abort, alloc: Global, text: &str, given: usize) {
-    let read = read(rt, alloc, text.as_bytes());
+fn expect_read(rt: &impl Abort, alloc: Global, text: &[u8], given: usize) {
+    let read = read(rt, alloc, text);
     let saved = Saved::of(read.into_places());
-    assert!(rt; saved.places().len() == 64);
-    expect_text(rt, &text_of(rt, alloc, &saved), text);
-    expect_text(rt, &text_by_places(rt, alloc, &saved, given), text);
+    let written = text_of(rt, alloc, &saved);
+    check(rt, written.as_slice() == text, text);
+    expect_places(rt, alloc, &saved, given, text);
 }
 
 /// Texts of states, and how many places were given.
@@ -102,7 +111,7 @@ rows 16
 #[test]
 fn a_state_is_written_as_it_was_read(rt: HostRuntime) {
     for (text, given) in &TEXTS {
-        expect_read(&rt, rt.alloc(), text, *given);
+        expect_read(&rt, rt.alloc(), text.as_bytes(), *given);
     }
 }
 
@@ -120,34 +129,23 @@ static LINES: [&str; 10] = [
     "rows 8\n",
 ];
 
+fn add(rt: &impl Abort, text: &mut String, more: &str) {
+    text.push_str(more).expect(rt, "memory");
+}
+
 /// The text of these lines, of which the one of this number is changed to this.
-fn changed(alloc: Global, number: usize, change: &str) -> Result<String, AllocError> {
+fn changed(rt: &impl Abort, alloc: Global, number: usize, change: &str) -> String {
     let mut text = String::new(alloc);
-    for (line, number_of_line) in LINES.iter().zip(1..) {
-        if number_of_line == number {
-            text.push_str(change)?;
-        } else {
-            text.push_str(line)?;
-        }
+    for (before, line) in LINES.iter().enumerate() {
+        let is_changed = before.saturating_add(1) == number;
+        add(rt, &mut text, if is_changed { change } else { line });
     }
-    Ok(text)
+    text
 }
 
 fn expect_fault(rt: &impl Abort, alloc: Global, text: &[u8], kind: FaultKind, line: u64) {
-    let fault = Saved::read(alloc, text).err().expect(rt, "a fault");
-    assert!(rt; (fault.kind, fault.line) == (kind, line), "of {text:?}");
-}
-
-fn expect_change(
-    rt: &impl Abort,
-    alloc: Global,
-    number: usize,
-    change: &str,
-    fault: (FaultKind, u64),
-) {
-    let text = changed(alloc, number, change).expect(rt, "memory");
-    let (kind, line) = fault;
-    expect_fault(rt, alloc, text.as_bytes(), kind, line);
+    let fault = Saved::read(alloc, text).err();
+    check(rt, fault == Some(StateFault { kind, line }), text);
 }
 
 /// The number of a line, what stands there instead, and the kind and the line of the fault.
@@ -319,8 +317,9 @@ static OF_ROWS: [Change; 36] = [
 ];
 
 fn expect_changes(rt: &impl Abort, alloc: Global, changes: &[Change]) {
-    for (number, change, fault) in changes {
-        expect_change(rt, alloc, *number, change, *fault);
+    for (number, change, (kind, line)) in changes {
+        let text = changed(rt, alloc, *number, change);
+        expect_fault(rt, alloc, text.as_bytes(), *kind, *line);
     }
 }
 
@@ -336,7 +335,7 @@ fn fault_of_cut(front: &[u8]) -> (FaultKind, u64) {
     if front.len() < "firm state 1".len() {
         return (Version, 1);
     }
-    let ended = front.iter().filter(|byte| **byte == b'\n').count() as u64;
+    let ended = count_of(front, b"\n") as u64;
     (Rows, ended.max(1).saturating_add(1))
 }
 
@@ -350,30 +349,33 @@ fn expect_cuts(rt: &impl Abort, alloc: Global, text: &[u8]) {
 
 #[test]
 fn a_text_that_is_cut_off_is_no_state(rt: HostRuntime) {
-    let whole = changed(rt.alloc(), 0, "").expect(&rt, "memory");
-    expect_read(&rt, rt.alloc(), whole.as_str(), 1);
+    let whole = changed(&rt, rt.alloc(), 0, "");
+    expect_read(&rt, rt.alloc(), whole.as_bytes(), 1);
     expect_cuts(&rt, rt.alloc(), whole.as_bytes());
 }
 
-/// The text of this number of places, each given once and empty.
-fn with_places(alloc: Global, count: u64) -> Result<String, AllocError> {
-    let mut text = String::from_str(alloc, "firm state 1\n")?;
+/// The text of this number of places, each given once and empty, and its last row.
+fn with_places(rt: &impl Abort, alloc: Global, count: u64, last: &str) -> String {
+    let mut text = String::new(alloc);
+    add(rt, &mut text, "firm state 1\n");
     for _ in 0..count {
-        text.push_str("place admissions 1\n")?;
+        add(rt, &mut text, "place admissions 1\n");
     }
-    let last = format!(in alloc; "rows {count}\n")?;
-    text.push_str(last.as_str())?;
-    Ok(text)
+    add(rt, &mut text, last);
+    text
+}
+
+fn expect_bad_places(rt: &impl Abort, alloc: Global, count: u64, last: &str, line: u64) {
+    let text = with_places(rt, alloc, count, last);
+    expect_fault(rt, alloc, text.as_bytes(), Places, line);
 }
 
 #[test]
 fn a_state_has_a_place_and_no_65th(rt: HostRuntime) {
-    let none = with_places(rt.alloc(), 0).expect(&rt, "memory");
-    expect_fault(&rt, rt.alloc(), none.as_bytes(), Places, 2);
-    let most = with_places(rt.alloc(), 64).expect(&rt, "memory");
-    expect_read(&rt, rt.alloc(), most.as_str(), 64);
-    let more = with_places(rt.alloc(), 65).expect(&rt, "memory");
-    expect_fault(&rt, rt.alloc(), more.as_bytes(), Places, 66);
+    expect_bad_places(&rt, rt.alloc(), 0, "rows 0\n", 2);
+    let most = with_places(&rt, rt.alloc(), 64, "rows 64\n");
+    expect_read(&rt, rt.alloc(), most.as_bytes(), 64);
+    expect_bad_places(&rt, rt.alloc(), 65, "rows 65\n", 66);
 }
 
 static FAULTS: [(FaultKind, u32, &str); 16] = [
@@ -395,10 +397,14 @@ static FAULTS: [(FaultKind, u32, &str); 16] = [
     (Crowded, 16, "crowded"),
 ];
 
+fn expect_told(rt: &impl Abort, kind: FaultKind, code: u32, name: &str) {
+    check(rt, kind.code() == code, name.as_bytes());
+    check(rt, kind.name() == name, name.as_bytes());
+}
+
 #[test]
 fn faults_of_states_have_their_numbers_and_names(rt: HostRuntime) {
     for (kind, code, name) in &FAULTS {
-        assert!(rt; kind.code() == *code);
-        assert!(rt; kind.name() == *name);
+        expect_told(&rt, *kind, *code, name);
     }
 }

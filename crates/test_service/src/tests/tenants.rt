@@ -1,26 +1,13 @@
 //! A tenant that is worn, that fills its arena, and that finds no memory for a round.
-use super::name;
-use firm_rules::{
-    Command, LineFault, Outcome, Preferred, RecentCosts, Refusal, Reply, Slots, Weight,
-};
+use super::asking::Replied::{Costs, Plain, Refused, Shown};
+use super::asking::{Asked, ask_each, expect_reply};
+use super::{check, name};
+use Refusal::{ArenaArcs, ArenaNodes, BadName, Memory, Worn};
+use firm_rules::{Command, Outcome, Refusal, Slots};
 use firm_tenant::Tenant;
 use std::alloc::Global;
 use std::process::Abort;
 use test_kit::limits;
-
-fn machine(rt: &impl Abort, bytes: &[u8], number: u64) -> Command {
-    let slots = Slots::check(number).expect(rt, "slots");
-    Command::AddMachine(name(rt, bytes), slots)
-}
-
-fn job(rt: &impl Abort, bytes: &[u8], number: u64) -> Command {
-    let weight = Weight::check(number).expect(rt, "a weight");
-    Command::AddJob(name(rt, bytes), weight)
-}
-
-fn task(rt: &impl Abort, job: &[u8], bytes: &[u8]) -> Command {
-    Command::AddTask(name(rt, job), name(rt, bytes), Preferred::new())
-}
 
 /// A tenant with these limits of nodes, arcs and commands.
 fn admitted(rt: &impl Abort, alloc: Global, nodes: u64, arcs: u64, life: u64) -> Tenant {
@@ -28,115 +15,90 @@ fn admitted(rt: &impl Abort, alloc: Global, nodes: u64, arcs: u64, life: u64) ->
     Tenant::admit(alloc, limits).expect(rt, "memory")
 }
 
-// The counts of machines, jobs, tasks and running tasks; nodes and arcs, each with its limit.
-fn shown(counts: [u64; 4], nodes: (u64, u64), arcs: (u64, u64)) -> Outcome {
-    Outcome::Shown {
-        machines: counts[0],
-        jobs: counts[1],
-        tasks: counts[2],
-        running: counts[3],
-        nodes: nodes.0,
-        nodes_limit: nodes.1,
-        arcs: arcs.0,
-        arcs_limit: arcs.1,
-    }
-}
-
-/// The reply of this number.
-fn replied(number: u64, outcome: Outcome) -> Reply {
-    Reply { number, outcome }
-}
-
-/// Expects this reply to a command.
-fn expect(rt: &impl Abort, tenant: &mut Tenant, alloc: Global, command: Command, wanted: Reply) {
-    let reply = tenant.step(alloc, command);
-    assert!(rt; reply == wanted, "{reply:?} and not {wanted:?}");
-}
-
-fn expect_life(rt: &impl Abort, tenant: &Tenant, wanted: u64) {
-    assert!(rt; tenant.life_left() == wanted);
-}
-
-fn answers_until_worn(rt: &impl Abort, tenant: &mut Tenant, alloc: Global) {
-    let faulty = Command::Faulty(LineFault::BadName);
-    let bad_name = Outcome::Refused(Refusal::BadName);
-    expect(rt, tenant, alloc, faulty, replied(1, bad_name));
-    expect_life(rt, tenant, 1);
-    let empty = shown([0; 4], (2, 2), (0, 0));
-    expect(rt, tenant, alloc, Command::Show, replied(2, empty));
-    for _ in 0..3 {
-        let worn = Outcome::Refused(Refusal::Worn);
-        expect(rt, tenant, alloc, Command::Show, replied(3, worn));
-        expect_life(rt, tenant, 0);
-    }
-}
+static UNTIL_WORN: [Asked; 5] = [
+    (b"a done X", 1, Refused(BadName), 1),
+    (b"a show", 2, Shown([0, 0, 0, 0], (2, 2), (0, 0)), 0),
+    (b"a show", 3, Refused(Worn), 0),
+    (b"a show", 3, Refused(Worn), 0),
+    (b"a show", 3, Refused(Worn), 0),
+];
 
 #[test]
 fn a_tenant_answers_until_it_is_worn(rt: HostRuntime) {
     let mut tenant = admitted(&rt, rt.alloc(), 2, 0, 2);
-    answers_until_worn(&rt, &mut tenant, rt.alloc());
+    ask_each(&rt, rt.alloc(), &mut tenant, &UNTIL_WORN);
 }
 
-fn numbered(rt: &impl Abort, alloc: Global, number: u64, slots: u64) -> Command {
+/// A machine that is named `m` and its number.
+fn machine(rt: &impl Abort, alloc: Global, number: u64, slots: u64) -> Command {
+    let slots = Slots::check(slots).expect(rt, "slots");
     let Ok(text) = format!(in alloc; "m{number}") else {
         panic!(rt; "no memory")
     };
-    machine(rt, text.as_bytes(), slots)
+    Command::AddMachine(name(rt, text.as_bytes()), slots)
 }
 
-// Adds machines, all of which are answered, and each only once there is memory for it.
-fn add_machines(rt: &impl Abort, tenant: &mut Tenant, alloc: Global, count: u64, slots: u64) {
+// Adds machines, each of which is answered, and only once there is memory for it.
+fn add_machines(rt: &impl Abort, alloc: Global, tenant: &mut Tenant, count: u64, slots: u64) {
     for number in 1..=count {
-        let command = numbered(rt, alloc, number, slots);
-        expect(rt, tenant, alloc, command, replied(number, Outcome::Plain));
+        let command = machine(rt, alloc, number, slots);
+        expect_reply(rt, tenant.step(alloc, command), number, Outcome::Plain);
     }
 }
 
-fn fills_every_node(rt: &impl Abort, tenant: &mut Tenant, alloc: Global) {
-    add_machines(rt, tenant, alloc, 4_094, 1);
-    let full = Outcome::Refused(Refusal::ArenaNodes);
-    expect(rt, tenant, alloc, job(rt, b"j", 1), replied(4_095, full));
-    let counts = shown([4_094, 0, 0, 0], (4_096, 4_096), (8_188, 65_536));
-    expect(rt, tenant, alloc, Command::Show, replied(4_096, counts));
+/// Adds this number of machines to a new tenant, and asks it more.
+fn fill(rt: &impl Abort, alloc: Global, count: u64, slots: u64, rows: &[Asked]) {
+    let mut tenant = admitted(rt, alloc, 4_096, 65_536, 10_000);
+    add_machines(rt, alloc, &mut tenant, count, slots);
+    ask_each(rt, alloc, &mut tenant, rows);
 }
+
+static WITH_EVERY_NODE: [Asked; 2] = [
+    (b"a job j 1", 4_095, Refused(ArenaNodes), 5_905),
+    (
+        b"a show",
+        4_096,
+        Shown([4_094, 0, 0, 0], (4_096, 4_096), (8_188, 65_536)),
+        5_904,
+    ),
+];
 
 #[test]
 fn a_tenant_fills_every_node(rt: HostRuntime) {
-    let mut tenant = admitted(&rt, rt.alloc(), 4_096, 65_536, 10_000);
-    fills_every_node(&rt, &mut tenant, rt.alloc());
+    fill(&rt, rt.alloc(), 4_094, 1, &WITH_EVERY_NODE);
 }
 
-fn fills_every_arc(rt: &impl Abort, tenant: &mut Tenant, alloc: Global) {
-    add_machines(rt, tenant, alloc, 1_008, 64);
-    let added = replied(1_009, Outcome::Plain);
-    expect(rt, tenant, alloc, job(rt, b"j", 1), added);
-    for (number, bytes) in (1_010..).zip([b"a", b"b", b"c", b"d", b"e"]) {
-        let command = task(rt, b"j", bytes);
-        expect(rt, tenant, alloc, command, replied(number, Outcome::Plain));
-    }
-    let full = Outcome::Refused(Refusal::ArenaArcs);
-    expect(rt, tenant, alloc, job(rt, b"k", 1), replied(1_015, full));
-    let counts = shown([1_008, 1, 5, 0], (1_016, 4_096), (65_536, 65_536));
-    expect(rt, tenant, alloc, Command::Show, replied(1_016, counts));
-}
+static WITH_EVERY_ARC: [Asked; 8] = [
+    (b"a job j 1", 1_009, Plain, 8_991),
+    (b"a task j a", 1_010, Plain, 8_990),
+    (b"a task j b", 1_011, Plain, 8_989),
+    (b"a task j c", 1_012, Plain, 8_988),
+    (b"a task j d", 1_013, Plain, 8_987),
+    (b"a task j e", 1_014, Plain, 8_986),
+    (b"a job k 1", 1_015, Refused(ArenaArcs), 8_985),
+    (
+        b"a show",
+        1_016,
+        Shown([1_008, 1, 5, 0], (1_016, 4_096), (65_536, 65_536)),
+        8_984,
+    ),
+];
 
 #[test]
 fn a_tenant_fills_every_arc(rt: HostRuntime) {
-    let mut tenant = admitted(&rt, rt.alloc(), 4_096, 65_536, 10_000);
-    fills_every_arc(&rt, &mut tenant, rt.alloc());
+    fill(&rt, rt.alloc(), 1_008, 64, &WITH_EVERY_ARC);
 }
 
-fn counts_a_round_without_memory(rt: &impl Abort, tenant: &mut Tenant, alloc: Global) {
-    assert!(rt; 0 < tenant.life_left());
-    let refused = replied(1, Outcome::Refused(Refusal::Memory));
-    assert!(rt; tenant.no_memory() == refused);
-    let none = Outcome::Costs(RecentCosts::new());
-    expect(rt, tenant, alloc, Command::Costs, replied(2, none));
-    expect_life(rt, tenant, 0);
+fn refuse_a_round(rt: &impl Abort, tenant: &mut Tenant) {
+    check(rt, 0 < tenant.life_left(), b"a round");
+    expect_reply(rt, tenant.no_memory(), 1, Outcome::Refused(Memory));
 }
+
+static WITHOUT_A_COST: [Asked; 1] = [(b"a costs", 2, Costs(&[]), 0)];
 
 #[test]
 fn a_round_without_memory_counts_and_costs_nothing(rt: HostRuntime) {
     let mut tenant = admitted(&rt, rt.alloc(), 2, 0, 2);
-    counts_a_round_without_memory(&rt, &mut tenant, rt.alloc());
+    refuse_a_round(&rt, &mut tenant);
+    ask_each(&rt, rt.alloc(), &mut tenant, &WITHOUT_A_COST);
 }
