@@ -3,3 +3,10 @@
 mod inputs;
 mod queues;
 mod trays;
+
+use std::process::Abort;
+
+// Aborts where this does not hold.
+fn check(rt: &impl Abort, holds: bool, what: &str) {
+    assert!(rt; holds, "{what}");
+}

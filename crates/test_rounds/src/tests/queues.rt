@@ -1,13 +1,15 @@
 //! Tickets that are put and got in order, jobs that are left, and eight threads at one queue.
 
 ghost use Rattle.std.specs.Prelude.{◌≡◌, ◌+◌, ◌<◌, ◌≤◌, ◌^◌, All, length, vec_len};
+ghost use Rattle.std.specs.Fork.{AcceptsJobs};
 ghost use Rattle.std.specs.Thread.{IsSync};
 ghost use Rattle.firm_rounds.specs.Passes.{new_puts, new_pops};
 
+use super::check;
+use super::trays::{expect_back, one_life, unanswered};
 use firm_rounds::{Closing, Job, PopPass, PutPass, Queue, QueueFault, finish_all};
-use firm_rules::{Limits, Ticket};
-use firm_tenant::Tenant;
-use firm_tray::{AskSide, Polled, Tray};
+use firm_rules::Ticket;
+use firm_tray::{AskSide, Tray};
 use std::alloc::Global;
 use std::process::Abort;
 use std::sync::Wait;
@@ -15,13 +17,7 @@ use std::sync::atomic::{AtomicU64, Ordering};
 use std::thread;
 use std::thread::Threads;
 
-// A tenant that has nothing and answers one command.
-fn one_life(rt: &impl Abort, alloc: Global) -> Tenant {
-    let limits = Limits::check(2, 0, 1, 0, 0, 0).expect(rt, "limits");
-    Tenant::admit(alloc, limits).expect(rt, "memory")
-}
-
-// A job of such a tenant, and the side that asks for it.
+// A job of a tenant that answers one command, and the side that asks for it.
 fn new_job(rt: &impl Abort, alloc: Global, ticket: Ticket) -> (AskSide, Job)
     ensures { result.1.ticket ≡ ticket }
 {
@@ -68,9 +64,16 @@ fn serve<R: Wait>(rt: &R, alloc: Global, queue: &Queue, pass: &mut PopPass) -> O
     Some(ticket)
 }
 
-fn ticket(place: u32, number: u64) -> Ticket {
-    Ticket { place, number }
-}
+// The first tickets of two places.
+const FIRST: Ticket = Ticket {
+    place: 0,
+    number: 1,
+};
+
+const SECOND: Ticket = Ticket {
+    place: 1,
+    number: 1,
+};
 
 // Each of two places puts its first ticket.
 fn ask_both<R: Abort + Wait>(
@@ -89,22 +92,6 @@ fn ask_both<R: Abort + Wait>(
     (early, late)
 }
 
-// The side again: its round was not answered yet.
-fn unanswered(rt: &impl Abort, side: AskSide) -> AskSide {
-    match side.poll() {
-        Polled::Not(same) => same,
-        Polled::Back(_solved) => panic!(rt; "a round that was not answered is back"),
-    }
-}
-
-fn expect_back(rt: &impl Abort, side: AskSide) {
-    let is_back = match side.poll() {
-        Polled::Not(_side) => false,
-        Polled::Back(solved) => solved.reply.number == 1,
-    };
-    assert!(rt; is_back);
-}
-
 // Gets a job of this ticket and finishes it, or finds none.
 fn expect_served<R: Abort + Wait>(
     rt: &R,
@@ -117,21 +104,10 @@ fn expect_served<R: Abort + Wait>(
     ensures { pass.new.queue ≡ pass.old.queue }
 {
     let served = serve(rt, alloc, queue, pass);
-    assert!(rt; served == wanted);
+    check(rt, served == wanted, "the ticket that is got");
 }
 
-// Both tickets are got in order, and then none.
-fn get_both<R: Abort + Wait>(rt: &R, alloc: Global, queue: &Queue, pass: &mut PopPass)
-    requires { pass.old.queue ≡ queue.now.id }
-    ensures { pass.new.queue ≡ pass.old.queue }
-{
-    expect_served(rt, alloc, queue, pass, Some(ticket(0, 1)));
-    expect_served(rt, alloc, queue, pass, Some(ticket(1, 1)));
-    expect_served(rt, alloc, queue, pass, None);
-    assert!(rt; pass.count() == 2);
-}
-
-// A look finds no answer before the jobs are got, and one afterwards.
+// Both tickets are got in order, and then none. A look finds no answer before that, and one afterwards.
 fn expect_answered<R: Abort + Wait>(
     rt: &R,
     alloc: Global,
@@ -144,7 +120,10 @@ fn expect_answered<R: Abort + Wait>(
 {
     let (early, late) = sides;
     let early = unanswered(rt, early);
-    get_both(rt, alloc, queue, pass);
+    expect_served(rt, alloc, queue, pass, Some(FIRST));
+    expect_served(rt, alloc, queue, pass, Some(SECOND));
+    expect_served(rt, alloc, queue, pass, None);
+    check(rt, pass.count() == 2, "two jobs are got");
     expect_back(rt, early);
     expect_back(rt, late);
 }
@@ -152,76 +131,62 @@ fn expect_answered<R: Abort + Wait>(
 // The jobs that a queue still has where it is closed with all its passes.
 fn left<R: Abort + Wait>(
     rt: &R,
+    alloc: Global,
     queue: Queue,
     puts: Vec<PutPass>,
     pops: Vec<PopPass>,
-) -> Option<Vec<Job>>
+) -> Vec<Job>
     requires { All (λ p. p.queue ≡ queue.id) puts.items × All (λ p. p.queue ≡ queue.id) pops.items }
 {
     match queue.close(rt, puts, pops) {
-        Ok(()) => None,
+        Ok(()) => Vec::new(alloc),
         Err(QueueFault::Missing(_queue, _puts, _pops)) => panic!(rt; "no pass is missing"),
-        Err(QueueFault::Left(_puts, _pops, jobs)) => Some(jobs),
+        Err(QueueFault::Left(_puts, _pops, jobs)) => jobs,
     }
 }
 
-fn expect_none_left(rt: &impl Abort, alloc: Global, left: Option<Vec<Job>>) {
-    let Some(jobs) = left else {
-        return;
-    };
-    finish_all(alloc, jobs);
-    panic!(rt; "jobs are left")
-}
-
-fn expect_ticket(rt: &impl Abort, jobs: &[Job], number: usize, wanted: Ticket) {
-    let job = jobs.get(number).expect(rt, "the job is there");
-    assert!(rt; job.ticket() == wanted);
+fn ticket_of(jobs: &[Job], number: usize) -> Option<Ticket> {
+    Some(jobs.get(number)?.ticket())
 }
 
 // These are jobs of these tickets, in order. They are finished.
 fn expect_jobs(rt: &impl Abort, alloc: Global, jobs: Vec<Job>, wanted: &[Ticket]) {
-    assert!(rt; jobs.len() == wanted.len());
-    for (number, ticket) in wanted.iter().enumerate() {
-        expect_ticket(rt, &jobs, number, *ticket);
+    check(rt, jobs.len() == wanted.len(), "as many jobs as tickets");
+    for number in 0..wanted.len() {
+        let is_wanted = ticket_of(&jobs, number) == Some(wanted[number]);
+        check(rt, is_wanted, "the job of the ticket");
     }
     finish_all(alloc, jobs);
-}
-
-fn expect_both_left(rt: &impl Abort, alloc: Global, left: Option<Vec<Job>>) {
-    let Some(jobs) = left else {
-        panic!(rt; "no jobs are left")
-    };
-    expect_jobs(rt, alloc, jobs, &[ticket(0, 1), ticket(1, 1)]);
 }
 
 // Two places put a ticket each, which are got in order; then the queue is empty and closes.
 #[test]
 fn tickets_are_got_in_the_order_in_which_they_were_put(rt: HostRuntime) {
-    let (queue, mut puts, mut pops) = opened(&rt, rt.alloc(), 2, 1);
-    let sides = ask_both(&rt, rt.alloc(), &queue, &mut puts);
+    let alloc = rt.alloc();
+    let (queue, mut puts, mut pops) = opened(&rt, alloc, 2, 1);
+    let sides = ask_both(&rt, alloc, &queue, &mut puts);
     let pass = &mut pops[0];
-    expect_answered(&rt, rt.alloc(), &queue, sides, pass);
-    let left = left(&rt, queue, puts, pops);
-    expect_none_left(&rt, rt.alloc(), left);
+    expect_answered(&rt, alloc, &queue, sides, pass);
+    let jobs = left(&rt, alloc, queue, puts, pops);
+    expect_jobs(&rt, alloc, jobs, &[]);
 }
 
 // Two tickets are put, the queue is closed with them, and both jobs come back, the first one first.
 #[test]
 fn jobs_that_are_left_come_back(rt: HostRuntime) {
-    let (queue, mut puts, pops) = opened(&rt, rt.alloc(), 2, 1);
-    let _sides = ask_both(&rt, rt.alloc(), &queue, &mut puts);
-    let left = left(&rt, queue, puts, pops);
-    expect_both_left(&rt, rt.alloc(), left);
+    let alloc = rt.alloc();
+    let (queue, mut puts, pops) = opened(&rt, alloc, 2, 1);
+    let _sides = ask_both(&rt, alloc, &queue, &mut puts);
+    let jobs = left(&rt, alloc, queue, puts, pops);
+    expect_jobs(&rt, alloc, jobs, &[FIRST, SECOND]);
 }
 
 // The passes of two places and of two workers are handed in one by one.
-fn hand_in(queue: Queue, puts: Vec<PutPass>, pops: Vec<PopPass>) -> Closing
+fn hand_in(queue: Queue, mut puts: Vec<PutPass>, mut pops: Vec<PopPass>) -> Closing
     requires counts { (vec_len puts ≡ 2) × (vec_len pops ≡ 2) × (queue.id.all ≡ 4) }
     requires passes { All (λ p. p.queue ≡ queue.id) puts.items × All (λ p. p.queue ≡ queue.id) pops.items }
     ensures { (result.id.all ≡ 4) × (length result.shares ≡ 4) }
 {
-    let mut puts = puts;
-    let mut pops = pops;
     let first = &mut pops[0];
     let mut closing = queue.closing(first);
     let put = &mut puts[0];
@@ -236,17 +201,21 @@ fn hand_in(queue: Queue, puts: Vec<PutPass>, pops: Vec<PopPass>) -> Closing
 // Two tickets are put and one is got; the queue is closed one pass at a time, and the other job comes back.
 #[test]
 fn a_queue_is_closed_one_pass_at_a_time(rt: HostRuntime) {
-    let (queue, mut puts, mut pops) = opened(&rt, rt.alloc(), 2, 2);
-    let _sides = ask_both(&rt, rt.alloc(), &queue, &mut puts);
+    let alloc = rt.alloc();
+    let (queue, mut puts, mut pops) = opened(&rt, alloc, 2, 2);
+    let _sides = ask_both(&rt, alloc, &queue, &mut puts);
     let pass = &mut pops[0];
-    expect_served(&rt, rt.alloc(), &queue, pass, Some(ticket(0, 1)));
+    expect_served(&rt, alloc, &queue, pass, Some(FIRST));
     let jobs = hand_in(queue, puts, pops).end(&rt);
-    expect_jobs(&rt, rt.alloc(), jobs, &[ticket(1, 1)]);
+    expect_jobs(&rt, alloc, jobs, &[SECOND]);
 }
 
 const PLACES: usize = 4;
 
 const EACH: u64 = 2_500;
+
+// How often a thread looks for a ticket before it gives up.
+const MOST_LOOKS: u64 = 1_000_000_000;
 
 // How often each ticket was got, and how many are still to come.
 #[derive(Drop)]
@@ -268,7 +237,12 @@ fn new_tally(rt: &impl Abort, alloc: Global) -> Tally {
 }
 
 impl Tally {
-    fn note(&self, ticket: Ticket) {
+    // Notes a ticket that was got. Without one it yields, and says whether none is still to come.
+    fn note(&self, got: Option<Ticket>) -> bool {
+        let Some(ticket) = got else {
+            thread::yield_now();
+            return self.left.load(Ordering::SeqCst) == 0;
+        };
         let at = u64::from(ticket.place)
             .saturating_mul(EACH)
             .saturating_add(ticket.number);
@@ -276,12 +250,16 @@ impl Tally {
             count.fetch_add(1, Ordering::SeqCst);
         }
         self.left.fetch_sub(1, Ordering::SeqCst);
+        false
     }
 
     fn has_each_once(&self) -> bool {
-        self.got
-            .iter()
-            .all(|count| count.load(Ordering::SeqCst) == 1)
+        for count in &self.got {
+            if count.load(Ordering::SeqCst) != 1 {
+                return false;
+            }
+        }
+        true
     }
 }
 
@@ -298,55 +276,27 @@ fn get_all<R: Wait>(rt: &R, alloc: Global, queue: &Queue, pass: PopPass, tally: 
     requires { pass.queue ≡ queue.now.id }
 {
     let mut pass = pass;
-    for _ in rt.forever() {
-        match serve(rt, alloc, queue, &mut pass) {
-            Some(ticket) => tally.note(ticket),
-            None if tally.left.load(Ordering::SeqCst) == 0 => return,
-            None => thread::yield_now(),
+    for _ in 0..MOST_LOOKS {
+        let got = serve(rt, alloc, queue, &mut pass);
+        if tally.note(got) {
+            return;
         }
     }
 }
 
-// Each pass puts on a thread of its own.
-fn put_by_all<R: Abort + Threads + Wait + Sync>(
+// Does the work of each pass on a thread of its own.
+fn work_on_threads<R: Abort + Threads + Sync, P: Send + Drop, F: Fn(P) + Sync>(
     rt: &R,
-    alloc: Global,
-    queue: &Queue,
-    passes: Vec<PutPass>,
+    passes: Vec<P>,
+    work: &F,
 )
-    requires { All (λ p. p.queue ≡ queue.now.id) passes.items × All (λ p. p.put ≡ 0) passes.items }
+    requires { AcceptsJobs F.Fn work.now passes.items }
 {
-    let put = thread::map_vec(
-        rt,
-        passes,
-        &|pass: PutPass|
-            requires { (pass.queue ≡ queue.now.id) × (pass.put ≡ 0) }
-        { put_all(rt, alloc, queue, pass) },
-    );
-    assert!(rt; put.is_ok());
+    let done = thread::map_vec(rt, passes, work);
+    check(rt, done.is_ok(), "threads");
 }
 
-// Each pass gets on a thread of its own.
-fn get_by_all<R: Abort + Threads + Wait + Sync>(
-    rt: &R,
-    alloc: Global,
-    queue: &Queue,
-    passes: Vec<PopPass>,
-    tally: &Tally,
-)
-    requires { All (λ p. p.queue ≡ queue.now.id) passes.items }
-{
-    let got = thread::map_vec(
-        rt,
-        passes,
-        &|pass: PopPass|
-            requires { pass.queue ≡ queue.now.id }
-        { get_all(rt, alloc, queue, pass, tally) },
-    );
-    assert!(rt; got.is_ok());
-}
-
-fn put_and_get<R: Abort + Threads + Wait + Sync>(rt: &R, alloc: Global) -> bool {
+fn expect_each_once<R: Abort + Threads + Wait + Sync>(rt: &R, alloc: Global) {
     let (queue, puts, pops) = opened(rt, alloc, PLACES, PLACES);
     let tally = new_tally(rt, alloc);
     let (queue, all) = (&queue, &tally);
@@ -355,16 +305,32 @@ fn put_and_get<R: Abort + Threads + Wait + Sync>(rt: &R, alloc: Global) -> bool 
         move ||
             requires threads { IsSync R.row }
             requires pops { All (λ p. p.queue ≡ queue.now.id) pops.items }
-        { get_by_all(rt, alloc, queue, pops, all) },
+        {
+            work_on_threads(
+                rt,
+                pops,
+                &|pass: PopPass|
+                    requires { pass.queue ≡ queue.now.id }
+                { get_all(rt, alloc, queue, pass, all) },
+            )
+        },
         move ||
             requires threads { IsSync R.row }
             requires puts { All (λ p. p.queue ≡ queue.now.id) puts.items × All (λ p. p.put ≡ 0) puts.items }
-        { put_by_all(rt, alloc, queue, puts) },
+        {
+            work_on_threads(
+                rt,
+                puts,
+                &|pass: PutPass|
+                    requires { (pass.queue ≡ queue.now.id) × (pass.put ≡ 0) }
+                { put_all(rt, alloc, queue, pass) },
+            )
+        },
     );
-    tally.has_each_once()
+    check(rt, tally.has_each_once(), "each ticket is got once");
 }
 
 #[test]
 fn four_threads_put_and_four_get_each_ticket_once(rt: HostRuntime) {
-    assert!(rt; put_and_get(&rt, rt.alloc()));
+    expect_each_once(&rt, rt.alloc());
 }

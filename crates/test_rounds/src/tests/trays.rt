@@ -2,6 +2,7 @@
 
 ghost use Rattle.std.specs.Prelude.{◌≡◌};
 
+use super::check;
 use firm_rules::{Command, Limits, Outcome, Refusal};
 use firm_tenant::Tenant;
 use firm_tray::{AnswerSide, AskSide, Polled, Solved, Spent, Tray};
@@ -12,7 +13,7 @@ use std::thread;
 use std::thread::Threads;
 
 // A tenant that has nothing and answers one command.
-fn one_life(rt: &impl Abort, alloc: Global) -> Tenant {
+pub fn one_life(rt: &impl Abort, alloc: Global) -> Tenant {
     let limits = Limits::check(2, 0, 1, 0, 0, 0).expect(rt, "limits");
     Tenant::admit(alloc, limits).expect(rt, "memory")
 }
@@ -32,50 +33,55 @@ fn solve(alloc: Global, mut tenant: Tenant, side: AnswerSide) -> Spent
     side.answer(Solved { tenant, reply })
 }
 
+// Whether it is the first round of such a tenant, which then has no life left.
 fn is_first_round(solved: &Solved) -> bool {
-    let worn = Outcome::Refused(Refusal::Worn);
-    solved.reply.number == 1 && solved.reply.outcome != worn && solved.tenant.life_left() == 0
+    let is_worn = matches!(solved.reply.outcome, Outcome::Refused(Refusal::Worn));
+    solved.reply.number == 1 && !is_worn && solved.tenant.life_left() == 0
+}
+
+// Looks at the tray once: whether the first round is back on it, or else the side again.
+fn look(side: AskSide) -> Result<bool, AskSide> {
+    match side.poll() {
+        Polled::Back(solved) => Ok(is_first_round(&solved)),
+        Polled::Not(same) => Err(same),
+    }
 }
 
 // The side again: its round was not answered yet.
-fn unanswered(rt: &impl Abort, side: AskSide) -> AskSide {
-    match side.poll() {
-        Polled::Not(same) => same,
-        Polled::Back(_solved) => panic!(rt; "a round that was not answered is back"),
-    }
+pub fn unanswered(rt: &impl Abort, side: AskSide) -> AskSide {
+    look(side).err().expect(rt, "no round is back yet")
 }
 
-fn is_back(side: AskSide) -> bool {
-    match side.poll() {
-        Polled::Not(_side) => false,
-        Polled::Back(solved) => is_first_round(&solved),
-    }
+pub fn expect_back(rt: &impl Abort, side: AskSide) {
+    check(rt, look(side).ok() == Some(true), "the round is back");
 }
 
 // A look finds nothing before the answer, and the round after it.
 #[test]
 fn a_tenant_is_back_once_its_round_is_answered(rt: HostRuntime) {
-    let tenant = one_life(&rt, rt.alloc());
-    let (ask, answer) = opened(&rt, rt.alloc(), &tenant);
+    let alloc = rt.alloc();
+    let tenant = one_life(&rt, alloc);
+    let (ask, answer) = opened(&rt, alloc, &tenant);
     let ask = unanswered(&rt, ask);
-    let _spent = solve(rt.alloc(), tenant, answer);
-    assert!(rt; is_back(ask));
+    let _spent = solve(alloc, tenant, answer);
+    expect_back(&rt, ask);
 }
 
 #[test]
 fn a_tenant_that_is_not_asked_back_is_dropped_once(rt: HostRuntime) {
-    let tenant = one_life(&rt, rt.alloc());
-    let (ask, answer) = opened(&rt, rt.alloc(), &tenant);
+    let alloc = rt.alloc();
+    let tenant = one_life(&rt, alloc);
+    let (ask, answer) = opened(&rt, alloc, &tenant);
     drop(ask);
-    let _spent = solve(rt.alloc(), tenant, answer);
+    let _spent = solve(alloc, tenant, answer);
 }
 
 fn comes<R: Wait>(rt: &R, side: AskSide) -> bool {
     is_first_round(&side.wait(rt))
 }
 
-// Whether the round that another thread solves comes back.
-fn comes_back<R: Abort + Threads + Wait>(rt: &R, alloc: Global) -> bool {
+// Expects back the round that another thread solves.
+fn expect_back_from_thread<R: Abort + Threads + Wait>(rt: &R, alloc: Global) {
     let tenant = one_life(rt, alloc);
     let (ask, answer) = opened(rt, alloc, &tenant);
     let worker = thread::spawn(
@@ -87,12 +93,12 @@ fn comes_back<R: Abort + Threads + Wait>(rt: &R, alloc: Global) -> bool {
     let worker = worker.ok().expect(rt, "a thread");
     let is_back = comes(rt, ask);
     let _spent = worker.join(rt);
-    is_back
+    check(rt, is_back, "the round is back");
 }
 
 #[test]
 fn rounds_come_back_from_another_thread_a_thousand_times(rt: HostRuntime) {
     for _ in 0..1000 {
-        assert!(rt; comes_back(&rt, rt.alloc()));
+        expect_back_from_thread(&rt, rt.alloc());
     }
 }

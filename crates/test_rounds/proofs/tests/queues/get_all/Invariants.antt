@@ -2,6 +2,4 @@ use Rattle.std.proofs.Common.{◌≡◌}
 use Rattle.test_rounds.proofs.tests.queues.get_all.Given as goal
 
 abbrev pub invariant-loop : goal.invariant-loop
-invariant-loop g l =
-    (goal.iterator-loop g).can_next l.iterator' × (goal.iterator-loop g).is_finite l.iterator'
-    × (l.pass.queue ≡ l.fn.pass.queue)
+invariant-loop g l = (l.pass.queue ≡ l.fn.pass.queue)
