@@ -2,11 +2,13 @@
 
 ghost use Rattle.std.specs.Prelude.{◌≤◌};
 
-use super::MOST;
+use super::devices::Expects;
+use super::services::{expect_fault, fault_of_one};
+use super::{MOST, check};
 use firm_hall::{Open, Setup, serve_from};
 use firm_saved::Saved;
-use firm_table::{Opening, serve_one, serve_to_state};
-use firm_text::{Bytes, Roster};
+use firm_table::{Opening, ServeFault, Tenants, serve_to_state};
+use firm_text::Bytes;
 use std::alloc::Global;
 use std::process::Abort;
 use std::sync::Wait;
@@ -42,27 +44,42 @@ c round
 a where y";
 
 /// What a service on one thread writes for all lines.
-fn answers(rt: &impl Abort, alloc: Global, roster: &Roster) -> Vec<u8> {
-    let mut reader = Bytes::new(LINES);
+fn answers(rt: &impl Abort, alloc: Global) -> Vec<u8> {
     let mut writer = Bytes::new(Vec::new(alloc));
-    let ended = serve_one(alloc, &mut reader, &mut writer, roster, MOST);
-    assert!(rt; ended == Ok(()));
+    let fault = fault_of_one(rt, alloc, RECORDS, &mut Bytes::new(LINES), &mut writer);
+    expect_fault(rt, fault, None);
     writer.into_inner()
 }
 
-/// The text of the state after the first lines, behind which it has written this number of bytes.
-fn state_after(rt: &impl Abort, alloc: Global, roster: &Roster, front: &[u8]) -> (Vec<u8>, usize) {
-    let mut reader = Bytes::new(front);
-    let mut writer = Bytes::new(Vec::new(alloc));
-    let opening = Opening::Roster(roster);
-    let ended = serve_to_state(alloc, &mut reader, &mut writer, opening, MOST);
-    let tenants = ended.ok().expect(rt, "no fault");
-    let mut text = Vec::new(alloc);
-    tenants.put_state(&mut text).expect(rt, "memory");
-    (text, writer.into_inner().len())
+/// Adds the text of the state after the first lines. Expects the first of these answers from a service until then, and
+/// gives the others.
+fn add_state<'a>(
+    rt: &impl Abort,
+    alloc: Global,
+    front: &[u8],
+    answers: &'a [u8],
+    text: &mut Vec<u8>,
+) -> &'a [u8] {
+    let roster = roster_of(alloc, RECORDS).expect(rt, "a roster");
+    let mut writer = Expects {
+        rest: answers,
+        differs: false,
+    };
+    let opening = Opening::Roster(&roster);
+    let ended = serve_to_state(alloc, &mut Bytes::new(front), &mut writer, opening, MOST);
+    check(rt, is_added(ended, text), "the state");
+    check(rt, !writer.differs, "the first answers");
+    writer.rest
 }
 
-/// Expects that this number of workers answers the other lines so.
+fn is_added(ended: Result<Tenants, ServeFault>, text: &mut Vec<u8>) -> bool {
+    match ended {
+        Ok(tenants) => tenants.put_state(text).is_ok(),
+        Err(_) => false,
+    }
+}
+
+/// Expects that this number of workers goes on from the state so.
 fn expect_rest<R: Abort + Threads + Wait + Sync>(
     rt: &R,
     alloc: Global,
@@ -73,8 +90,6 @@ fn expect_rest<R: Abort + Threads + Wait + Sync>(
     requires { (1 ≤ workers) × (workers ≤ 8) }
 {
     let (lines, answers) = rest;
-    let mut reader = Bytes::new(lines);
-    let mut writer = Bytes::new(Vec::new(alloc));
     let setup = Setup {
         rt,
         alloc,
@@ -82,28 +97,30 @@ fn expect_rest<R: Abort + Threads + Wait + Sync>(
         workers,
         gate: &Open,
     };
-    let ended = serve_from(setup, &mut reader, &mut writer, MOST);
-    assert!(rt; ended.is_ok());
-    assert!(rt; writer.into_inner().as_slice() == answers, "{workers}");
+    let mut writer = Expects {
+        rest: answers,
+        differs: false,
+    };
+    let ended = serve_from(setup, &mut Bytes::new(lines), &mut writer, MOST);
+    expect_fault(rt, ended.err(), None);
+    let is_met = writer.rest.is_empty() && !writer.differs;
+    check(rt, is_met, "the answers");
 }
 
 /// Expects that services go on behind this number of bytes of the lines.
 fn expect_cut<R: Abort + Threads + Wait + Sync>(
     rt: &R,
     alloc: Global,
-    roster: &Roster,
     answers: &[u8],
     place: usize,
 ) {
-    assert!(rt; place <= LINES.len());
-    let (front, rest) = LINES.split_at(place);
-    let (text, written) = state_after(rt, alloc, roster, front);
+    let (front, lines) = LINES.split_at_checked(place).expect(rt, "a place");
+    let mut text = Vec::new(alloc);
+    let rest = (lines, add_state(rt, alloc, front, answers, &mut text));
     let saved = Saved::read(alloc, &text).ok().expect(rt, "a state");
-    assert!(rt; written <= answers.len());
-    let (_, answers) = answers.split_at(written);
-    expect_rest(rt, alloc, &saved, 1, (rest, answers));
-    expect_rest(rt, alloc, &saved, 2, (rest, answers));
-    expect_rest(rt, alloc, &saved, 8, (rest, answers));
+    expect_rest(rt, alloc, &saved, 1, rest);
+    expect_rest(rt, alloc, &saved, 2, rest);
+    expect_rest(rt, alloc, &saved, 8, rest);
 }
 
 fn is_cut(place: usize) -> bool {
@@ -112,11 +129,11 @@ fn is_cut(place: usize) -> bool {
 
 #[test]
 fn workers_go_on_from_a_state(rt: HostRuntime) {
-    let roster = roster_of(rt.alloc(), RECORDS).expect(&rt, "a roster");
-    let answers = answers(&rt, rt.alloc(), &roster);
+    let alloc = rt.alloc();
+    let answers = answers(&rt, alloc);
     for place in 0..LINES.len() {
         if is_cut(place) {
-            expect_cut(&rt, rt.alloc(), &roster, &answers, place);
+            expect_cut(&rt, alloc, &answers, place);
         }
     }
 }
