@@ -1,48 +1,39 @@
 //! A tenant that answers one command.
 
-ghost use Rattle.std.specs.Prelude.{◌≡◌};
+ghost use Rattle.std.specs.Prelude.{◌≡◌, All};
 
-use super::{expect_idle_round, first_desk, last_pass, opened};
-use firm_hall::{Desk, Hall, Open, WorkerPass, worker};
-use firm_rules::{Outcome, Refusal, Reply};
+use super::expect_reply;
+use super::halls::opened;
+use super::stays::solved_round;
+use super::turns::{ask_first, last_pass};
+use firm_hall::{Desk, Hall, Open, WorkerPass};
+use firm_rules::{Outcome, Refusal};
 use std::alloc::Global;
 use std::process::Abort;
 use std::sync::Wait;
 
-/// The reply to the round of the only desk, which the only worker solves once the hall is shut, and to one asked after
-/// it.
-fn ask_twice<R: Abort + Wait>(
+/// The only worker solves the round of the only desk once the hall is shut. The desk refuses one asked after it.
+fn expect_second_refused<R: Alloc<A = Global> + Abort + Wait>(
     rt: &R,
-    alloc: Global,
     hall: &Hall,
-    desk: Desk,
-    pass: WorkerPass,
-) -> (Reply, Reply)
-    requires desk { desk.queue ≡ hall.now.id }
-    requires pass { pass.queue ≡ hall.now.id }
+    desks: &mut Vec<Desk>,
+    passes: &mut Vec<WorkerPass>,
+)
+    requires desks { All (λ d. d.queue ≡ hall.now.id) desks.old.items }
+    requires passes { All (λ p. p.queue ≡ hall.now.id) passes.old.items }
 {
-    let asked = desk.ask(rt, alloc, hall).ok().expect(rt, "a round");
+    let pass = last_pass(rt, hall, passes);
+    let asked = ask_first(rt, rt.alloc(), hall, desks);
     hall.shut();
-    let _report = worker(rt, alloc, hall, pass, &Open);
-    let (desk, first) = asked.wait(rt);
-    let (_desk, second) = desk.ask(rt, alloc, hall).err().expect(rt, "a refusal");
-    (first, second)
-}
-
-fn expect_worn(rt: &impl Abort, reply: &Reply, number: u64) {
-    assert!(rt; reply.number == number);
-    assert!(rt;
-        reply.outcome == Outcome::Refused(Refusal::Worn),
-        "{reply:?}"
-    );
+    let (desk, _report) = solved_round(rt, hall, asked, pass, &Open);
+    let refused = desk.ask(rt, rt.alloc(), hall).err();
+    let (_desk, reply) = refused.expect(rt, "a refusal");
+    let is_worn = reply.outcome == Outcome::Refused(Refusal::Worn);
+    expect_reply(rt, is_worn && reply.number == 2, &reply);
 }
 
 #[test]
 fn a_desk_without_life_left_answers_its_round_itself(rt: HostRuntime) {
     let (hall, mut desks, mut passes, _empty) = opened(&rt, rt.alloc(), "t,2,0,1,0,0", 1);
-    let desk = first_desk(&rt, &hall, &mut desks);
-    let pass = last_pass(&rt, &hall, &mut passes);
-    let (first, second) = ask_twice(&rt, rt.alloc(), &hall, desk, pass);
-    expect_idle_round(&rt, &first, 1);
-    expect_worn(&rt, &second, 2);
+    expect_second_refused(&rt, &hall, &mut desks, &mut passes);
 }

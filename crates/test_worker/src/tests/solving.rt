@@ -2,16 +2,14 @@
 
 ghost use Rattle.std.specs.Prelude.{◌≡◌, All};
 
+use super::callers::{Calls, call};
 use super::gates::Holds;
-use super::teams::with_workers;
-use super::{first_desk, opened};
+use super::scenes::{Play, Scene, perform};
+use super::turns::{ask_first, first_desk, wait_back};
 use firm_hall::{Desk, Hall};
-use firm_rules::{Command, Outcome};
-use firm_text::{Line, line};
 use std::alloc::{AllocError, Global};
 use std::process::Abort;
 use std::sync::Wait;
-use std::thread::Threads;
 use std::time::{Clock, Duration, Instant};
 
 /// A tenant whose rounds take milliseconds.
@@ -24,71 +22,25 @@ const JOBS: u64 = 4;
 /// Tasks of each job.
 const TASKS: u64 = 50;
 
+/// All rows of the tenant.
+pub const ROWS: u64 = MACHINES + JOBS * (1 + TASKS);
+
 /// How many rounds are timed.
 const ROUNDS: u64 = 9;
 
-/// The desk, whose tenant has done what the line says.
-fn does(
-    rt: &impl Abort,
-    alloc: Global,
-    hall: &Hall,
-    mut desk: Desk,
-    text: Result<String, AllocError>,
-) -> Desk
-    requires { desk.queue ≡ hall.now.id }
-    ensures { result.queue ≡ hall.now.id }
-{
-    let _ = hall;
-    let text = text.expect(rt, "memory");
-    let Line::For(_tenant, command) = line(text.as_bytes()) else {
-        panic!(rt; "a line for a tenant")
-    };
-    if command == Command::Round {
-        panic!(rt; "a line for no round")
+/// The line that adds this row. Machines come first; then each job, with a weight of its own, and its tasks.
+pub fn line_of_row(alloc: Global, row: u64) -> Result<String, AllocError> {
+    if row < MACHINES {
+        return format!(in alloc; "a machine m{row} 8");
     }
-    let reply = desk.command(alloc, command);
-    assert!(rt; reply.outcome == Outcome::Plain, "{text}: {reply:?}");
-    desk
-}
-
-/// The desk, whose tenant has its machines.
-fn with_machines(rt: &impl Abort, alloc: Global, hall: &Hall, desk: Desk) -> Desk
-    requires { desk.queue ≡ hall.now.id }
-    ensures { result.queue ≡ hall.now.id }
-{
-    let mut desk = desk;
-    for machine in 0..MACHINES {
-        let text = format!(in alloc; "a machine m{machine} 8");
-        desk = does(rt, alloc, hall, desk, text);
+    let job = (row - MACHINES) / (1 + TASKS);
+    let of_job = (row - MACHINES) % (1 + TASKS);
+    if 0 < of_job {
+        let task = of_job - 1;
+        return format!(in alloc; "a task j{job} t{job}-{task}");
     }
-    desk
-}
-
-/// The desk, whose tenant has one job more with its tasks. Each job has a weight of its own.
-fn with_job(rt: &impl Abort, alloc: Global, hall: &Hall, desk: Desk, job: u64) -> Desk
-    requires { desk.queue ≡ hall.now.id }
-    ensures { result.queue ≡ hall.now.id }
-{
     let weight = job.saturating_add(1).saturating_mul(90_000);
-    let text = format!(in alloc; "a job j{job} {weight}");
-    let mut desk = does(rt, alloc, hall, desk, text);
-    for task in 0..TASKS {
-        let text = format!(in alloc; "a task j{job} t{job}-{task}");
-        desk = does(rt, alloc, hall, desk, text);
-    }
-    desk
-}
-
-/// The desk, whose tenant has all its rows.
-fn with_rows(rt: &impl Abort, alloc: Global, hall: &Hall, desk: Desk) -> Desk
-    requires { desk.queue ≡ hall.now.id }
-    ensures { result.queue ≡ hall.now.id }
-{
-    let mut desk = with_machines(rt, alloc, hall, desk);
-    for job in 0..JOBS {
-        desk = with_job(rt, alloc, hall, desk, job);
-    }
-    desk
+    format!(in alloc; "a job j{job} {weight}")
 }
 
 fn now<R: Abort + Clock>(rt: &R) -> Instant {
@@ -108,67 +60,68 @@ struct Times {
     behind: Duration,
 }
 
-/// The desk again, once its round is back.
 fn time_round<R: Alloc<A = Global> + Abort + Clock + Wait>(
     rt: &R,
     hall: &Hall,
-    desk: Desk,
+    desks: &mut Vec<Desk>,
     gate: &Holds,
     times: &mut Times,
-) -> Desk
-    requires { desk.queue ≡ hall.now.id }
-    ensures { result.queue ≡ hall.now.id }
+)
+    requires { All (λ d. d.queue ≡ hall.now.id) desks.old.items }
+    ensures { All (λ d. d.queue ≡ hall.now.id) desks.new.items }
 {
     times.rounds = times.rounds.saturating_add(1);
     let start = now(rt);
-    let asked = desk.ask(rt, rt.alloc(), hall).ok().expect(rt, "a round");
+    let asked = ask_first(rt, rt.alloc(), hall, desks);
     gate.expect_come(rt, times.rounds);
     times.before = times.before.min(since(rt, &start));
     let start = now(rt);
     gate.open();
-    let (desk, _reply) = asked.wait(rt);
+    wait_back(rt, hall, asked, desks);
     times.behind = times.behind.min(since(rt, &start));
-    desk
 }
 
-/// Solving takes longer than all else, so it shows on which side of the gate it is done.
-fn expect_solved_behind<R: Alloc<A = Global> + Abort + Clock + Wait>(
-    rt: &R,
-    hall: &Hall,
-    desk: Desk,
-    gate: &Holds,
-)
-    requires { desk.queue ≡ hall.now.id }
-{
-    let mut desk = with_rows(rt, rt.alloc(), hall, desk);
-    let mut times = Times {
-        rounds: 0,
-        before: Duration::MAX,
-        behind: Duration::MAX,
-    };
-    for _ in 0..ROUNDS {
-        desk = time_round(rt, hall, desk, gate, &mut times);
-    }
-    let Times { before, behind, .. } = times;
+fn expect_longer_behind(rt: &impl Abort, before: Duration, behind: Duration) {
     assert!(rt;
         before < behind,
         "{before:?} before the gate, {behind:?} behind it"
     );
 }
 
+/// Solving takes longer than all else, so it shows on which side of the gate it is done.
+pub fn expect_solved_behind<R: Alloc<A = Global> + Abort + Clock + Wait>(
+    rt: &R,
+    hall: &Hall,
+    desks: Vec<Desk>,
+    gate: &Holds,
+) -> Vec<Desk>
+    requires { All (λ d. d.queue ≡ hall.now.id) desks.items }
+    ensures { All (λ d. d.queue ≡ hall.now.id) result.items }
+{
+    let mut desks = desks;
+    let desk = first_desk(rt, hall, &mut desks);
+    let desk = call(rt, hall, desk, Calls::LargeRows);
+    desks.push(desk).expect(rt, "memory");
+    let mut times = Times {
+        rounds: 0,
+        before: Duration::MAX,
+        behind: Duration::MAX,
+    };
+    for _ in 0..ROUNDS {
+        time_round(rt, hall, &mut desks, gate, &mut times);
+    }
+    expect_longer_behind(rt, times.before, times.behind);
+    desks
+}
+
+const TIMED: Scene = Scene {
+    records: LARGE,
+    places: 1,
+    play: Play::Timed,
+    rounds: Some(ROUNDS),
+};
+
 #[test]
 fn a_round_is_solved_behind_its_gate(rt: HostRuntime) {
-    let (hall, mut desks, passes, _empty) = opened(&rt, rt.alloc(), LARGE, 1);
-    let desk = first_desk(&rt, &hall, &mut desks);
-    let gate = &Holds::new(1);
-    let (rt, hall) = (&rt, &hall);
-    let (_reports, ()) = with_workers(
-        rt,
-        hall,
-        passes,
-        gate,
-        move ||
-            requires { desk.queue ≡ hall.now.id }
-        { expect_solved_behind(rt, hall, desk, gate) },
-    );
+    perform(&rt, 1, TIMED);
 }

@@ -2,10 +2,11 @@
 
 ghost use Rattle.std.specs.Prelude.{◌≡◌, All};
 
-use super::closing::{Over, alone, hand_in, put_back, rounds_at_close};
-use super::{expect_idle_round, first_desk, last_empty, last_pass, opened};
+use super::halls::{Over, expect_closes, opened};
+use super::turns::{first_desk, last_empty, last_pass};
+use super::{expect_count, expect_idle_round};
 use firm_hall::{AdmitFault, Asked, Desk, EmptyDesk, Gate, Hall, Report, WorkerPass, worker};
-use firm_rules::{Limits, Reply, Ticket};
+use firm_rules::{Limits, Ticket};
 use firm_text::MOST_ADMISSIONS;
 use std::alloc::Global;
 use std::process::Abort;
@@ -35,17 +36,11 @@ impl Notes {
     }
 
     fn expect_last(&self, rt: &impl Abort, place: u64, number: u64) {
-        assert!(rt; self.place.load(Ordering::SeqCst) == place);
-        assert!(rt; self.number.load(Ordering::SeqCst) == number);
+        let last_place = self.place.load(Ordering::SeqCst);
+        let last_number = self.number.load(Ordering::SeqCst);
+        expect_count(rt, "the place of the last round", last_place, place);
+        expect_count(rt, "the number of the last round", last_number, number);
     }
-}
-
-/// What a stay of one round leaves: its place, the reply to the round, and the worker's report.
-#[derive(Drop)]
-struct Stay {
-    empty: EmptyDesk,
-    reply: Reply,
-    report: Report,
 }
 
 /// Five commands, and no room for a row.
@@ -53,88 +48,84 @@ fn five_lives(rt: &impl Abort) -> Limits {
     Limits::check(2, 0, 5, 0, 0, 0).expect(rt, "limits")
 }
 
-/// The desk of a tenant that comes.
-fn admitted(rt: &impl Abort, alloc: Global, hall: &Hall, empty: EmptyDesk) -> Desk
-    requires { empty.queue ≡ hall.now.id }
-    ensures { result.queue ≡ hall.now.id }
+/// The desk, whose first round a worker solves on this thread, and the worker's report. The hall was shut before.
+pub fn solved_round<R: Alloc<A = Global> + Abort + Wait, G: Gate>(
+    rt: &R,
+    hall: &Hall,
+    asked: Asked,
+    pass: WorkerPass,
+    gate: &G,
+) -> (Desk, Report)
+    requires asked { asked.queue ≡ hall.now.id }
+    requires pass { pass.queue ≡ hall.now.id }
+    ensures { (result.0.queue ≡ hall.now.id) × (result.1.queue ≡ hall.now.id) }
 {
-    let _ = hall;
-    match empty.admit(alloc, five_lives(rt)) {
-        Ok(desk) => desk,
-        Err(_fault) => panic!(rt; "nobody is admitted"),
-    }
-}
-
-/// The token for the desk's round.
-fn asked_round<R: Abort + Wait>(rt: &R, alloc: Global, hall: &Hall, desk: Desk) -> Asked
-    requires { desk.queue ≡ hall.now.id }
-    ensures { result.queue ≡ hall.now.id }
-{
-    match desk.ask(rt, alloc, hall) {
-        Ok(asked) => asked,
-        Err(_refused) => panic!(rt; "the round is refused"),
-    }
-}
-
-/// The reply to the round that was asked, and the place once its tenant has left.
-fn retired<R: Wait>(rt: &R, hall: &Hall, asked: Asked) -> (EmptyDesk, Reply)
-    requires { asked.queue ≡ hall.now.id }
-    ensures { result.0.queue ≡ hall.now.id }
-{
-    let _ = hall;
+    let report = worker(rt, rt.alloc(), hall, pass, gate);
     let (desk, reply) = asked.wait(rt);
-    (desk.retire(), reply)
+    expect_idle_round(rt, &reply, 1);
+    (desk, report)
 }
 
-/// A tenant comes, asks a round, which a worker solves on this thread, and leaves.
+/// A tenant comes, asks a round and leaves.
 fn stay_one_round<R: Alloc<A = Global> + Abort + Wait>(
     rt: &R,
     hall: &Hall,
     empty: EmptyDesk,
     pass: WorkerPass,
     notes: &Notes,
-) -> Stay
+) -> (EmptyDesk, Report)
     requires empty { empty.queue ≡ hall.now.id }
     requires pass { pass.queue ≡ hall.now.id }
-    ensures { (result.empty.queue ≡ hall.now.id) × (result.report.queue ≡ hall.now.id) }
+    ensures { (result.0.queue ≡ hall.now.id) × (result.1.queue ≡ hall.now.id) }
 {
-    let desk = admitted(rt, rt.alloc(), hall, empty);
-    let asked = asked_round(rt, rt.alloc(), hall, desk);
-    let report = worker(rt, rt.alloc(), hall, pass, notes);
-    let (empty, reply) = retired(rt, hall, asked);
-    Stay {
-        empty,
-        reply,
-        report,
-    }
+    let desk = empty.admit(rt.alloc(), five_lives(rt));
+    let desk = desk.ok().expect(rt, "a tenant is admitted");
+    let asked = desk.ask(rt, rt.alloc(), hall).ok().expect(rt, "a round");
+    let (desk, report) = solved_round(rt, hall, asked, pass, notes);
+    (desk.retire(), report)
 }
 
-// Two stays follow one another at the last place.
+/// Two stays follow one another at the last place, which is given back with the reports of their workers.
+fn stay_twice<R: Alloc<A = Global> + Abort + Wait>(
+    rt: &R,
+    hall: &Hall,
+    empty: EmptyDesk,
+    passes: &mut Vec<WorkerPass>,
+) -> (EmptyDesk, Vec<Report>)
+    requires empty { empty.queue ≡ hall.now.id }
+    requires passes { All (λ p. p.queue ≡ hall.now.id) passes.old.items }
+    ensures empty { result.0.queue ≡ hall.now.id }
+    ensures reports { All (λ r. r.queue ≡ hall.now.id) result.1.items }
+{
+    let notes = Notes::new();
+    let pass = last_pass(rt, hall, passes);
+    let (empty, first) = stay_one_round(rt, hall, empty, pass, &notes);
+    notes.expect_last(rt, 63, 1);
+    let pass = last_pass(rt, hall, passes);
+    let (empty, second) = stay_one_round(rt, hall, empty, pass, &notes);
+    notes.expect_last(rt, 63, 2);
+    let mut reports = Vec::new(rt.alloc());
+    reports.push(first).expect(rt, "memory");
+    reports.push(second).expect(rt, "memory");
+    (empty, reports)
+}
+
+const ONE: &str = "a,2,0,5,0,0";
+
 #[test]
 fn the_next_stay_begins_anew_and_its_tickets_go_on(rt: HostRuntime) {
-    let (hall, desks, mut passes, mut empty) = opened(&rt, rt.alloc(), "a,2,0,5,0,0", 2);
+    let (hall, desks, mut passes, mut empty) = opened(&rt, rt.alloc(), ONE, 2);
     hall.shut();
-    let notes = Notes::new();
     let place = last_empty(&rt, &hall, &mut empty);
-    let pass = last_pass(&rt, &hall, &mut passes);
-    let other = last_pass(&rt, &hall, &mut passes);
-    let first = stay_one_round(&rt, &hall, place, pass, &notes);
-    expect_idle_round(&rt, &first.reply, 1);
-    notes.expect_last(&rt, 63, 1);
-    let second = stay_one_round(&rt, &hall, first.empty, other, &notes);
-    expect_idle_round(&rt, &second.reply, 1);
-    notes.expect_last(&rt, 63, 2);
-    put_back(&rt, &hall, &mut empty, second.empty);
-    let mut reports = alone(&rt, rt.alloc(), &hall, first.report);
-    hand_in(&rt, &hall, &mut reports, second.report);
+    let (place, reports) = stay_twice(&rt, &hall, place, &mut passes);
+    empty.push(place).expect(&rt, "memory");
     let over = Over {
         hall,
         desks,
         reports,
         empty,
     };
-    let rounds = rounds_at_close(&rt, rt.alloc(), over);
-    assert!(rt; rounds == Some(2));
+    expect_closes(&rt, rt.alloc(), over, 2);
 }
 
 /// A tenant comes to the place and leaves it.
@@ -156,13 +147,19 @@ fn stays_until_worn(rt: &impl Abort, alloc: Global, empty: EmptyDesk) -> u32 {
     panic!(rt; "the place is not worn")
 }
 
-fn expect_stays(rt: &impl Abort, alloc: Global, empty: EmptyDesk, wanted: u32) {
-    assert!(rt; stays_until_worn(rt, alloc, empty) == wanted);
+fn expect_stays(rt: &impl Abort, alloc: Global, empty: EmptyDesk, stays: u32) {
+    let count = stays_until_worn(rt, alloc, empty);
+    expect_count(
+        rt,
+        "stays until the place is worn",
+        count as u64,
+        stays as u64,
+    );
 }
 
 #[test]
 fn a_place_is_worn_once_it_was_given_as_often_as_it_may_be(rt: HostRuntime) {
-    let (hall, mut desks, _passes, mut empty) = opened(&rt, rt.alloc(), "a,2,0,5,0,0", 1);
+    let (hall, mut desks, _passes, mut empty) = opened(&rt, rt.alloc(), ONE, 1);
     let desk = first_desk(&rt, &hall, &mut desks);
     let place = last_empty(&rt, &hall, &mut empty);
     expect_stays(&rt, rt.alloc(), place, MOST_ADMISSIONS);
