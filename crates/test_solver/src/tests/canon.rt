@@ -1,13 +1,19 @@
 //! Rounds of small books made from a seed, beside a slow search over all placements.
-ghost use Rattle.std.specs.Prelude.{◌<◌};
+ghost use Rattle.std.specs.Prelude.{◌≡◌};
+ghost use Rattle.firm_paths.specs.NetArcs.{limits_of};
 
+use super::books::{
+    Workspace, add_job, add_machine, add_task, all_wait, name, names, numbered, one_to, opened,
+    random_limits, remove_machine, remove_task,
+};
+use super::check;
 use super::random::Random;
+use super::worlds::at;
 use firm_canon::{first_best, first_by_search};
 use firm_graph::Graph;
-use firm_paths::{Prices, Scratch};
 use firm_rules::{
-    Change, Changes, Choice, Limits, Name, Preferred, Rows, Slots, Weight, changes_of, cost_of,
-    legal, ranks_before,
+    Change, Changes, Choice, Limits, Name, Preferred, Rows, changes_of, cost_of, legal,
+    ranks_before,
 };
 use std::alloc::Global;
 use std::process::Abort;
@@ -47,99 +53,117 @@ fn advance(placement: &mut [Choice], machines: usize) -> bool {
     false
 }
 
+/// Whether a placement comes before the best.
+fn is_first(rt: &impl Abort, rows: &Rows, best: &Best, placement: &[Choice]) -> bool {
+    check(rt, legal(rows, placement), "the placement is legal");
+    check(rt, legal(rows, &best.placement), "the best is legal");
+    ranks_before(rows, placement, &best.placement)
+}
+
 /// Keeps a placement that is legal and costs less than the best, or as much and comes before it.
 fn consider(rt: &impl Abort, alloc: Global, rows: &Rows, best: &mut Best, placement: &[Choice]) {
     if !legal(rows, placement) {
         return;
     }
     let cost = cost_of(rows, placement);
-    assert!(rt; legal(rows, &best.placement));
     if best.cost < cost {
         return;
     }
-    let cheaper = cost < best.cost;
-    best.count = if cheaper {
-        1
-    } else {
-        best.count.saturating_add(1)
-    };
-    if cheaper || ranks_before(rows, placement, &best.placement) {
+    if cost < best.cost {
+        best.count = 0;
+    }
+    best.count = best.count.saturating_add(1);
+    if cost < best.cost || is_first(rt, rows, best, placement) {
         best.cost = cost;
         best.placement = Vec::from_slice(alloc, placement).expect(rt, "memory");
     }
 }
 
-pub fn all_wait(rt: &impl Abort, alloc: Global, rows: &Rows) -> Vec<Choice> {
-    let mut placement = Vec::new(alloc);
-    for _ in 0..rows.task_count() {
-        placement.push(Choice::Wait).expect(rt, "memory");
-    }
-    placement
+/// What a placement costs, which is legal.
+pub fn cost_if_legal(rt: &impl Abort, rows: &Rows, placement: &[Choice]) -> i64 {
+    check(rt, legal(rows, placement), "the placement is legal");
+    cost_of(rows, placement)
 }
 
-/// The placement in which all wait.
-fn waiting(rt: &impl Abort, alloc: Global, rows: &Rows) -> Best {
-    let placement = all_wait(rt, alloc, rows);
-    assert!(rt; legal(rows, &placement));
-    let cost = cost_of(rows, &placement);
-    Best {
-        placement,
-        cost,
-        count: 1,
-    }
-}
-
-/// The first of the cheapest placements, sought among all lists of choices.
-fn first_of_all(rt: &impl Abort, alloc: Global, rows: &Rows) -> Best {
-    let mut best = waiting(rt, alloc, rows);
-    let mut placement = all_wait(rt, alloc, rows);
+/// Looks at all lists of choices, from that in which all wait.
+fn consider_all(
+    rt: &impl Abort,
+    alloc: Global,
+    rows: &Rows,
+    best: &mut Best,
+    placement: &mut [Choice],
+) {
     for _ in 0..MOST_PLACEMENTS {
-        if !advance(&mut placement, rows.machine_count()) {
-            return best;
+        if !advance(placement, rows.machine_count()) {
+            return;
         }
-        consider(rt, alloc, rows, &mut best, &placement);
+        consider(rt, alloc, rows, best, placement);
     }
     panic!(rt; "a book with too many placements")
 }
 
-/// What was met in the rounds of all books.
+/// The first of the cheapest placements, sought among all lists of choices.
+fn first_of_all(rt: &impl Abort, alloc: Global, rows: &Rows) -> Best {
+    let placement = all_wait(rt, alloc, rows);
+    let cost = cost_if_legal(rt, rows, &placement);
+    let mut best = Best {
+        placement,
+        cost,
+        count: 1,
+    };
+    let mut placement = all_wait(rt, alloc, rows);
+    consider_all(rt, alloc, rows, &mut best, &mut placement);
+    best
+}
+
+/// What is met in rounds.
 #[derive(Clone, Copy)]
-struct Met {
-    ties: u64,
-    starts: u64,
-    moves: u64,
-    preemptions: u64,
-    evictions: u64,
-    full: u64,
-    free_of_churn: u64,
-    near: u64,
-    remote: u64,
+enum Kind {
+    Tie,
+    Start,
+    Move,
+    Preemption,
+    Eviction,
+    Full,
+    FreeOfChurn,
+    /// A placed task prefers its machine.
+    Near,
+    /// A placed task prefers others.
+    Remote,
+}
+
+/// How often each kind was met in the rounds of all books.
+type Met = [u64; 9];
+
+fn meet(met: &mut Met, kind: Kind, times: u64) {
+    if let Some(count) = met.get_mut(kind as usize) {
+        *count = count.saturating_add(times);
+    }
 }
 
 /// Whether a task that was placed on the machine prefers it, or others, or none.
 fn count_placed(met: &mut Met, rows: &Rows, task: Name, machine: Name) {
-    let preferred = rows.task_named(task).map(|row| row.preferred);
-    let Some(preferred) = preferred else {
+    let Some(row) = rows.task_named(task) else {
         return;
     };
-    if preferred.contains(machine) {
-        met.near = met.near.saturating_add(1);
-    } else if 0 < preferred.len() {
-        met.remote = met.remote.saturating_add(1);
+    if row.preferred.contains(machine) {
+        meet(met, Kind::Near, 1);
+    } else if 0 < row.preferred.len() {
+        meet(met, Kind::Remote, 1);
     }
 }
 
 fn count_change(met: &mut Met, rows: &Rows, change: &Change) {
     match change {
         Change::Start(task, machine) => {
-            met.starts = met.starts.saturating_add(1);
+            meet(met, Kind::Start, 1);
             count_placed(met, rows, *task, *machine);
         }
         Change::Move(task, _, machine) => {
-            met.moves = met.moves.saturating_add(1);
+            meet(met, Kind::Move, 1);
             count_placed(met, rows, *task, *machine);
         }
-        Change::Preempt(_, _) => met.preemptions = met.preemptions.saturating_add(1),
+        Change::Preempt(_, _) => meet(met, Kind::Preemption, 1),
     }
 }
 
@@ -152,92 +176,107 @@ fn slot_total(rows: &Rows) -> u64 {
     slots
 }
 
+/// Whether all slots are taken, and tasks wait.
+fn is_full(rows: &Rows) -> bool {
+    let running = rows.running();
+    running == slot_total(rows) && running < rows.task_count() as u64
+}
+
 fn count_round(met: &mut Met, rows: &Rows, changes: &Changes, least: u64) {
     for change in changes.as_slice() {
         count_change(met, rows, change);
     }
-    if 1 < least {
-        met.ties = met.ties.saturating_add(1);
-    }
-    if rows.running() == slot_total(rows) && rows.running() < rows.task_count() as u64 {
-        met.full = met.full.saturating_add(1);
-    }
-    if rows.limits().churn() == 0 {
-        met.free_of_churn = met.free_of_churn.saturating_add(1);
-    }
+    meet(met, Kind::Tie, u64::from(1 < least));
+    meet(met, Kind::Full, u64::from(is_full(rows)));
+    meet(
+        met,
+        Kind::FreeOfChurn,
+        u64::from(rows.limits().churn() == 0),
+    );
+}
+
+/// Whether a round is proposed first, or chosen by searches alone.
+#[derive(Clone, Copy)]
+pub enum Way {
+    Proposed,
+    Searched,
+}
+
+/// The placement of a round, its searches and their looks, and the looks of its proposal.
+#[derive(Drop)]
+pub struct Chosen {
+    pub placement: Vec<Choice>,
+    pub counts: (u64, u64, u64),
+}
+
+fn choose_in(
+    rt: &impl Abort,
+    alloc: Global,
+    graph: &mut Graph,
+    space: &mut Workspace,
+    way: Way,
+) -> Vec<Choice>
+    requires made_for { (space.old.prices.limits ≡ limits_of graph.old.net)
+        × (space.old.scratch.limits ≡ limits_of graph.old.net) }
+{
+    let (prices, scratch) = (&mut space.prices, &mut space.scratch);
+    let placement = match way {
+        Way::Proposed => first_best(alloc, graph, prices, scratch),
+        Way::Searched => first_by_search(alloc, graph, prices, scratch),
+    };
+    placement.expect(rt, "memory")
+}
+
+pub fn choose(rt: &impl Abort, alloc: Global, graph: &mut Graph, way: Way) -> Chosen {
+    let mut space = Workspace::new(rt, alloc, graph.net());
+    let placement = choose_in(rt, alloc, graph, &mut space, way);
+    let scratch = &space.scratch;
+    let counts = (scratch.searches(), scratch.looks(), scratch.proposed());
+    Chosen { placement, counts }
 }
 
 /// The placement of a round, proposed; by searches it is the same.
 fn placement_of(rt: &impl Abort, alloc: Global, graph: &mut Graph) -> Vec<Choice> {
-    let mut prices = Prices::new(alloc, graph.net()).expect(rt, "memory");
-    let mut scratch = Scratch::new(alloc, graph.net()).expect(rt, "memory");
-    let first = first_best(alloc, graph, &mut prices, &mut scratch).expect(rt, "memory");
-    assert!(rt; scratch.searches() == 0 && scratch.looks() == 0);
-    let searched = searched_placement_of(rt, alloc, graph);
-    assert!(rt; first.as_slice() == searched.as_slice());
-    first
-}
-
-/// The placement of a round by searches.
-fn searched_placement_of(rt: &impl Abort, alloc: Global, graph: &mut Graph) -> Vec<Choice> {
-    let mut prices = Prices::new(alloc, graph.net()).expect(rt, "memory");
-    let mut scratch = Scratch::new(alloc, graph.net()).expect(rt, "memory");
-    let placement = first_by_search(alloc, graph, &mut prices, &mut scratch);
-    assert!(rt; scratch.proposed() == 0);
-    placement.expect(rt, "memory")
+    let first = choose(rt, alloc, graph, Way::Proposed);
+    let (searches, looks, _) = first.counts;
+    check(
+        rt,
+        searches == 0 && looks == 0,
+        "a proposal takes no search",
+    );
+    let searched = choose(rt, alloc, graph, Way::Searched);
+    check(rt, searched.counts.2 == 0, "a search takes no proposal");
+    check(
+        rt,
+        first.placement.as_slice() == searched.placement.as_slice(),
+        "both are the same",
+    );
+    first.placement
 }
 
 /// The round's placement is the one that the slow search finds; it becomes the tenant's own.
 fn expect_round(rt: &impl Abort, alloc: Global, graph: &mut Graph, met: &mut Met) {
     let best = first_of_all(rt, alloc, graph.rows());
     let placement = placement_of(rt, alloc, graph);
-    assert!(rt; placement.as_slice() == best.placement.as_slice());
-    assert!(rt; legal(graph.rows(), &placement));
-    let changes = changes_of(alloc, graph.rows(), &placement).expect(rt, "memory");
-    graph.settle(&placement);
+    check(
+        rt,
+        placement.as_slice() == best.placement.as_slice(),
+        "the placement is the first",
+    );
+    let changes = changed(rt, alloc, graph, &placement);
     count_round(met, graph.rows(), &changes, best.count);
 }
 
-pub fn add_machine(rt: &impl Abort, alloc: Global, graph: &mut Graph, name: Name, slots: u64) {
-    let Some(slots) = Slots::check(slots) else {
-        panic!(rt; "not slots")
-    };
-    if graph.rows().has_machine(name) {
-        return;
-    }
-    assert!(rt; graph.asked() < 1_000);
-    assert!(rt; graph.add_machine(alloc, name, slots).is_ok());
-}
-
-pub fn add_job(rt: &impl Abort, graph: &mut Graph, name: Name, weight: u64) {
-    let Some(weight) = Weight::check(weight) else {
-        panic!(rt; "not a weight")
-    };
-    if graph.rows().has_job(name) {
-        return;
-    }
-    assert!(rt; graph.asked() < 1_000);
-    assert!(rt; graph.add_job(name, weight).is_ok());
-}
-
-pub fn add_task(rt: &impl Abort, graph: &mut Graph, job: Name, name: Name, preferred: Preferred) {
-    if !graph.rows().has_job(job) || graph.rows().has_task(name) {
-        return;
-    }
-    assert!(rt; graph.rows().has_machines(preferred.as_slice()));
-    assert!(rt; graph.asked() < 1_000);
-    assert!(rt; graph.add_task(job, name, preferred).is_ok());
-}
-
-/// A number from 1 to the last.
-pub fn one_to(last: u32, random: &mut Random) -> u64
-    requires { 0 < last }
-{
-    u64::from(random.below(last)) + 1
+/// What the placement changes, which becomes the tenant's own.
+fn changed(rt: &impl Abort, alloc: Global, graph: &mut Graph, placement: &[Choice]) -> Changes {
+    check(rt, legal(graph.rows(), placement), "the placement is legal");
+    let changes = changes_of(alloc, graph.rows(), placement).expect(rt, "memory");
+    graph.settle(placement);
+    changes
 }
 
 /// None to three of the machines that are there, one that is drawn twice but once.
-fn random_preferred(rows: &Rows, names: &[Name; 5], random: &mut Random) -> Preferred {
+fn random_preferred(rows: &Rows, names: &[Name; 6], random: &mut Random) -> Preferred {
     let mut preferred = Preferred::new();
     for _ in 0..random.below(4) {
         let machine = names[random.below(3) as usize];
@@ -248,44 +287,13 @@ fn random_preferred(rows: &Rows, names: &[Name; 5], random: &mut Random) -> Pref
     preferred
 }
 
-fn drain(graph: &mut Graph, name: Name, met: &mut Met) {
-    if graph.rows().has_machine(name) {
-        let evicted = graph.drop_machine(name);
-        met.evictions = met.evictions.saturating_add(u64::from(evicted));
-    }
-}
-
-pub fn remove_task(graph: &mut Graph, name: Name) {
-    if graph.rows().has_task(name) {
-        graph.drop_task(name);
-    }
-}
-
-pub fn name(rt: &impl Abort, bytes: &[u8]) -> Name {
-    let Some(name) = Name::read(bytes) else {
-        panic!(rt; "not a name")
-    };
-    name
-}
-
-/// The names of tasks; the first three are also those of machines and of jobs.
-fn names(rt: &impl Abort) -> [Name; 5] {
-    [
-        name(rt, b"a"),
-        name(rt, b"b"),
-        name(rt, b"c"),
-        name(rt, b"d"),
-        name(rt, b"e"),
-    ]
-}
-
 /// A machine of three slots, a job of some weight and three tasks, so that machines which come later are worth a move.
-fn open_book(rt: &impl Abort, alloc: Global, graph: &mut Graph, names: &[Name; 5], weight: u64) {
+fn open_book(rt: &impl Abort, alloc: Global, graph: &mut Graph, names: &[Name; 6], weight: u64) {
     add_machine(rt, alloc, graph, names[0], 3);
     add_job(rt, graph, names[0], weight);
-    for task in names.iter().take(3) {
-        add_task(rt, graph, names[0], *task, Preferred::new());
-    }
+    add_task(rt, graph, names[0], names[0], Preferred::new());
+    add_task(rt, graph, names[0], names[1], Preferred::new());
+    add_task(rt, graph, names[0], names[2], Preferred::new());
 }
 
 /// Where the numbers of all books are drawn from, and what was met in their rounds.
@@ -296,7 +304,7 @@ struct Trial {
 }
 
 /// A change of the rows, among 3 machines, 3 jobs and 5 tasks.
-fn change(rt: &impl Abort, alloc: Global, graph: &mut Graph, names: &[Name; 5], trial: &mut Trial) {
+fn change(rt: &impl Abort, alloc: Global, graph: &mut Graph, names: &[Name; 6], trial: &mut Trial) {
     let few = names[trial.random.below(3) as usize];
     let many = names[trial.random.below(5) as usize];
     match trial.random.below(9) {
@@ -306,7 +314,7 @@ fn change(rt: &impl Abort, alloc: Global, graph: &mut Graph, names: &[Name; 5], 
             let preferred = random_preferred(graph.rows(), names, &mut trial.random);
             add_task(rt, graph, few, many, preferred);
         }
-        7 => drain(graph, few, &mut trial.met),
+        7 => meet(&mut trial.met, Kind::Eviction, remove_machine(graph, few)),
         _ => remove_task(graph, many),
     }
 }
@@ -316,7 +324,7 @@ fn fill_book(
     rt: &impl Abort,
     alloc: Global,
     graph: &mut Graph,
-    names: &[Name; 5],
+    names: &[Name; 6],
     trial: &mut Trial,
 ) {
     let weight = one_to(9, &mut trial.random);
@@ -330,83 +338,74 @@ fn fill_book(
     }
 }
 
-pub fn opened(rt: &impl Abort, alloc: Global, limits: Limits) -> Graph {
-    Graph::open(alloc, limits).expect(rt, "memory")
+/// How often each kind of round is met at least.
+static LEAST_MET: [(Kind, u64); 9] = [
+    (Kind::Tie, 101),
+    (Kind::Start, 101),
+    (Kind::Full, 101),
+    (Kind::FreeOfChurn, 101),
+    (Kind::Move, 21),
+    (Kind::Preemption, 21),
+    (Kind::Eviction, 21),
+    (Kind::Near, 21),
+    (Kind::Remote, 21),
+];
+
+fn expect_all_kinds(rt: &impl Abort, met: &Met) {
+    for (kind, least) in &LEAST_MET {
+        let count = at(rt, met, *kind as usize);
+        check(rt, *least <= count, "each kind of round is met");
+    }
 }
 
-fn random_limits(rt: &impl Abort, random: &mut Random) -> Limits {
-    let spread = u64::from(random.below(4));
-    let churn = u64::from(random.below(3));
-    let remote = u64::from(random.below(4));
-    let Some(limits) = Limits::check(13, 60, 100, spread, churn, remote) else {
-        panic!(rt; "not limits")
-    };
-    limits
-}
-
-/// Each kind of round is among them.
-fn expect_all_kinds(rt: &impl Abort, met: Met) {
-    for count in [met.ties, met.starts, met.full, met.free_of_churn] {
-        assert!(rt; 100 < count);
-    }
-    for count in [
-        met.moves,
-        met.preemptions,
-        met.evictions,
-        met.near,
-        met.remote,
-    ] {
-        assert!(rt; 20 < count);
-    }
+/// The rounds of a new book.
+fn compare_new(rt: &impl Abort, alloc: Global, names: &[Name; 6], trial: &mut Trial) {
+    let limits = random_limits(rt, &mut trial.random, (13, 60, 100));
+    let mut graph = opened(rt, alloc, limits);
+    fill_book(rt, alloc, &mut graph, names, trial);
 }
 
 #[test]
 fn rounds_of_small_books_beside_all_their_placements(rt: HostRuntime) {
     let mut trial = Trial {
         random: Random::new(2_026),
-        met: Met {
-            ties: 0,
-            starts: 0,
-            moves: 0,
-            preemptions: 0,
-            evictions: 0,
-            full: 0,
-            free_of_churn: 0,
-            near: 0,
-            remote: 0,
-        },
+        met: [0; 9],
     };
     let names = names(&rt);
     for _ in 0..240 {
-        let limits = random_limits(&rt, &mut trial.random);
-        let mut graph = opened(&rt, rt.alloc(), limits);
-        fill_book(&rt, rt.alloc(), &mut graph, &names, &mut trial);
+        compare_new(&rt, rt.alloc(), &names, &mut trial);
     }
-    expect_all_kinds(&rt, trial.met);
+    expect_all_kinds(&rt, &trial.met);
 }
 
 /// Machines of two slots and waiting tasks, with names of two digits.
-fn add_many(rt: &impl Abort, alloc: Global, graph: &mut Graph, machines: u8, tasks: u8) {
+fn add_many(rt: &impl Abort, alloc: Global, graph: &mut Graph, machines: u32, tasks: u32) {
     let job = name(rt, b"j");
     add_job(rt, graph, job, 100);
     for number in 0..machines {
-        let digits = [b'0' + number / 10, b'0' + number % 10];
-        add_machine(rt, alloc, graph, name(rt, &digits), 2);
+        add_machine(rt, alloc, graph, numbered(rt, number), 2);
     }
     for number in 0..tasks {
-        let digits = [b'0' + number / 10, b'0' + number % 10];
-        add_task(rt, graph, job, name(rt, &digits), Preferred::new());
+        add_task(rt, graph, job, numbered(rt, number), Preferred::new());
     }
 }
 
-/// The searches of a first round, their looks, and the looks of its proposal, with those allowed to it.
-fn counts_of(rt: &impl Abort, alloc: Global, graph: &mut Graph, allowed: u64) -> (u64, u64, u64) {
-    let mut prices = Prices::new(alloc, graph.net()).expect(rt, "memory");
-    let mut scratch = Scratch::new(alloc, graph.net()).expect(rt, "memory");
+/// Checks what a first round takes if its proposal may take so many looks: its searches, their looks, and the looks of
+/// its proposal.
+fn expect_counts(
+    rt: &impl Abort,
+    alloc: Global,
+    graph: &mut Graph,
+    allowed: u64,
+    counts: (u64, u64, u64),
+) {
     graph.allow_proposals(allowed);
-    let placement = first_best(alloc, graph, &mut prices, &mut scratch);
-    assert!(rt; placement.is_ok());
-    (scratch.searches(), scratch.looks(), scratch.proposed())
+    let chosen = choose(rt, alloc, graph, Way::Proposed);
+    check(
+        rt,
+        chosen.counts == counts,
+        "a round takes so many searches and looks",
+    );
 }
 
 /// Checks what a first round takes: its searches and their looks without a proposal, or else the looks of that. One
@@ -415,16 +414,16 @@ fn expect_counts_of(
     rt: &impl Abort,
     alloc: Global,
     limits: Option<Limits>,
-    rows: (u8, u8),
+    rows: (u32, u32),
     (searches, looks, proposed): (u64, u64, u64),
 ) {
     let mut graph = opened(rt, alloc, limits.expect(rt, "limits"));
     let (machines, tasks) = rows;
     add_many(rt, alloc, &mut graph, machines, tasks);
-    assert!(rt; counts_of(rt, alloc, &mut graph, u64::MAX) == (0, 0, proposed));
-    assert!(rt; counts_of(rt, alloc, &mut graph, 0) == (searches, looks, 0));
+    expect_counts(rt, alloc, &mut graph, u64::MAX, (0, 0, proposed));
+    expect_counts(rt, alloc, &mut graph, 0, (searches, looks, 0));
     let fewer = proposed.saturating_sub(1);
-    assert!(rt; counts_of(rt, alloc, &mut graph, fewer) == (searches, looks, fewer));
+    expect_counts(rt, alloc, &mut graph, fewer, (searches, looks, fewer));
 }
 
 #[test]

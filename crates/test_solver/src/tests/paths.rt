@@ -1,487 +1,432 @@
-//! Worked searches, each path and all prices checked, and each call once.
-ghost use Rattle.std.specs.Prelude.{◌≡◌, ◌≢◌, ◌+◌, ◌*◌, ◌≤◌, ◌^◌};
+//! Worked searches, and random ones beside rounds over all arcs.
+ghost use Rattle.std.specs.Prelude.{◌≡◌, ℕ};
 ghost use Rattle.firm_net.specs.Net.{IsNode};
 ghost use Rattle.firm_paths.specs.Network.{AreValid};
 ghost use Rattle.firm_paths.specs.NetArcs.{arcs_of, limits_of};
 ghost use Rattle.firm_paths.specs.Paths.{IsHighest};
 ghost use Rattle.firm_paths.specs.PriceTable.{price_of};
 
+use super::check;
 use super::random::Random;
-use super::worlds::{Link, World, arc, arc_at, build, carrying, has_room, node, read_prices, unit};
+use super::searches::{Path, Search, copied, expect_path, raised, tight};
+use super::worlds::Given::{Arc, Carrying, Unit};
+use super::worlds::{Given, Link, World, all_at, arc, at, build, has_room, links_of};
+use firm_net::NodeId;
 use firm_net::Way::{Backward, Forward};
-use firm_net::{ArcId, ArcRow, NodeId, Way};
-use firm_paths::{Step, arcs_are_rows, raise, searches_add_up, tight_path, tight_paths};
+use firm_paths::{arcs_are_rows, searches_add_up, tight_paths};
 use std::alloc::Global;
 use std::process::Abort;
 
-fn row_of(rt: &impl Abort, world: &World, arc: ArcId) -> ArcRow {
-    world.net.arc(arc).expect(rt, "the arc is there")
+/// What is read of a world, and what it is to be. Nodes are given by their numbers.
+enum Reading {
+    /// By how much the price of the second node is greater than that of the first.
+    Distance(usize, usize, u64),
+    /// The price of a node, if that is there.
+    Price(usize, Option<u64>),
+    /// Calls of `begin`, searches, looks.
+    Counts(u64, u64, u64),
+    Searches(u64),
 }
 
-fn price_at(rt: &impl Abort, world: &World, node: NodeId) -> u64
-    requires { world.now.prices.limits ≡ limits_of world.now.net }
-{
-    let price = world.prices.get(&world.net, node);
-    price.expect(rt, "the node is there")
-}
-
-/// The reduced cost of an arc, read forward.
-fn reduced_cost(rt: &impl Abort, world: &World, row: ArcRow) -> i128
-    requires { world.now.prices.limits ≡ limits_of world.now.net }
-{
-    let tail = price_at(rt, world, row.tail());
-    let head = price_at(rt, world, row.head());
-    i128::from(row.cost()) + i128::from(tail) - i128::from(head)
-}
-
-/// Checks that no residual arc has a negative reduced cost.
-fn check_prices(rt: &impl Abort, world: &World)
-    requires { world.now.prices.limits ≡ limits_of world.now.net }
-{
-    for arc in &world.arcs {
-        let row = row_of(rt, world, *arc);
-        let reduced = reduced_cost(rt, world, row);
-        assert!(rt; row.flow() == row.cap() || reduced >= 0);
-        assert!(rt; row.flow() == row.low() || reduced <= 0);
-    }
-}
-
-/// The node that a step leaves, the one that it enters, and whether its arc is residual that way.
-fn ends(row: ArcRow, way: Way) -> (NodeId, NodeId, bool) {
-    match way {
-        Forward => (row.tail(), row.head(), row.flow() < row.cap()),
-        Backward => (row.head(), row.tail(), row.low() < row.flow()),
-    }
-}
-
-/// Where a path is to begin and to end.
-#[derive(Clone, Copy)]
-struct Terminals {
-    from: NodeId,
-    to: NodeId,
-}
-
-/// Checks that the steps lead from node to node over residual arcs of reduced cost 0, and meet no node twice.
-fn check_path(rt: &impl Abort, alloc: Global, world: &World, terminals: Terminals, steps: &[Step])
-    requires { world.now.prices.limits ≡ limits_of world.now.net }
-{
-    let Terminals { from, to } = terminals;
-    let mut at = from;
-    let mut met = Vec::new(alloc);
-    met.push(from).expect(rt, "memory");
-    for step in steps {
-        let row = row_of(rt, world, step.arc);
-        assert!(rt; reduced_cost(rt, world, row) == 0);
-        let (leaves, enters, is_residual) = ends(row, step.way);
-        assert!(rt; is_residual);
-        assert!(rt; leaves == at);
-        assert!(rt; !met.contains(&enters));
-        met.push(enters).expect(rt, "memory");
-        at = enters;
-    }
-    assert!(rt; at == to);
-}
-
-/// Checks that the two nodes are different nodes of a net with the room that a world's has.
-pub fn check_nodes(rt: &impl Abort, world: &World, from: NodeId, to: NodeId)
-    ensures room { limits_of world.now.net ≡ (8, 16) }
-    ensures nodes { IsNode world.now.net from × IsNode world.now.net to × (from ≢ to) }
-{
-    assert!(rt; has_room(&world.net) && from != to);
-    assert!(rt; world.net.place(from).is_some() && world.net.place(to).is_some());
-}
-
-pub fn copied(rt: &impl Abort, alloc: Global, steps: Option<&[Step]>) -> Option<Vec<Step>> {
-    match steps {
-        Some(steps) => Some(steps.to_vec(alloc).expect(rt, "memory")),
-        None => None,
-    }
-}
-
-/// Checks that no price fell, and that none rose where there is no path.
-fn check_rise(rt: &impl Abort, before: &[u64], after: &[u64], is_path: bool) {
-    assert!(rt; before.len() == after.len());
-    for (old, new) in before.iter().zip(after) {
-        assert!(rt; old <= new && (is_path || old == new));
-    }
-}
-
-/// Raises the prices of a world, checks what is left, and gives the path.
-fn raised(
-    rt: &impl Abort,
-    alloc: Global,
-    world: &mut World,
-    from: NodeId,
-    to: NodeId,
-) -> Option<Vec<Step>>
-    requires limits { (world.old.prices.limits ≡ (8, 16)) × (world.old.scratch.limits ≡ (8, 16)) }
-    requires valid { AreValid (arcs_of world.old.net) (price_of world.old.prices) }
-    requires highest { IsHighest world.old.net (price_of world.old.prices) to.id.place }
-    requires room { price_of world.old.prices to.id.place ≤ 2 ^ 60 }
-    ensures limits { (world.new.prices.limits ≡ (8, 16)) × (world.new.scratch.limits ≡ (8, 16)) }
-    ensures valid { AreValid (arcs_of world.new.net) (price_of world.new.prices) }
-    ensures highest { IsHighest world.new.net (price_of world.new.prices) to.id.place }
-    ensures bound { price_of world.new.prices to.id.place ≤ price_of world.old.prices to.id.place + 4095 * 3000000 }
-{
-    check_nodes(rt, world, from, to);
-    let before = read_prices(rt, alloc, world);
-    let steps = raise(&mut world.scratch, &world.net, &mut world.prices, from, to);
-    let steps = copied(rt, alloc, steps);
-    let after = read_prices(rt, alloc, world);
-    check_rise(rt, &before, &after, steps.is_some());
-    check_prices(rt, world);
-    if let Some(steps) = &steps {
-        check_path(rt, alloc, world, Terminals { from, to }, steps);
-    }
-    steps
-}
-
-/// Checks that a path avoids these arcs.
-fn check_barred(rt: &impl Abort, steps: &[Step], barred: &[ArcId]) {
-    for step in steps {
-        assert!(rt; !barred.contains(&step.arc));
-    }
-}
-
-/// Looks for a tight path, and checks it.
-fn tight(
-    rt: &impl Abort,
-    alloc: Global,
-    world: &mut World,
-    terminals: Terminals,
-    barred: &[ArcId],
-) -> Option<Vec<Step>>
-    requires limits { (world.old.prices.limits ≡ (8, 16)) × (world.old.scratch.limits ≡ (8, 16)) }
-    ensures limits { (world.new.prices.limits ≡ (8, 16)) × (world.new.scratch.limits ≡ (8, 16)) }
-{
-    let Terminals { from, to } = terminals;
-    check_nodes(rt, world, from, to);
-    let before = read_prices(rt, alloc, world);
-    let steps = tight_path(
-        &mut world.scratch,
-        &world.net,
-        &world.prices,
-        from,
-        to,
-        barred,
-    );
-    let steps = copied(rt, alloc, steps);
-    check_rise(rt, &before, &read_prices(rt, alloc, world), false);
-    if let Some(steps) = &steps {
-        check_path(rt, alloc, world, terminals, steps);
-        check_barred(rt, steps, barred);
-    }
-    steps
-}
-
-/// Checks that the steps go along the arcs of these numbers.
-fn expect_steps(rt: &impl Abort, world: &World, steps: Option<Vec<Step>>, wanted: &[(usize, Way)]) {
-    let steps = steps.expect(rt, "there is a path");
-    assert!(rt; steps.len() == wanted.len());
-    for (step, (number, way)) in steps.iter().zip(wanted) {
-        let arc = arc_at(rt, world, *number);
-        assert!(rt; *step == Step { arc, way: *way });
-    }
-}
-
-fn expect_two_steps(rt: &impl Abort, steps: Option<Vec<Step>>) {
-    assert!(rt; steps.map(|steps| steps.len()) == Some(2));
-}
-
-fn expect_no_path(rt: &impl Abort, steps: Option<Vec<Step>>) {
-    assert!(rt; steps.is_none());
-}
-
-/// Of the five prices that of the second node is greater by this than that of the first.
-fn expect_distance(rt: &impl Abort, alloc: Global, world: &World, ends: (usize, usize), wanted: u64)
+fn price_if_there(rt: &impl Abort, world: &World, number: usize) -> Option<u64>
     requires { world.now.prices.limits ≡ (8, 16) }
 {
-    assert!(rt; has_room(&world.net));
-    let prices = read_prices(rt, alloc, world);
-    assert!(rt; prices.len() == 5);
-    let from = prices.get(ends.0).copied().expect(rt, "the node is there");
-    let to = prices.get(ends.1).copied().expect(rt, "the node is there");
-    assert!(rt; to.checked_sub(from) == Some(wanted));
+    check(rt, has_room(&world.net), "the net has its room");
+    world.prices.get(&world.net, at(rt, &world.nodes, number))
 }
 
-/// From node 0 to node 3 two ways of cost 5, by node 1 and by node 2, and one of 6; node 4 stands alone.
-fn two_ways() -> [Link; 5] {
-    [
-        unit(0, 1, 2),
-        unit(1, 3, 3),
-        unit(0, 2, 3),
-        unit(2, 3, 2),
-        unit(0, 3, 6),
-    ]
-}
-
-#[test]
-fn ties_and_a_node_that_stands_alone(rt: HostRuntime) {
-    let alloc = rt.alloc();
-    let mut world = build(&rt, alloc, 5, &two_ways());
-    let (start, goal) = (node(&rt, &world, 0), node(&rt, &world, 3));
-    let onward = Terminals {
-        from: start,
-        to: goal,
-    };
-    let steps = raised(&rt, alloc, &mut world, start, goal);
-    expect_two_steps(&rt, steps);
-    expect_distance(&rt, alloc, &world, (0, 3), 5);
-    let (middle, alone) = (node(&rt, &world, 1), node(&rt, &world, 4));
-    let steps = raised(&rt, alloc, &mut world, middle, goal);
-    expect_steps(&rt, &world, steps, &[(1, Forward)]);
-    let steps = raised(&rt, alloc, &mut world, alone, goal);
-    expect_no_path(&rt, steps);
-    // Which of the two ways is given is left open, unless one is barred.
-    let (first, third) = (arc_at(&rt, &world, 0), arc_at(&rt, &world, 2));
-    let steps = tight(&rt, alloc, &mut world, onward, &[]);
-    expect_two_steps(&rt, steps);
-    let steps = tight(&rt, alloc, &mut world, onward, &[first]);
-    expect_steps(&rt, &world, steps, &[(2, Forward), (3, Forward)]);
-    let steps = tight(&rt, alloc, &mut world, onward, &[third]);
-    expect_steps(&rt, &world, steps, &[(0, Forward), (1, Forward)]);
-    // The direct way is open, but not tight.
-    let steps = tight(&rt, alloc, &mut world, onward, &[first, third]);
-    expect_no_path(&rt, steps);
-}
-
-/// Sends a unit along an arc.
-fn push(rt: &impl Abort, world: &mut World, arc: ArcId)
-    requires limits { (world.old.prices.limits ≡ (8, 16)) × (world.old.scratch.limits ≡ (8, 16)) }
-    ensures limits { (world.new.prices.limits ≡ (8, 16)) × (world.new.scratch.limits ≡ (8, 16)) }
-{
-    assert!(rt; world.net.push(arc, Forward));
-}
-
-#[test]
-fn a_path_that_was_used_leads_back(rt: HostRuntime) {
-    let alloc = rt.alloc();
-    let mut world = build(&rt, alloc, 5, &two_ways());
-    let (start, goal) = (node(&rt, &world, 0), node(&rt, &world, 3));
-    let onward = Terminals {
-        from: start,
-        to: goal,
-    };
-    let reverse = Terminals {
-        from: goal,
-        to: start,
-    };
-    let _ = raised(&rt, alloc, &mut world, start, goal);
-    let (first, second) = (arc_at(&rt, &world, 0), arc_at(&rt, &world, 1));
-    let back = tight(&rt, alloc, &mut world, reverse, &[]);
-    expect_no_path(&rt, back);
-    push(&rt, &mut world, first);
-    push(&rt, &mut world, second);
-    let steps = tight(&rt, alloc, &mut world, onward, &[]);
-    expect_steps(&rt, &world, steps, &[(2, Forward), (3, Forward)]);
-    let back = tight(&rt, alloc, &mut world, reverse, &[]);
-    expect_steps(&rt, &world, back, &[(1, Backward), (0, Backward)]);
-    let back = tight(&rt, alloc, &mut world, reverse, &[first]);
-    expect_no_path(&rt, back);
-}
-
-#[test]
-fn full_arcs_and_lower_bounds(rt: HostRuntime) {
-    let alloc = rt.alloc();
-    // The cheap arc is full, and may not carry less.
-    let links = [arc(0, 2, 1, 1, 1), arc(0, 1, 1, 2, 2), unit(1, 2, 2)];
-    let mut world = build(&rt, alloc, 3, &links);
-    let (start, goal) = (node(&rt, &world, 0), node(&rt, &world, 2));
-    let reverse = Terminals {
-        from: goal,
-        to: start,
-    };
-    let steps = raised(&rt, alloc, &mut world, start, goal);
-    expect_steps(&rt, &world, steps, &[(1, Forward), (2, Forward)]);
-    let back = tight(&rt, alloc, &mut world, reverse, &[]);
-    expect_no_path(&rt, back);
-}
-
-/// An arc that carries a unit to the start, and one from where it comes to the goal: the path, and their world.
-fn raised_against_a_unit(rt: &impl Abort, alloc: Global, low: u32) -> (Option<Vec<Step>>, World) {
-    let mut world = build(rt, alloc, 3, &[carrying(1, 0, low), unit(1, 2, 4)]);
-    let (start, goal) = (node(rt, &world, 0), node(rt, &world, 2));
-    let steps = raised(rt, alloc, &mut world, start, goal);
-    (steps, world)
-}
-
-#[test]
-fn an_arc_leads_back_unless_its_lower_bound_holds_its_unit(rt: HostRuntime) {
-    let (steps, world) = raised_against_a_unit(&rt, rt.alloc(), 0);
-    expect_steps(&rt, &world, steps, &[(0, Backward), (1, Forward)]);
-    let (steps, _world) = raised_against_a_unit(&rt, rt.alloc(), 1);
-    expect_no_path(&rt, steps);
-}
-
-fn expect_price(rt: &impl Abort, world: &World, node: NodeId, wanted: Option<u64>)
+fn distance(rt: &impl Abort, world: &World, from: usize, to: usize) -> Option<u64>
     requires { world.now.prices.limits ≡ (8, 16) }
 {
-    assert!(rt; has_room(&world.net));
-    assert!(rt; world.prices.get(&world.net, node) == wanted);
-}
-
-fn expect_prices_of_zero(rt: &impl Abort, alloc: Global, world: &World)
-    requires { world.now.prices.limits ≡ (8, 16) }
-{
-    assert!(rt; has_room(&world.net));
-    assert!(rt; read_prices(rt, alloc, world).as_slice() == [0; 5].as_slice());
-}
-
-fn expect_five_at_least(rt: &impl Abort, world: &World, node: NodeId)
-    requires { world.now.prices.limits ≡ (8, 16) }
-{
-    assert!(rt; has_room(&world.net));
-    assert!(rt; price_at(rt, world, node) >= 5);
-}
-
-/// Removes a node without arcs.
-fn remove(rt: &impl Abort, world: &mut World, node: NodeId)
-    ensures { world.new.prices ≡ world.old.prices }
-{
-    assert!(rt; world.net.remove_node(node) == Ok(()));
-}
-
-#[test]
-fn prices_are_read_and_cleared(rt: HostRuntime) {
-    let alloc = rt.alloc();
-    let mut world = build(&rt, alloc, 5, &two_ways());
-    let (start, goal) = (node(&rt, &world, 0), node(&rt, &world, 3));
-    expect_prices_of_zero(&rt, alloc, &world);
-    let _ = raised(&rt, alloc, &mut world, start, goal);
-    expect_five_at_least(&rt, &world, goal);
-    let alone = node(&rt, &world, 4);
-    remove(&rt, &mut world, alone);
-    expect_price(&rt, &world, alone, None);
-    world.prices.clear();
-    expect_price(&rt, &world, goal, Some(0));
+    let from = price_if_there(rt, world, from)?;
+    price_if_there(rt, world, to)?.checked_sub(from)
 }
 
 /// What a world's scratch has counted: calls of `begin`, searches, looks.
-fn expect_counts(rt: &impl Abort, world: &World, wanted: (u64, u64, u64)) {
+fn counts(world: &World) -> (u64, u64, u64) {
     let scratch = &world.scratch;
-    let counts = (scratch.begins(), scratch.searches(), scratch.looks());
-    assert!(rt; counts == wanted);
+    (scratch.begins(), scratch.searches(), scratch.looks())
 }
 
-#[test]
-fn searches_and_looks_are_counted(rt: HostRuntime) {
-    let alloc = rt.alloc();
-    let mut world = build(&rt, alloc, 5, &two_ways());
-    let (start, middle) = (node(&rt, &world, 0), node(&rt, &world, 1));
-    let (goal, alone) = (node(&rt, &world, 3), node(&rt, &world, 4));
-    let onward = Terminals {
-        from: start,
-        to: goal,
+fn read(rt: &impl Abort, world: &World, reading: &Reading)
+    requires { world.now.prices.limits ≡ (8, 16) }
+{
+    let holds = match reading {
+        Reading::Distance(from, to, wanted) => distance(rt, world, *from, *to) == Some(*wanted),
+        Reading::Price(number, wanted) => price_if_there(rt, world, *number) == *wanted,
+        Reading::Counts(begins, searches, looks) => counts(world) == (*begins, *searches, *looks),
+        Reading::Searches(wanted) => world.scratch.searches() == *wanted,
     };
-    expect_counts(&rt, &world, (0, 0, 0));
-    // Three arcs at the start, and two at each of the nodes in the middle; the goal's are not looked at.
-    let _ = raised(&rt, alloc, &mut world, start, goal);
-    expect_counts(&rt, &world, (0, 1, 7));
-    // The middle's two arcs; the goal is as near now.
-    let _ = raised(&rt, alloc, &mut world, middle, goal);
-    expect_counts(&rt, &world, (0, 2, 9));
-    let _ = raised(&rt, alloc, &mut world, alone, goal);
-    expect_counts(&rt, &world, (0, 3, 9));
-    // Three arcs at the goal, and two at each of the nodes in the middle, though the start was seen from the first.
-    let _ = tight(&rt, alloc, &mut world, onward, &[]);
-    expect_counts(&rt, &world, (0, 4, 16));
-    world.scratch.begin();
-    expect_counts(&rt, &world, (1, 0, 0));
-    // A barred arc is looked at, and leads to no node.
-    let first = arc_at(&rt, &world, 0);
-    let _ = tight(&rt, alloc, &mut world, onward, &[first]);
-    expect_counts(&rt, &world, (1, 1, 7));
-    world.scratch.begin();
-    expect_counts(&rt, &world, (2, 0, 0));
+    check(rt, holds, "what is read is what is expected");
 }
 
-/// The number of a node, and the path from it; no path for none.
-struct Onward {
-    from: usize,
-    path: Option<&'static [(usize, Way)]>,
+/// A path to the goal of a script, for which prices are raised, or a reading.
+enum Opening {
+    Raise(usize, Path),
+    Read(Reading),
 }
 
-/// Asks for the path from a node that the last search found, and checks it.
-fn expect_onward(rt: &impl Abort, alloc: Global, world: &mut World, onward: &Onward)
+/// Prices stay valid here, and none is above the goal's.
+fn open(rt: &impl Abort, world: &mut World, goal: NodeId, opening: &Opening)
+    requires limits { (world.old.prices.limits ≡ (8, 16)) × (world.old.scratch.limits ≡ (8, 16)) }
+    requires valid { AreValid (arcs_of world.old.net) (price_of world.old.prices) }
+    requires highest { IsHighest world.old.net (price_of world.old.prices) goal.id.place }
+    ensures limits { (world.new.prices.limits ≡ (8, 16)) × (world.new.scratch.limits ≡ (8, 16)) }
+    ensures valid { AreValid (arcs_of world.new.net) (price_of world.new.prices) }
+    ensures highest { IsHighest world.new.net (price_of world.new.prices) goal.id.place }
+{
+    match opening {
+        Opening::Raise(from, path) => {
+            let search = Search {
+                from: at(rt, &world.nodes, *from),
+                to: goal,
+                barred: &[],
+                path,
+            };
+            raised(rt, world, &search);
+        }
+        Opening::Read(reading) => read(rt, world, reading),
+    }
+}
+
+/// What is asked of a world after that, and what is expected. Nodes and arcs are given by their numbers.
+enum Ask {
+    /// A tight path from a node to another, along no barred arc.
+    Tight(usize, usize, &'static [usize], Path),
+    /// Tight paths to a node from all others, by one search.
+    TightToAll(usize),
+    /// The path from a node, of those.
+    PathFrom(usize, Path),
+    /// A unit goes along an arc.
+    Push(usize),
+    /// A node without arcs goes.
+    Remove(usize),
+    ClearPrices,
+    BeginCounts,
+    Read(Reading),
+}
+
+fn tight_between(
+    rt: &impl Abort,
+    world: &mut World,
+    ends: (usize, usize),
+    barred: &[usize],
+    path: &Path,
+)
     requires limits { (world.old.prices.limits ≡ (8, 16)) × (world.old.scratch.limits ≡ (8, 16)) }
     ensures limits { (world.new.prices.limits ≡ (8, 16)) × (world.new.scratch.limits ≡ (8, 16)) }
 {
-    let from = node(rt, world, onward.from);
-    assert!(rt; has_room(&world.net) && world.net.place(from).is_some());
+    let barred = all_at(rt, world.alloc, &world.arcs, barred);
+    let search = Search {
+        from: at(rt, &world.nodes, ends.0),
+        to: at(rt, &world.nodes, ends.1),
+        barred: &barred,
+        path,
+    };
+    tight(rt, world, &search);
+}
+
+/// The node of a number, which is there in a net with the room that a world's has.
+fn node_there(rt: &impl Abort, world: &World, number: usize) -> NodeId
+    ensures room { limits_of world.now.net ≡ (8, 16) }
+    ensures node { IsNode world.now.net result }
+{
+    let node = at(rt, &world.nodes, number);
+    check(rt, has_room(&world.net), "the net has its room");
+    check(rt, world.net.place(node).is_some(), "the node is there");
+    node
+}
+
+fn tight_to_all(rt: &impl Abort, world: &mut World, to: usize)
+    requires limits { (world.old.prices.limits ≡ (8, 16)) × (world.old.scratch.limits ≡ (8, 16)) }
+    ensures limits { (world.new.prices.limits ≡ (8, 16)) × (world.new.scratch.limits ≡ (8, 16)) }
+{
+    let to = node_there(rt, world, to);
+    tight_paths(&mut world.scratch, &world.net, &world.prices, to, None);
+}
+
+fn path_from(rt: &impl Abort, world: &mut World, from: usize, path: &Path)
+    requires limits { (world.old.prices.limits ≡ (8, 16)) × (world.old.scratch.limits ≡ (8, 16)) }
+    ensures limits { (world.new.prices.limits ≡ (8, 16)) × (world.new.scratch.limits ≡ (8, 16)) }
+{
+    let from = node_there(rt, world, from);
     let steps = world.scratch.path_from(&world.net, from);
-    let steps = copied(rt, alloc, steps);
-    match onward.path {
-        Some(path) => expect_steps(rt, world, steps, path),
-        None => expect_no_path(rt, steps),
+    let steps = copied(rt, world.alloc, steps);
+    expect_path(rt, &world.arcs, steps.as_deref(), path);
+}
+
+fn push(rt: &impl Abort, world: &mut World, arc: usize)
+    ensures { (world.new.prices ≡ world.old.prices) × (world.new.scratch ≡ world.old.scratch) }
+{
+    let arc = at(rt, &world.arcs, arc);
+    check(
+        rt,
+        world.net.push(arc, Forward),
+        "the arc has room for a unit",
+    );
+}
+
+fn remove(rt: &impl Abort, world: &mut World, node: usize)
+    ensures { (world.new.prices ≡ world.old.prices) × (world.new.scratch ≡ world.old.scratch) }
+{
+    let node = at(rt, &world.nodes, node);
+    check(
+        rt,
+        world.net.remove_node(node).is_ok(),
+        "the node has no arcs",
+    );
+}
+
+fn take(rt: &impl Abort, world: &mut World, ask: &Ask)
+    requires limits { (world.old.prices.limits ≡ (8, 16)) × (world.old.scratch.limits ≡ (8, 16)) }
+    ensures limits { (world.new.prices.limits ≡ (8, 16)) × (world.new.scratch.limits ≡ (8, 16)) }
+{
+    match ask {
+        Ask::Tight(from, to, barred, path) => tight_between(rt, world, (*from, *to), barred, path),
+        Ask::TightToAll(to) => tight_to_all(rt, world, *to),
+        Ask::PathFrom(from, path) => path_from(rt, world, *from, path),
+        Ask::Push(arc) => push(rt, world, *arc),
+        Ask::Remove(node) => remove(rt, world, *node),
+        Ask::ClearPrices => world.prices.clear(),
+        Ask::BeginCounts => world.scratch.begin(),
+        Ask::Read(reading) => read(rt, world, reading),
     }
 }
 
-/// One search finds the paths from all nodes to one.
-fn expect_all_onward(rt: &impl Abort, alloc: Global, links: &[Link], to: usize, paths: &[Onward]) {
-    let mut world = build(rt, alloc, 5, links);
-    let to = node(rt, &world, to);
-    assert!(rt; has_room(&world.net) && world.net.place(to).is_some());
-    tight_paths(&mut world.scratch, &world.net, &world.prices, to, None);
-    for onward in paths {
-        expect_onward(rt, alloc, &mut world, onward);
+/// The arcs of a world and the number of its nodes, a goal for which prices are raised, and what is asked then.
+struct Script {
+    links: &'static [Given],
+    nodes: u32,
+    goal: usize,
+    opening: &'static [Opening],
+    asks: &'static [Ask],
+}
+
+fn open_all(rt: &impl Abort, world: &mut World, goal: usize, opening: &[Opening])
+    requires limits { (world.old.prices.limits ≡ (8, 16)) × (world.old.scratch.limits ≡ (8, 16)) }
+    requires valid { AreValid (arcs_of world.old.net) (price_of world.old.prices) }
+    requires highest { (to : ℕ) → IsHighest world.old.net (price_of world.old.prices) to }
+    ensures limits { (world.new.prices.limits ≡ (8, 16)) × (world.new.scratch.limits ≡ (8, 16)) }
+{
+    let goal = at(rt, &world.nodes, goal);
+    for step in opening {
+        open(rt, world, goal, step);
     }
-    assert!(rt; world.scratch.searches() == 1);
+}
+
+fn ask_all(rt: &impl Abort, world: &mut World, asks: &[Ask])
+    requires limits { (world.old.prices.limits ≡ (8, 16)) × (world.old.scratch.limits ≡ (8, 16)) }
+{
+    for step in asks {
+        take(rt, world, step);
+    }
+}
+
+fn play(rt: &impl Abort, alloc: Global, script: &Script) {
+    let links = links_of(rt, alloc, script.links);
+    let mut world = build(rt, alloc, script.nodes, &links);
+    open_all(rt, &mut world, script.goal, script.opening);
+    ask_all(rt, &mut world, script.asks);
+}
+
+/// From node 0 to node 3 two ways of cost 5, by node 1 and by node 2, and one of 6; node 4 stands alone.
+const TWO_WAYS: [Given; 5] = [
+    Unit(0, 1, 2),
+    Unit(1, 3, 3),
+    Unit(0, 2, 3),
+    Unit(2, 3, 2),
+    Unit(0, 3, 6),
+];
+
+static TIES: Script = Script {
+    links: &TWO_WAYS,
+    nodes: 5,
+    goal: 3,
+    opening: &[
+        Opening::Raise(0, Path::OfTwoSteps),
+        Opening::Read(Reading::Distance(0, 3, 5)),
+        Opening::Raise(1, Path::Along(&[(1, Forward)])),
+        Opening::Raise(4, Path::Absent),
+    ],
+    asks: &[
+        // Which of the two ways is given is left open, unless one is barred.
+        Ask::Tight(0, 3, &[], Path::OfTwoSteps),
+        Ask::Tight(0, 3, &[0], Path::Along(&[(2, Forward), (3, Forward)])),
+        Ask::Tight(0, 3, &[2], Path::Along(&[(0, Forward), (1, Forward)])),
+        // The direct way is open, but not tight.
+        Ask::Tight(0, 3, &[0, 2], Path::Absent),
+    ],
+};
+
+#[test]
+fn ties_and_a_node_that_stands_alone(rt: HostRuntime) {
+    play(&rt, rt.alloc(), &TIES);
+}
+
+static USED: Script = Script {
+    links: &TWO_WAYS,
+    nodes: 5,
+    goal: 3,
+    opening: &[Opening::Raise(0, Path::Any)],
+    asks: &[
+        Ask::Tight(3, 0, &[], Path::Absent),
+        Ask::Push(0),
+        Ask::Push(1),
+        Ask::Tight(0, 3, &[], Path::Along(&[(2, Forward), (3, Forward)])),
+        Ask::Tight(3, 0, &[], Path::Along(&[(1, Backward), (0, Backward)])),
+        Ask::Tight(3, 0, &[0], Path::Absent),
+    ],
+};
+
+#[test]
+fn a_path_that_was_used_leads_back(rt: HostRuntime) {
+    play(&rt, rt.alloc(), &USED);
+}
+
+/// The cheap arc is full, and may not carry less.
+static FULL: Script = Script {
+    links: &[Arc(0, 2, 1, 1, 1), Arc(0, 1, 1, 2, 2), Unit(1, 2, 2)],
+    nodes: 3,
+    goal: 2,
+    opening: &[Opening::Raise(0, Path::Along(&[(1, Forward), (2, Forward)]))],
+    asks: &[Ask::Tight(2, 0, &[], Path::Absent)],
+};
+
+#[test]
+fn full_arcs_and_lower_bounds(rt: HostRuntime) {
+    play(&rt, rt.alloc(), &FULL);
+}
+
+/// An arc carries a unit to the start, and one leads from where it comes to the goal.
+static AGAINST_A_UNIT: Script = Script {
+    links: &[Carrying(1, 0, 0), Unit(1, 2, 4)],
+    nodes: 3,
+    goal: 2,
+    opening: &[Opening::Raise(0, Path::Along(&[(0, Backward), (1, Forward)]))],
+    asks: &[],
+};
+
+static AGAINST_A_UNIT_THAT_IS_HELD: Script = Script {
+    links: &[Carrying(1, 0, 1), Unit(1, 2, 4)],
+    nodes: 3,
+    goal: 2,
+    opening: &[Opening::Raise(0, Path::Absent)],
+    asks: &[],
+};
+
+#[test]
+fn an_arc_leads_back_unless_its_lower_bound_holds_its_unit(rt: HostRuntime) {
+    play(&rt, rt.alloc(), &AGAINST_A_UNIT);
+    play(&rt, rt.alloc(), &AGAINST_A_UNIT_THAT_IS_HELD);
+}
+
+static PRICES: Script = Script {
+    links: &TWO_WAYS,
+    nodes: 5,
+    goal: 3,
+    opening: &[
+        Opening::Read(Reading::Price(0, Some(0))),
+        Opening::Read(Reading::Price(1, Some(0))),
+        Opening::Read(Reading::Price(2, Some(0))),
+        Opening::Read(Reading::Price(3, Some(0))),
+        Opening::Read(Reading::Price(4, Some(0))),
+        Opening::Raise(0, Path::Any),
+        Opening::Read(Reading::Distance(0, 3, 5)),
+    ],
+    asks: &[
+        Ask::Remove(4),
+        Ask::Read(Reading::Price(4, None)),
+        Ask::ClearPrices,
+        Ask::Read(Reading::Price(3, Some(0))),
+    ],
+};
+
+#[test]
+fn prices_are_read_and_cleared(rt: HostRuntime) {
+    play(&rt, rt.alloc(), &PRICES);
+}
+
+static COUNTED: Script = Script {
+    links: &TWO_WAYS,
+    nodes: 5,
+    goal: 3,
+    opening: &[
+        Opening::Read(Reading::Counts(0, 0, 0)),
+        // Three arcs at the start, and two at each of the nodes in the middle; the goal's are not looked at.
+        Opening::Raise(0, Path::Any),
+        Opening::Read(Reading::Counts(0, 1, 7)),
+        // The middle's two arcs; the goal is as near now.
+        Opening::Raise(1, Path::Any),
+        Opening::Read(Reading::Counts(0, 2, 9)),
+        Opening::Raise(4, Path::Any),
+        Opening::Read(Reading::Counts(0, 3, 9)),
+    ],
+    asks: &[
+        // Three arcs at the goal, and two at each of the nodes in the middle, though the start was seen from the first.
+        Ask::Tight(0, 3, &[], Path::Any),
+        Ask::Read(Reading::Counts(0, 4, 16)),
+        Ask::BeginCounts,
+        Ask::Read(Reading::Counts(1, 0, 0)),
+        // A barred arc is looked at, and leads to no node.
+        Ask::Tight(0, 3, &[0], Path::Any),
+        Ask::Read(Reading::Counts(1, 1, 7)),
+        Ask::BeginCounts,
+        Ask::Read(Reading::Counts(2, 0, 0)),
+    ],
+};
+
+#[test]
+fn searches_and_looks_are_counted(rt: HostRuntime) {
+    play(&rt, rt.alloc(), &COUNTED);
 }
 
 /// To the last of three nodes on a cycle, which a way leaves for two more on another.
-static ROUND_A_CYCLE: [Onward; 4] = [
-    Onward {
-        from: 2,
-        path: Some(&[]),
-    },
-    Onward {
-        from: 0,
-        path: Some(&[(0, Forward), (1, Forward)]),
-    },
-    Onward {
-        from: 1,
-        path: Some(&[(1, Forward)]),
-    },
-    Onward {
-        from: 4,
-        path: None,
-    },
-];
+static ROUND_A_CYCLE: Script = Script {
+    links: &[
+        Unit(0, 1, 0),
+        Unit(1, 2, 0),
+        Unit(2, 0, 0),
+        Unit(2, 3, 0),
+        Unit(3, 4, 0),
+        Unit(4, 3, 0),
+    ],
+    nodes: 5,
+    goal: 2,
+    opening: &[],
+    asks: &[
+        Ask::TightToAll(2),
+        Ask::PathFrom(2, Path::Along(&[])),
+        Ask::PathFrom(0, Path::Along(&[(0, Forward), (1, Forward)])),
+        Ask::PathFrom(1, Path::Along(&[(1, Forward)])),
+        Ask::PathFrom(4, Path::Absent),
+        Ask::Read(Reading::Searches(1)),
+    ],
+};
 
 /// To the last of three nodes: from the first against a unit and on, and by no arc that is held or dear.
-static AGAINST_A_UNIT: [Onward; 3] = [
-    Onward {
-        from: 0,
-        path: Some(&[(0, Backward), (1, Forward)]),
-    },
-    Onward {
-        from: 1,
-        path: Some(&[(1, Forward)]),
-    },
-    Onward {
-        from: 3,
-        path: None,
-    },
-];
+static BY_NO_ARC_THAT_IS_HELD: Script = Script {
+    links: &[
+        Carrying(1, 0, 0),
+        Unit(1, 2, 0),
+        Carrying(3, 2, 1),
+        Unit(3, 2, 4),
+    ],
+    nodes: 5,
+    goal: 2,
+    opening: &[],
+    asks: &[
+        Ask::TightToAll(2),
+        Ask::PathFrom(0, Path::Along(&[(0, Backward), (1, Forward)])),
+        Ask::PathFrom(1, Path::Along(&[(1, Forward)])),
+        Ask::PathFrom(3, Path::Absent),
+        Ask::Read(Reading::Searches(1)),
+    ],
+};
 
 #[test]
 fn paths_from_all_nodes(rt: HostRuntime) {
-    let cycles = [
-        unit(0, 1, 0),
-        unit(1, 2, 0),
-        unit(2, 0, 0),
-        unit(2, 3, 0),
-        unit(3, 4, 0),
-        unit(4, 3, 0),
-    ];
-    expect_all_onward(&rt, rt.alloc(), &cycles, 2, &ROUND_A_CYCLE);
-    let units = [
-        carrying(1, 0, 0),
-        unit(1, 2, 0),
-        carrying(3, 2, 1),
-        unit(3, 2, 4),
-    ];
-    expect_all_onward(&rt, rt.alloc(), &units, 2, &AGAINST_A_UNIT);
+    play(&rt, rt.alloc(), &ROUND_A_CYCLE);
+    play(&rt, rt.alloc(), &BY_NO_ARC_THAT_IS_HELD);
 }
 
 /// An arc between two of five nodes, which may have no room.
@@ -493,15 +438,13 @@ fn random_link(random: &mut Random) -> Link {
     arc(tail as usize, head as usize, 0, cap, cost)
 }
 
-/// Shortens distances once by each arc with room.
-fn shorten(links: &[Link], distances: &mut [u64; 8]) {
-    for link in links {
-        let through = distances.get(link.tail).copied().unwrap_or(u64::MAX);
-        let through = through.saturating_add(u64::from(link.cost));
-        if let Some(distance) = distances.get_mut(link.head) {
-            if link.cap > 0 {
-                *distance = (*distance).min(through);
-            }
+/// Shortens the distance of an arc's head, where it has room.
+fn shorten(link: &Link, distances: &mut [u64; 8]) {
+    let through = distances.get(link.tail).copied().unwrap_or(u64::MAX);
+    let through = through.saturating_add(u64::from(link.cost));
+    if let Some(distance) = distances.get_mut(link.head) {
+        if link.cap > 0 {
+            *distance = (*distance).min(through);
         }
     }
 }
@@ -511,26 +454,38 @@ fn distance_by_rounds(links: &[Link; 9]) -> u64 {
     let mut distances = [u64::MAX; 8];
     distances[0] = 0;
     for _ in 0..5 {
-        shorten(links, &mut distances);
+        for link in links {
+            shorten(link, &mut distances);
+        }
     }
     distances[4]
 }
 
 /// Whether node 4 is reached from node 0. Where it is, the prices tell the same distance.
 fn reaches(rt: &impl Abort, alloc: Global, links: &[Link; 9]) -> bool {
-    let distance = distance_by_rounds(links);
+    let wanted = distance_by_rounds(links);
     let mut world = build(rt, alloc, 5, links);
-    let (start, goal) = (node(rt, &world, 0), node(rt, &world, 4));
-    let reached = raised(rt, alloc, &mut world, start, goal).is_some();
-    assert!(rt; reached == (distance < u64::MAX));
+    let search = Search {
+        from: at(rt, &world.nodes, 0),
+        to: at(rt, &world.nodes, 4),
+        barred: &[],
+        path: &Path::Any,
+    };
+    let reached = raised(rt, &mut world, &search);
+    check(
+        rt,
+        reached == (wanted < u64::MAX),
+        "there is a path where rounds find one",
+    );
     if reached {
-        expect_distance(rt, alloc, &world, (0, 4), distance);
+        let distance = distance(rt, &world, 0, 4);
+        check(rt, distance == Some(wanted), "the prices tell the distance");
     }
     reached
 }
 
 fn random_links(random: &mut Random) -> [Link; 9] {
-    let mut links = [unit(0, 1, 0); 9];
+    let mut links = [arc(0, 1, 0, 1, 0); 9];
     for link in links.iter_mut() {
         *link = random_link(random);
     }

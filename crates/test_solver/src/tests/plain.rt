@@ -3,18 +3,23 @@
 ghost use Rattle.std.specs.Prelude.{◌≡◌};
 ghost use Rattle.firm_paths.specs.NetArcs.{limits_of};
 
-use super::canon::{add_job, add_machine, add_task, all_wait, name, one_to, opened, remove_task};
+use super::books::{
+    Workspace, add_job, add_machine, add_task, all_wait, names, one_to, opened, random_limits,
+    remove_machine, remove_task, settle,
+};
+use super::canon::cost_if_legal;
+use super::check;
 use super::flow::{are_distinct, solve_once};
-use super::paths::{check_nodes, copied};
 use super::random::Random;
-use super::worlds::{Link, World, add_arcs, add_nodes, arc, build, has_room, node};
+use super::searches::{check_ends, copied, row_of};
+use super::worlds::{Link, World, add_arcs, add_nodes, arc, at, build, has_room, price_at};
 use firm_canon::first_by_search;
 use firm_flow::solve;
 use firm_graph::Graph;
 use firm_net::Way::Forward;
-use firm_net::{ArcId, Net, NodeId};
+use firm_net::{ArcId, ArcRow, Net, NodeId};
 use firm_paths::{Prices, Scratch, Step, tight_path, tight_paths};
-use firm_rules::{Choice, Limits, Name, Preferred, Rows, cost_of, legal};
+use firm_rules::{Choice, Name, Preferred, Rows};
 use std::alloc::Global;
 use std::process::Abort;
 
@@ -31,15 +36,33 @@ fn is_found(
     ensures limits { scratch.new.limits ≡ scratch.old.limits }
 {
     let (from, to) = ends;
-    assert!(rt; from != to && net.place(from).is_some() && net.place(to).is_some());
+    check_ends(rt, net, from, to);
     let plain = tight_path(scratch, net, prices, from, to, &[]).is_some();
     let searches = scratch.searches().saturating_add(1);
     tight_paths(scratch, net, prices, to, None);
-    assert!(rt; scratch.searches() == searches);
-    assert!(rt; scratch.path_from(net, from).is_some() == plain);
-    assert!(rt; scratch.searches() == searches);
+    check(
+        rt,
+        scratch.searches() == searches,
+        "all paths take one search",
+    );
+    let of_all = scratch.path_from(net, from).is_some();
+    check(
+        rt,
+        scratch.searches() == searches,
+        "a path that was found takes no search",
+    );
     tight_paths(scratch, net, prices, to, Some(from));
-    assert!(rt; scratch.path_from(net, from).is_some() == plain);
+    let first = scratch.path_from(net, from).is_some();
+    check(
+        rt,
+        of_all == plain,
+        "a search for all paths finds one where there is one",
+    );
+    check(
+        rt,
+        first == plain,
+        "a search for the first path finds one where there is one",
+    );
     plain
 }
 
@@ -74,53 +97,67 @@ fn count_joined(rt: &impl Abort, scratch: &mut Scratch, net: &Net, prices: &Pric
     joined
 }
 
-/// Sends a unit along an idle tight arc and back from its head to its tail, where a way back is left.
-fn turn(rt: &impl Abort, alloc: Global, world: &mut World, arc: ArcId) -> bool
+/// Whether the arc is tight, and idle with room for a unit.
+fn is_idle(rt: &impl Abort, world: &World, row: ArcRow) -> bool
+    requires { world.now.prices.limits ≡ limits_of world.now.net }
+{
+    let from = price_at(rt, world, row.tail());
+    let to = price_at(rt, world, row.head());
+    let is_tight = from.saturating_add(u64::from(row.cost())) == to;
+    is_tight && row.flow() == 0 && row.cap() > 0
+}
+
+/// A tight path, if there is one.
+fn way_back(rt: &impl Abort, world: &mut World, from: NodeId, to: NodeId) -> Option<Vec<Step>>
     requires limits { (world.old.prices.limits ≡ (8, 16)) × (world.old.scratch.limits ≡ (8, 16)) }
     ensures limits { (world.new.prices.limits ≡ (8, 16)) × (world.new.scratch.limits ≡ (8, 16)) }
 {
-    assert!(rt; has_room(&world.net));
-    let row = world.net.arc(arc).expect(rt, "the arc is there");
-    let (tail, head) = (row.tail(), row.head());
-    let from = world.prices.get(&world.net, tail).expect(rt, "a price");
-    let to = world.prices.get(&world.net, head).expect(rt, "a price");
-    let is_tight = from.saturating_add(u64::from(row.cost())) == to;
-    if !is_tight || row.flow() > 0 || row.cap() == 0 {
-        return false;
-    }
-    check_nodes(rt, world, head, tail);
+    check(rt, has_room(&world.net), "the net has its room");
+    check_ends(rt, &world.net, from, to);
     tight_paths(
         &mut world.scratch,
         &world.net,
         &world.prices,
-        tail,
-        Some(head),
+        to,
+        Some(from),
     );
-    let steps = world.scratch.path_from(&world.net, head);
-    let Some(steps) = copied(rt, alloc, steps) else {
+    let steps = world.scratch.path_from(&world.net, from);
+    copied(rt, world.alloc, steps)
+}
+
+fn push_round(rt: &impl Abort, net: &mut Net, arc: ArcId, steps: &[Step]) {
+    check(rt, net.push(arc, Forward), "the arc has room");
+    for step in steps {
+        check(rt, net.push(step.arc, step.way), "a step has room");
+    }
+}
+
+/// Sends a unit along an idle tight arc and back from its head to its tail, where a way back is left.
+fn turn(rt: &impl Abort, world: &mut World, arc: ArcId) -> bool
+    requires limits { (world.old.prices.limits ≡ (8, 16)) × (world.old.scratch.limits ≡ (8, 16)) }
+    ensures limits { (world.new.prices.limits ≡ (8, 16)) × (world.new.scratch.limits ≡ (8, 16)) }
+{
+    check(rt, has_room(&world.net), "the net has its room");
+    let row = row_of(rt, &world.net, arc);
+    if !is_idle(rt, world, row) {
+        return false;
+    }
+    let Some(steps) = way_back(rt, world, row.head(), row.tail()) else {
         return false;
     };
     push_round(rt, &mut world.net, arc, &steps);
     true
 }
 
-fn push_round(rt: &impl Abort, net: &mut Net, arc: ArcId, steps: &[Step]) {
-    assert!(rt; net.push(arc, Forward));
-    for step in steps {
-        assert!(rt; net.push(step.arc, step.way));
-    }
-}
-
 /// Sends a unit round a cycle by each arc, and counts the cycles.
-fn turn_all(rt: &impl Abort, alloc: Global, world: &mut World) -> u64
+fn turn_all(rt: &impl Abort, world: &mut World) -> u64
     requires limits { (world.old.prices.limits ≡ (8, 16)) × (world.old.scratch.limits ≡ (8, 16)) }
     ensures limits { (world.new.prices.limits ≡ (8, 16)) × (world.new.scratch.limits ≡ (8, 16)) }
 {
     let mut turned = 0_u64;
     for number in 0..world.arcs.len() {
-        if let Some(arc) = world.arcs.get(number).copied() {
-            turned = turned.saturating_add(u64::from(turn(rt, alloc, world, arc)));
-        }
+        let arc = at(rt, &world.arcs, number);
+        turned = turned.saturating_add(u64::from(turn(rt, world, arc)));
     }
     turned
 }
@@ -130,24 +167,24 @@ fn count_joined_in(rt: &impl Abort, world: &mut World) -> u64
     requires limits { (world.old.prices.limits ≡ (8, 16)) × (world.old.scratch.limits ≡ (8, 16)) }
     ensures limits { (world.new.prices.limits ≡ (8, 16)) × (world.new.scratch.limits ≡ (8, 16)) }
 {
-    assert!(rt; has_room(&world.net));
+    check(rt, has_room(&world.net), "the net has its room");
     count_joined(rt, &mut world.scratch, &world.net, &world.prices)
 }
 
 /// Compares the searches before and after units go round cycles, which joins no nodes. Gives the number of cycles, and
 /// of arcs whose ends are joined in the end.
-fn compare_world(rt: &impl Abort, alloc: Global, world: &mut World) -> (u64, u64)
+fn compare_world(rt: &impl Abort, world: &mut World) -> (u64, u64)
     requires limits { (world.old.prices.limits ≡ (8, 16)) × (world.old.scratch.limits ≡ (8, 16)) }
 {
-    let sources = [node(rt, world, 0), node(rt, world, 1)];
-    let sink = node(rt, world, 5);
+    let sources = [at(rt, &world.nodes, 0), at(rt, &world.nodes, 1)];
+    let sink = at(rt, &world.nodes, 5);
     if solve_once(rt, world, &sources, sink).is_err() {
         return (0, 0);
     }
     let before = count_joined_in(rt, world);
-    let turned = turn_all(rt, alloc, world);
+    let turned = turn_all(rt, world);
     let after = count_joined_in(rt, world);
-    assert!(rt; after <= before);
+    check(rt, after <= before, "cycles join no nodes");
     (turned, after)
 }
 
@@ -171,7 +208,7 @@ fn random_networks_beside_searches_one_by_one(rt: HostRuntime) {
     for _ in 0..200 {
         let links = random_links(&mut random);
         let mut world = build(&rt, rt.alloc(), 6, &links);
-        let (cycles, arcs) = compare_world(&rt, rt.alloc(), &mut world);
+        let (cycles, arcs) = compare_world(&rt, &mut world);
         turned = turned.saturating_add(cycles);
         joined = joined.saturating_add(arcs);
     }
@@ -181,17 +218,24 @@ fn random_networks_beside_searches_one_by_one(rt: HostRuntime) {
     );
 }
 
+/// Where a task runs, by the machine's place.
+fn own_place(rows: &Rows, task: usize) -> Option<usize> {
+    let name = rows.task_at(task)?.machine?;
+    rows.machine_place(name)
+}
+
+fn choice_on(rt: &impl Abort, place: usize) -> Choice {
+    Choice::On(u32::try_from(place).expect(rt, "few machines"))
+}
+
 /// The choices of a task in their order, the own machine twice.
 fn choices_of(rt: &impl Abort, alloc: Global, rows: &Rows, task: usize) -> Vec<Choice> {
     let mut choices = Vec::new(alloc);
-    let own = rows.task_at(task).and_then(|row| row.machine);
-    if let Some(place) = own.and_then(|name| rows.machine_place(name)) {
-        let place = u32::try_from(place).expect(rt, "few machines");
-        choices.push(Choice::On(place)).expect(rt, "memory");
+    if let Some(place) = own_place(rows, task) {
+        choices.push(choice_on(rt, place)).expect(rt, "memory");
     }
     for place in 0..rows.machine_count() {
-        let place = u32::try_from(place).expect(rt, "few machines");
-        choices.push(Choice::On(place)).expect(rt, "memory");
+        choices.push(choice_on(rt, place)).expect(rt, "memory");
     }
     choices.push(Choice::Wait).expect(rt, "memory");
     choices
@@ -203,8 +247,7 @@ fn cost_alone(rt: &impl Abort, alloc: Global, rows: &Rows, task: usize, choice: 
     if let Some(own) = placement.get_mut(task) {
         *own = choice;
     }
-    assert!(rt; legal(rows, &placement));
-    cost_of(rows, &placement)
+    cost_if_legal(rt, rows, &placement)
 }
 
 /// Where an arc for a choice leads: node 0 is the sink, and the machines' follow.
@@ -220,20 +263,25 @@ fn node_of(rows: &Rows, task: usize) -> usize {
     rows.machine_count().saturating_add(1).saturating_add(task)
 }
 
+/// Adds an arc of one unit.
+fn add_link(rt: &impl Abort, links: &mut Vec<Link>, tail: usize, head: usize, cost: i64) {
+    let cost = u32::try_from(cost).expect(rt, "small costs");
+    links.push(arc(tail, head, 0, 1, cost)).expect(rt, "memory");
+}
+
 /// Adds the arcs from a machine to the sink, one for each slot.
-fn add_slots(rt: &impl Abort, links: &mut Vec<Link>, tail: usize, slots: u32, spread: u64) {
+fn add_slots(rt: &impl Abort, links: &mut Vec<Link>, tail: usize, slots: u32, spread: i64) {
     for slot in 0..slots {
-        let cost = spread.saturating_mul(u64::from(slot));
-        let cost = u32::try_from(cost).expect(rt, "small costs");
-        let link = arc(tail, 0, 0, 1, cost);
-        links.push(link).expect(rt, "memory");
+        let cost = spread.saturating_mul(i64::from(slot));
+        add_link(rt, links, tail, 0, cost);
     }
 }
 
 fn add_all_slots(rt: &impl Abort, rows: &Rows, links: &mut Vec<Link>) {
-    let spread = rows.limits().spread();
-    for (place, machine) in rows.machines().enumerate() {
-        let tail = place.saturating_add(1);
+    let spread = rows.limits().spread() as i64;
+    let mut tail = 0_usize;
+    for machine in rows.machines() {
+        tail = tail.saturating_add(1);
         add_slots(rt, links, tail, machine.slots.get(), spread);
     }
 }
@@ -242,9 +290,7 @@ fn add_all_slots(rt: &impl Abort, rows: &Rows, links: &mut Vec<Link>) {
 fn add_choices(rt: &impl Abort, alloc: Global, rows: &Rows, links: &mut Vec<Link>, task: usize) {
     for choice in &choices_of(rt, alloc, rows, task) {
         let cost = cost_alone(rt, alloc, rows, task, *choice);
-        let cost = u32::try_from(cost).expect(rt, "small costs");
-        let link = arc(node_of(rows, task), head_of(*choice), 0, 1, cost);
-        links.push(link).expect(rt, "memory");
+        add_link(rt, links, node_of(rows, task), head_of(*choice), cost);
     }
 }
 
@@ -256,6 +302,19 @@ fn links_of(rt: &impl Abort, alloc: Global, rows: &Rows) -> Vec<Link> {
         add_choices(rt, alloc, rows, &mut links, task);
     }
     links
+}
+
+/// What a flow that starts from nothing costs.
+fn cost_from_nothing(
+    rt: &impl Abort,
+    alloc: Global,
+    net: &mut Net,
+    sources: &[NodeId],
+    sink: NodeId,
+) -> Option<i64> {
+    check(rt, are_distinct(net, sources, sink), "the nodes differ");
+    let mut space = Workspace::new(rt, alloc, net);
+    solve(net, &mut space.prices, &mut space.scratch, sources, sink).ok()
 }
 
 /// What a flow that starts from nothing costs from all nodes behind those of the machines to node 0.
@@ -270,13 +329,10 @@ fn least_cost(
     let count = u32::try_from(count).expect(rt, "few nodes");
     let mut net = Net::new(alloc, 16, 64).expect(rt, "memory");
     let nodes = add_nodes(rt, alloc, &mut net, count);
-    let _ = add_arcs(rt, alloc, &mut net, &nodes, links);
-    let mut prices = Prices::new(alloc, &net).expect(rt, "memory");
-    let mut scratch = Scratch::new(alloc, &net).expect(rt, "memory");
-    let sink = nodes.first().copied().expect(rt, "a sink");
+    add_arcs(rt, alloc, &mut net, &nodes, links);
+    let sink = at(rt, &nodes, 0);
     let sources = nodes.get(machines.saturating_add(1)..).expect(rt, "tasks");
-    assert!(rt; are_distinct(&net, sources, sink));
-    solve(&mut net, &mut prices, &mut scratch, sources, sink).ok()
+    cost_from_nothing(rt, alloc, &mut net, sources, sink)
 }
 
 /// Whether an arc is that of another choice than the one that its task has.
@@ -285,8 +341,10 @@ fn is_fixed(rows: &Rows, chosen: &[Choice], link: &Link) -> bool {
     if link.tail < first {
         return false;
     }
-    let choice = chosen.get(link.tail.saturating_sub(first));
-    choice.is_some_and(|choice| head_of(*choice) != link.head)
+    match chosen.get(link.tail.saturating_sub(first)) {
+        Some(choice) => head_of(*choice) != link.head,
+        None => false,
+    }
 }
 
 /// The least cost once the first tasks have these choices.
@@ -340,34 +398,53 @@ fn plain_placement(rt: &impl Abort, alloc: Global, rows: &Rows) -> Vec<Choice> {
 /// Checks what a placement costs. The flow pays for each task what all others cost that wait, as well.
 fn check_cost(rt: &impl Abort, alloc: Global, rows: &Rows, links: &[Link], placement: &[Choice]) {
     let waiting = all_wait(rt, alloc, rows);
-    assert!(rt; legal(rows, &waiting) && legal(rows, placement));
-    let others = rows.task_count().saturating_sub(1) as i64;
-    let waits = cost_of(rows, &waiting).saturating_mul(others);
-    let cost = cost_of(rows, placement).saturating_add(waits);
-    assert!(rt; least_with(rt, alloc, rows, links, &[]) == Some(cost));
+    let others = i64::try_from(rows.task_count().saturating_sub(1)).expect(rt, "few tasks");
+    let waits = cost_if_legal(rt, rows, &waiting).saturating_mul(others);
+    let cost = cost_if_legal(rt, rows, placement).saturating_add(waits);
+    let least = least_with(rt, alloc, rows, links, &[]);
+    check(rt, least == Some(cost), "a flow from nothing costs as much");
 }
 
 /// Compares the searches in a least flow of a book, and in the one that its choice leaves. The choice is this
 /// placement. Gives the number of arcs whose ends are joined in the first.
-fn compare_book(rt: &impl Abort, alloc: Global, graph: &mut Graph, placement: &[Choice]) -> u64 {
-    let mut prices = Prices::new(alloc, graph.net()).expect(rt, "memory");
-    let mut scratch = Scratch::new(alloc, graph.net()).expect(rt, "memory");
-    assert!(rt; legal(graph.rows(), placement));
-    let cost = cost_of(graph.rows(), placement);
-    assert!(rt; graph.least(&mut prices, &mut scratch) == cost);
-    let joined = count_joined(rt, &mut scratch, graph.net(), &prices);
-    let first = first_by_search(alloc, graph, &mut prices, &mut scratch).expect(rt, "memory");
-    assert!(rt; first.as_slice() == placement);
-    count_joined(rt, &mut scratch, graph.net(), &prices);
+fn compare_in(
+    rt: &impl Abort,
+    alloc: Global,
+    graph: &mut Graph,
+    space: &mut Workspace,
+    placement: &[Choice],
+) -> u64
+    requires made_for { (space.old.prices.limits ≡ limits_of graph.old.net)
+        × (space.old.scratch.limits ≡ limits_of graph.old.net) }
+{
+    let (prices, scratch) = (&mut space.prices, &mut space.scratch);
+    let cost = cost_if_legal(rt, graph.rows(), placement);
+    check(
+        rt,
+        graph.least(prices, scratch) == cost,
+        "the least flow costs as much",
+    );
+    let joined = count_joined(rt, scratch, graph.net(), prices);
+    let first = first_by_search(alloc, graph, prices, scratch).expect(rt, "memory");
+    check(
+        rt,
+        first.as_slice() == placement,
+        "the choice is the placement",
+    );
+    count_joined(rt, scratch, graph.net(), prices);
     joined
+}
+
+fn compare_book(rt: &impl Abort, alloc: Global, graph: &mut Graph, placement: &[Choice]) -> u64 {
+    let mut space = Workspace::new(rt, alloc, graph.net());
+    compare_in(rt, alloc, graph, &mut space, placement)
 }
 
 /// The round of a book, which becomes its own.
 fn expect_round(rt: &impl Abort, alloc: Global, graph: &mut Graph) -> u64 {
     let placement = plain_placement(rt, alloc, graph.rows());
     let joined = compare_book(rt, alloc, graph, &placement);
-    assert!(rt; legal(graph.rows(), &placement));
-    graph.settle(&placement);
+    settle(rt, graph, &placement);
     joined
 }
 
@@ -389,9 +466,8 @@ fn add_machines(
     names: &[Name; 6],
     random: &mut Random,
 ) {
-    let count = 1 + random.below(4) as usize;
-    for name in names.iter().take(count) {
-        add_machine(rt, alloc, graph, *name, one_to(3, random));
+    for number in 0..1 + random.below(4) as usize {
+        add_machine(rt, alloc, graph, names[number], one_to(3, random));
     }
 }
 
@@ -410,17 +486,7 @@ fn add_tasks(rt: &impl Abort, graph: &mut Graph, names: &[Name; 6], random: &mut
 /// Removes a task and at times a machine.
 fn remove_some(graph: &mut Graph, names: &[Name; 6], random: &mut Random) {
     remove_task(graph, names[random.below(6) as usize]);
-    let machine = names[random.below(6) as usize];
-    if graph.rows().has_machine(machine) {
-        graph.drop_machine(machine);
-    }
-}
-
-fn random_limits(rt: &impl Abort, random: &mut Random) -> Limits {
-    let spread = u64::from(random.below(4));
-    let churn = u64::from(random.below(3));
-    let remote = u64::from(random.below(4));
-    Limits::check(14, 70, 100, spread, churn, remote).expect(rt, "limits")
+    remove_machine(graph, names[random.below(6) as usize]);
 }
 
 /// Three rounds of a book, with changes before each.
@@ -441,21 +507,20 @@ fn compare_rounds(
     joined
 }
 
+/// Three rounds of a new book.
+fn compare_new(rt: &impl Abort, alloc: Global, names: &[Name; 6], random: &mut Random) -> u64 {
+    let limits = random_limits(rt, random, (14, 70, 100));
+    let mut graph = opened(rt, alloc, limits);
+    compare_rounds(rt, alloc, &mut graph, names, random)
+}
+
 #[test]
 fn random_books_beside_flows_and_searches_that_start_from_nothing(rt: HostRuntime) {
     let mut random = Random::new(2_026);
-    let names = [
-        name(&rt, b"a"),
-        name(&rt, b"b"),
-        name(&rt, b"c"),
-        name(&rt, b"d"),
-        name(&rt, b"e"),
-        name(&rt, b"f"),
-    ];
+    let names = names(&rt);
     let mut joined = 0_u64;
     for _ in 0..60 {
-        let mut graph = opened(&rt, rt.alloc(), random_limits(&rt, &mut random));
-        let arcs = compare_rounds(&rt, rt.alloc(), &mut graph, &names, &mut random);
+        let arcs = compare_new(&rt, rt.alloc(), &names, &mut random);
         joined = joined.saturating_add(arcs);
     }
     assert!(rt; joined > 500, "{joined} arcs");

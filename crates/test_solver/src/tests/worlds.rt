@@ -5,6 +5,7 @@ ghost use Rattle.firm_paths.specs.NetArcs.{arcs_of, limits_of};
 ghost use Rattle.firm_paths.specs.Paths.{IsHighest};
 ghost use Rattle.firm_paths.specs.PriceTable.{price_of};
 
+use super::check;
 use firm_net::{ArcId, ArcRow, Net, NodeId};
 use firm_paths::{Prices, Scratch};
 use std::alloc::Global;
@@ -21,6 +22,16 @@ pub struct Link {
     pub flow: u32,
 }
 
+/// An arc as a table has it, the numbers of its tail and its head first.
+pub enum Given {
+    /// The lower bound, the capacity and the cost of an arc that carries its lower bound.
+    Arc(usize, usize, u32, u32, u32),
+    /// The cost of an arc of one unit that carries nothing.
+    Unit(usize, usize, u32),
+    /// The lower bound of an arc that carries one unit and costs nothing.
+    Carrying(usize, usize, u32),
+}
+
 /// An arc that carries its lower bound.
 pub fn arc(tail: usize, head: usize, low: u32, cap: u32, cost: u32) -> Link {
     Link {
@@ -33,26 +44,30 @@ pub fn arc(tail: usize, head: usize, low: u32, cap: u32, cost: u32) -> Link {
     }
 }
 
-/// An arc of one unit that carries nothing.
-pub fn unit(tail: usize, head: usize, cost: u32) -> Link {
-    arc(tail, head, 0, 1, cost)
-}
-
-/// An arc of a world that carries one unit and costs nothing.
-pub fn carrying(tail: usize, head: usize, low: u32) -> Link {
-    Link {
-        tail,
-        head,
-        low,
-        cap: 1,
-        cost: 0,
-        flow: 1,
+fn link_of(given: &Given) -> Link {
+    match given {
+        Given::Arc(tail, head, low, cap, cost) => arc(*tail, *head, *low, *cap, *cost),
+        Given::Unit(tail, head, cost) => arc(*tail, *head, 0, 1, *cost),
+        Given::Carrying(tail, head, low) => Link {
+            flow: 1,
+            ..arc(*tail, *head, *low, 1, 0)
+        },
     }
 }
 
-/// A net with room for 8 nodes and 16 arcs, its prices, and the room for searches in it.
+pub fn links_of(rt: &impl Abort, alloc: Global, table: &[Given]) -> Vec<Link> {
+    let mut links = Vec::new(alloc);
+    for given in table {
+        links.push(link_of(given)).expect(rt, "memory");
+    }
+    links
+}
+
+/// A net with room for 8 nodes and 16 arcs, its prices, and the room for searches in it. What is read of it takes its
+/// memory from the allocator.
 #[derive(Drop)]
 pub struct World {
+    pub alloc: Global,
     pub net: Net,
     pub prices: Prices,
     pub scratch: Scratch,
@@ -74,15 +89,37 @@ fn is_free(row: ArcRow) -> bool
     row.flow() <= row.low() || row.cost() == 0
 }
 
+/// What stands at that place of a list.
+pub fn at<T: Copy>(rt: &impl Abort, list: &[T], number: usize) -> T {
+    list.get(number)
+        .copied()
+        .expect(rt, "the number is one of the list")
+}
+
+/// What stands at those places of a list.
+pub fn all_at<T: Copy>(rt: &impl Abort, alloc: Global, list: &[T], numbers: &[usize]) -> Vec<T> {
+    let mut found = Vec::new(alloc);
+    for number in numbers {
+        found.push(at(rt, list, *number)).expect(rt, "memory");
+    }
+    found
+}
+
+fn add_node(rt: &impl Abort, net: &mut Net) -> NodeId
+    requires valid { AreValid (arcs_of net.old) (λ _. 0) }
+    ensures valid { AreValid (arcs_of net.new) (λ _. 0) }
+{
+    check(rt, net.added() < 1_000, "few nodes and arcs were added");
+    net.add_node().expect(rt, "there is room")
+}
+
 pub fn add_nodes(rt: &impl Abort, alloc: Global, net: &mut Net, count: u32) -> Vec<NodeId>
     requires valid { AreValid (arcs_of net.old) (λ _. 0) }
     ensures valid { AreValid (arcs_of net.new) (λ _. 0) }
 {
     let mut nodes = Vec::new(alloc);
     for _ in 0..count {
-        assert!(rt; net.added() < 1_000);
-        let node = net.add_node().expect(rt, "there is room");
-        nodes.push(node).expect(rt, "memory");
+        nodes.push(add_node(rt, net)).expect(rt, "memory");
     }
     nodes
 }
@@ -90,17 +127,14 @@ pub fn add_nodes(rt: &impl Abort, alloc: Global, net: &mut Net, count: u32) -> V
 fn row(rt: &impl Abort, nodes: &[NodeId], link: &Link) -> ArcRow
     ensures { result.low < result.flow → result.cost ≡ 0 }
 {
-    let tail = nodes
-        .get(link.tail)
-        .copied()
-        .expect(rt, "the tail is there");
-    let head = nodes
-        .get(link.head)
-        .copied()
-        .expect(rt, "the head is there");
+    let (tail, head) = (at(rt, nodes, link.tail), at(rt, nodes, link.head));
     let row = ArcRow::new(tail, head, link.low, link.cap, link.cost, link.flow);
     let row = row.expect(rt, "the numbers are in range");
-    assert!(rt; is_free(row));
+    check(
+        rt,
+        is_free(row),
+        "only what costs nothing flows past the lower bound",
+    );
     row
 }
 
@@ -110,7 +144,7 @@ fn add(rt: &impl Abort, net: &mut Net, row: ArcRow) -> ArcId
     requires valid { AreValid (arcs_of net.old) (λ _. 0) }
     ensures valid { AreValid (arcs_of net.new) (λ _. 0) }
 {
-    assert!(rt; net.added() < 1_000);
+    check(rt, net.added() < 1_000, "few nodes and arcs were added");
     net.add_arc(row).expect(rt, "there is room")
 }
 
@@ -142,10 +176,11 @@ pub fn build(rt: &impl Abort, alloc: Global, nodes: u32, links: &[Link]) -> Worl
     let mut net = Net::new(alloc, 8, 16).expect(rt, "memory");
     let nodes = add_nodes(rt, alloc, &mut net, nodes);
     let arcs = add_arcs(rt, alloc, &mut net, &nodes, links);
-    assert!(rt; has_room(&net));
+    check(rt, has_room(&net), "the net has its room");
     let prices = Prices::new(alloc, &net).expect(rt, "memory");
     let scratch = Scratch::new(alloc, &net).expect(rt, "memory");
     World {
+        alloc,
         net,
         prices,
         scratch,
@@ -154,29 +189,21 @@ pub fn build(rt: &impl Abort, alloc: Global, nodes: u32, links: &[Link]) -> Worl
     }
 }
 
-pub fn node(rt: &impl Abort, world: &World, number: usize) -> NodeId {
-    world
-        .nodes
-        .get(number)
-        .copied()
-        .expect(rt, "the node is there")
+/// The price of a node that is there.
+pub fn price_at(rt: &impl Abort, world: &World, node: NodeId) -> u64
+    requires { world.now.prices.limits ≡ limits_of world.now.net }
+    ensures { result ≡ price_of world.now.prices node.id.place }
+{
+    let price = world.prices.get(&world.net, node);
+    price.expect(rt, "the node is there")
 }
 
-pub fn arc_at(rt: &impl Abort, world: &World, number: usize) -> ArcId {
-    world
-        .arcs
-        .get(number)
-        .copied()
-        .expect(rt, "the arc is there")
-}
-
-pub fn read_prices(rt: &impl Abort, alloc: Global, world: &World) -> Vec<u64>
+pub fn read_prices(rt: &impl Abort, world: &World) -> Vec<u64>
     requires { world.now.prices.limits ≡ limits_of world.now.net }
 {
-    let mut prices = Vec::new(alloc);
+    let mut prices = Vec::new(world.alloc);
     for node in &world.nodes {
-        let price = world.prices.get(&world.net, *node);
-        let price = price.expect(rt, "the node is there");
+        let price = price_at(rt, world, *node);
         prices.push(price).expect(rt, "memory");
     }
     prices
