@@ -6,12 +6,14 @@ pub mod FormedRows
 pub mod TableLemmas
 pub mod TaskWrites
 pub mod Legals
+pub mod CountedLoads
 pub mod Loads
 pub mod Places
 pub mod MovedPlaces
 pub mod CaseLists
 pub mod CaseSteps
 pub mod Seating
+pub mod Stays
 pub mod CaseKept
 pub mod CaseLaws
 pub mod Padded
@@ -25,6 +27,7 @@ pub mod Listing
 pub mod Firsts
 pub mod Exchanges
 pub mod Causes
+pub mod RunningCosts
 pub mod Waits
 pub mod Bids
 pub mod StandingTasks

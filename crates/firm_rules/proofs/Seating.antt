@@ -1,6 +1,8 @@
 -- Tasks of a case that are given their choices one after the other.
-use Rattle.std.proofs.Common.{◌≡◌, ℕ, zero, suc, ◌+◌, ◌<◌, ◌≤◌, List, [], ◌∷◌, length, set, None, refl, ap, ◌∙◌, arith}
+use Rattle.std.proofs.Common.{◌≡◌, ℕ, zero, suc, ◌+◌, ◌<◌, ◌≤◌, List, [], ◌∷◌, length, set, None, refl, sym, ap, ◌∙◌}
+use Rattle.std.proofs.Common.{arith}
 use Rattle.std.specs.Prelude.{slice_index_or}
+use Rattle.std.proofs.lemmas.List.{set-get_or}
 use Rattle.firm_rules.specs.Placement.{Case, Demand, task_at}
 use Rattle.firm_rules.specs.inner.Tables.{seat, seated}
 use Rattle.firm_rules.specs.declared.book.Task.{Task}
@@ -70,6 +72,27 @@ module _ (weight : ℕ → ℕ) where
         ∙ written-more seats case.tasks i no_demand (seat weight row choice (slice_index_or case.tasks i no_demand))
         long
         inside (seated-at rows choices case.tasks i same one_each below))
+
+    -- a task that has not come yet is as it was
+    pub seats-here : (now : Case) (i : ℕ) → now ≡ so_far i → i < length choices → task_at now i ≡ task_at case i
+    seats-here now i now-is below =
+        ap (λ (c : Case). task_at c i) now-is
+        ∙ written-next seats case.tasks i long (omega (arith, below, one_each)) no_demand
+
+    -- and one more that its choice leaves as it is
+    pub seats-kept : (now : Case) (i : ℕ) → now ≡ so_far i → i < length choices
+        → seat weight (slice_index_or rows i no_task) (slice_index_or choices i any_choice) (task_at case i)
+        ≡ task_at case i
+        → now ≡ so_far (i + 1)
+    seats-kept now i now-is below stays =
+        let here : task_at now i ≡ task_at case i = seats-here now i now-is below in
+        let row : Task = slice_index_or rows i no_task in
+        let choice : Choice = slice_index_or choices i any_choice in
+        seats-next now now i now-is below
+        (sym (ap (λ (t : Demand). let c : Case = record now { tasks = set now.tasks i (seat weight row choice t) } in c)
+        here
+        ∙ ap (λ (t : Demand). let c : Case = record now { tasks = set now.tasks i t } in c) (stays ∙ sym here)
+        ∙ ap (λ (l : List Demand). let c : Case = record now { tasks = l } in c) (set-get_or now.tasks i no_demand)))
 
     pub seats-all : (now : Case) (i : ℕ) → now ≡ so_far i → length choices ≤ i
         → now ≡ record case { tasks = seats }

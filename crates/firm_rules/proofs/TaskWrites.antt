@@ -1,11 +1,11 @@
 -- Tasks written one after the other.
 use Rattle.std.proofs.Common.{◌≡◌, ℕ, zero, suc, ◌+◌, ◌<◌, ◌≤◌, Bool, cond, List, [], ◌∷◌, ◌++◌, map, take}
 use Rattle.std.proofs.Common.{drop, set, length, count_by, Option, None, Some, is_some, slice_get, slice_index_or}
-use Rattle.std.proofs.Common.{if◌then◌else◌, true≢false, refl, sym, ap, ◌∙◌, arith}
+use Rattle.std.proofs.Common.{if◌then◌else◌, true, true≢false, refl, sym, ap, ◌∙◌, arith}
 use Rattle.std.specs.Map.{values_of}
 use Rattle.indexmap.specs.IndexMap.{set_value_at}
 use Rattle.std.proofs.lemmas.Bool.{cond_both}
-use Rattle.std.proofs.lemmas.List.{length-map, get_or-map}
+use Rattle.std.proofs.lemmas.List.{length-map, get_or-map, set-get_or}
 use Rattle.std.proofs.lemmas.List.Sums.{sum_by-cons, sum_by_more, sum_by-take-le}
 use Rattle.firm_rules.specs.Book.{is_on, evicted, running_count}
 use Rattle.firm_rules.specs.ArenaUse.{preference_count}
@@ -174,6 +174,16 @@ module _ (name : List ℕ) (old : List Task) where
 abbrev pub any_choice : Choice
 any_choice = On 0
 
+-- what two lists make at a place
+pub zipped-at : (f : Task → Choice → Task) (xs : List Task) (ys : List Choice) (place : ℕ) → length ys ≡ length xs
+    → place < length xs
+    → slice_index_or (zipped f xs ys) place no_task
+    ≡ f (slice_index_or xs place no_task) (slice_index_or ys place any_choice)
+zipped-at f [] ys place same below = absurd (omega arith)
+zipped-at f (x ∷ xs) [] place same below = absurd (omega arith)
+zipped-at f (x ∷ xs) (y ∷ ys) zero same below = refl
+zipped-at f (x ∷ xs) (y ∷ ys) (suc place) same below = zipped-at f xs ys place (omega arith) (omega arith)
+
 -- one more task is given its choice
 module _ (patience : ℕ) (machines : List Machine) (old : List Task) (choices : List Choice)
     (same : length choices ≡ length old) where
@@ -225,14 +235,22 @@ module _ (patience : ℕ) (machines : List Machine) (old : List Task) (choices :
       runs task (On j) = refl
       runs task Wait = refl
 
-      zipped-at : (f : Task → Choice → Task) (xs : List Task) (ys : List Choice) (place : ℕ) → length ys ≡ length xs
-          → place < length xs
-          → slice_index_or (zipped f xs ys) place no_task
-          ≡ f (slice_index_or xs place no_task) (slice_index_or ys place any_choice)
-      zipped-at f [] ys place same below = absurd (omega arith)
-      zipped-at f (x ∷ xs) [] place same below = absurd (omega arith)
-      zipped-at f (x ∷ xs) (y ∷ ys) zero same below = refl
-      zipped-at f (x ∷ xs) (y ∷ ys) (suc place) same below = zipped-at f xs ys place (omega arith) (omega arith)
+  -- and one more that its choice leaves as it is
+  pub kept-next : (now : List Task) (place running : ℕ) → now ≡ written round old place → place < length old
+      → settled patience machines (slice_index_or old place no_task) (slice_index_or choices place any_choice)
+      ≡ slice_index_or old place no_task
+      → running ≡ running_count (take place round) → is_placed (slice_index_or choices place any_choice) ≡ true
+      → (now ≡ written round old (place + 1)) × (running + 1 ≡ running_count (take (place + 1) round))
+      × (running + 1 ≤ length old)
+  kept-next now place running now-is below stays running-is placed =
+      let long : length round ≡ length old = length-zipped (settled patience machines) old choices same in
+      let choice : Choice = slice_index_or choices place any_choice in
+      let here : slice_index_or now place no_task ≡ slice_index_or old place no_task =
+      ap (λ (l : List Task). slice_index_or l place no_task) now-is ∙ written-next round old place long below no_task in
+      settled-next now now place running 1 now-is below
+      (sym (ap (λ (t : Task). set now place (settled patience machines t choice)) here
+      ∙ ap (set now place) (stays ∙ sym here) ∙ set-get_or now place no_task))
+      running-is (sym (ap one_if placed))
 
 -- a task that is given its choice at a place
 pub settled-written : (patience : ℕ) (machines : List Machine) (entries : List (List ℕ × Task)) (place : ℕ)

@@ -100,6 +100,11 @@ leaves None choice = false
 leaves (Some home) (On j) = not (home == j)
 leaves (Some home) Wait = true
 
+-- whether a choice leaves a task that runs at `home`, if it runs, on its machine
+abbrev pub stays : Option ℕ → Choice → Bool
+stays home (On j) = runs_at home j
+stays home Wait = false
+
 -- whether the task prefers this machine
 abbrev pub prefers : Demand → ℕ → Bool
 prefers task j = list_any (λ k. k == j) task.preferred

@@ -6,9 +6,9 @@ ghost use Rattle.std.specs.List.{list_all};
 ghost use Rattle.std.specs.Option.{option_to_list};
 ghost use Rattle.arrayvec.specs.ArrayVec.{array_vec_len};
 ghost use Rattle.firm_rules.specs.Book.{opening_rows};
-ghost use Rattle.firm_rules.specs.Placement.{is_legal, is_place, leaves, load, numbers};
+ghost use Rattle.firm_rules.specs.Placement.{is_legal, is_place, leaves, load, numbers, stays};
 ghost use Rattle.firm_rules.specs.Placement.{task_at, home_choice, load_cost, placement_cost, rank, task_cost};
-ghost use Rattle.firm_rules.specs.Placement.{tasks_cost, total, IsPlace};
+ghost use Rattle.firm_rules.specs.Placement.{total, IsPlace};
 ghost use Rattle.firm_rules.specs.ChoiceCost.{churn_cost, remote_cost, wait_cost, wide_cost, near};
 ghost use Rattle.firm_rules.specs.Round.{case_of, demand_of};
 ghost use Rattle.firm_rules.specs.inner.Demands.{seen, Fits, placed, without_job_at, without_machine_at};
@@ -16,7 +16,7 @@ ghost use Rattle.firm_rules.specs.inner.Demands.{seen, Fits, placed, without_job
 use crate::amounts::Slots;
 use crate::bounds::Limits;
 use crate::demands::{Demand, demand_of, is_remote, leave_job, leave_machine, runs_at};
-use crate::placements::{cost_of_load, loads_of};
+use crate::placements::{MOST_MACHINES, cost_of_load, loads_of};
 use crate::preferences::MOST_PREFERENCES;
 use crate::rounds::Choice;
 use crate::tables::Rows;
@@ -107,6 +107,18 @@ impl<A: Allocator> Case<A> {
         }
     }
 
+    /// Whether the choice leaves the task of this number on the machine where it runs.
+    #[inline(always)]
+    pub fn stays(&self, task: usize, choice: Choice) -> bool
+        requires { task < length self.now.tasks }
+        ensures { result ≡ stays (task_at self.now task).home choice }
+    {
+        match choice {
+            Choice::On(place) => runs_at(self.demand(task).home, place),
+            Choice::Wait => false,
+        }
+    }
+
     /// The place of the job of the task of this number.
     pub fn job(&self, task: usize) -> u32
         requires { task < length self.now.tasks }
@@ -163,13 +175,52 @@ impl<A: Allocator> Case<A> {
             && self.has_room(placement)
     }
 
+    /// Whether a placement is legal, and how many tasks it has on each machine if it is: one pass over the choices, for
+    /// a caller that wants both. The counts are 0 before the call.
+    pub fn counts_loads(&self, placement: &[Choice], loads: &mut [u8; MOST_MACHINES]) -> bool
+        requires { (j : ℕ) → slice_index loads.old j ≡ 0 }
+        ensures legal { result ≡ is_legal self.now placement.now }
+        ensures loads { result ≡ true → (j : ℕ) → j < length self.now.slots
+            → slice_index loads.new j ≡ load placement.now j }
+    {
+        if placement.len() != self.task_count() {
+            return false;
+        }
+        let slots = self.all_slots();
+        for choice in placement {
+            if let Choice::On(place) = *choice {
+                let at = place as usize;
+                if at >= slots.len() || u32::from(loads[at]) >= slots[at] {
+                    return false;
+                }
+                loads[at] += 1;
+            }
+        }
+        true
+    }
+
     /// What a placement of one choice for each task costs.
     pub fn cost_of(&self, placement: &[Choice]) -> u64
         requires { length placement.now ≡ length self.now.tasks }
         ensures cost { result ≡ placement_cost self.now placement.now }
         ensures most { result ≤ 2 ^ 46 }
     {
-        self.cost_of_loads(placement) + self.cost_of_choices(placement)
+        let spread = self.spread();
+        let machines = self.machine_count();
+        let mut loads = [0u16; MOST_MACHINES];
+        let mut cost = 0;
+        for task in 0..self.task_count() {
+            let choice = placement[task];
+            cost += self.cost_of_choice(task, choice);
+            if let Choice::On(place) = choice {
+                let at = place as usize;
+                if at < machines {
+                    cost += spread * u64::from(loads[at]);
+                    loads[at] += 1;
+                }
+            }
+        }
+        cost
     }
 
     /// What the loads of all machines cost. There is one choice for each task.
@@ -185,19 +236,6 @@ impl<A: Allocator> Case<A> {
         let mut cost = 0;
         for place in 0..self.machine_count() {
             cost += cost_of_load(spread, u64::from(loads[place]));
-        }
-        cost
-    }
-
-    // What their choices cost all tasks.
-    fn cost_of_choices(&self, placement: &[Choice]) -> u64
-        requires { length placement.now ≡ length self.now.tasks }
-        ensures cost { result ≡ tasks_cost self.now self.now.tasks placement.now }
-        ensures most { result ≤ 2 ^ 34 }
-    {
-        let mut cost = 0;
-        for task in 0..self.task_count() {
-            cost += self.cost_of_choice(task, placement[task]);
         }
         cost
     }
@@ -264,6 +302,26 @@ impl<A: Allocator> Case<A> {
             near.push(*place);
         }
         near
+    }
+
+    /// The machines that the task of this number prefers.
+    #[inline(always)]
+    pub fn preferred(&self, task: usize) -> &[u32]
+        requires { task < length self.now.tasks }
+        ensures places { result.now ≡ (task_at self.now task).preferred }
+        ensures below { All (λ place. place < length self.now.slots) result.now }
+        ensures few { length result.now ≤ 4 }
+    {
+        self.demand(task).preferred.as_slice()
+    }
+
+    // How many slots each machine has.
+    fn all_slots(&self) -> &[u32]
+        ensures slots { result.now ≡ self.now.slots }
+        ensures few { length result.now ≤ 4096 }
+        ensures most { All (λ slots. slots ≤ 64) result.now }
+    {
+        self.slots.as_slice()
     }
 
     fn limits(&self) -> Limits

@@ -118,10 +118,7 @@ fn change_at<A: Allocator>(rows: &Rows<A>, number: usize, choice: Choice) -> Opt
     if is_same(rows.case().home(number), choice) {
         return None;
     }
-    let Some(task) = rows.task_at(number) else {
-        unreachable!()
-    };
-    change_of(rows, &task, choice)
+    change_of(rows, rows.task_row(number), choice)
 }
 
 // Whether the choices are the same.

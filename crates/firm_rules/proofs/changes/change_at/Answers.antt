@@ -1,22 +1,18 @@
-use Rattle.std.proofs.Common.{◌≡◌, ◌<◌, ℕ, List, [], ◌∷◌, Option, None, Some, IfSome, bytes_eq, cond, length, map}
+use Rattle.std.proofs.Common.{◌≡◌, ℕ, List, [], ◌∷◌, Option, None, Some, cond}
 use Rattle.std.proofs.Common.{refl, sym}
-use Rattle.std.proofs.Common.{true, ap, ◌∙◌, eqb, arith}
+use Rattle.std.proofs.Common.{ap, ◌∙◌}
 use Rattle.std.specs.Prelude.{slice_index_or}
 use Rattle.std.proofs.lemmas.Bool.{eq-eqb}
 use Rattle.std.proofs.lemmas.List.{get_or-map}
 use Rattle.firm_rules.specs.Book.{TenantRows, machine_names}
 use Rattle.firm_rules.specs.Sound.{AreSound}
 use Rattle.firm_rules.specs.Placement.{Case, Demand, home_choice, task_at}
-use Rattle.firm_rules.specs.Round.{case_of, changed, demand_of, machine_at, machine_place, place_of, task_changes}
+use Rattle.firm_rules.specs.Round.{changed, demand_of, machine_at, machine_place, place_of, task_changes}
 use Rattle.firm_rules.specs.declared.book.Task.{Task}
-use Rattle.firm_rules.specs.declared.rounds.Choice.{Choice}
-use Rattle.firm_rules.specs.declared.rounds.Choice.TheVariants.{On}
-use Rattle.firm_rules.specs.declared.rounds.Change.{Change}
 use Rattle.firm_rules.specs.declared.rounds.Change.TheVariants.{Move}
 use Rattle.firm_rules.proofs.MovedPlaces.{place-below}
 use Rattle.firm_rules.proofs.NamedRows.{stands-at}
 use Rattle.firm_rules.proofs.SoundRows.{IsThere}
-use Rattle.firm_rules.proofs.TaskWrites.{read-at}
 use Rattle.firm_rules.proofs.changes.change_at.Goals as goal
 
 -- a task that stays changes nothing
@@ -48,5 +44,4 @@ pub returns : goal.returns
 returns g c d =
     let rows : TenantRows = c.args.rows.now in
     c.change_of.ensures
-    ∙ ap (λ (t : Task). task_changes rows t c.args.choice)
-    (sym (read-at rows.tasks c.args.number c.in-Some.task (sym c.in-Some.is ∙ c.task_at.ensures) d))
+    ∙ ap (λ (t : Task). task_changes rows t c.args.choice) (c.task_row.ensures d)

@@ -1,8 +1,7 @@
-use Rattle.std.proofs.Common.{ℕ, None, ap, sym, ◌∙◌}
+use Rattle.std.proofs.Common.{ap, sym, ◌∙◌}
 use Rattle.indexmap.specs.IndexMap.{values}
 use Rattle.indexmap.proofs.CallerLemmas.{keys-with_value_at}
 use Rattle.firm_rules.specs.Round.{settled}
-use Rattle.firm_rules.specs.declared.book.Task.{Task}
 use Rattle.firm_rules.proofs.TaskWrites.{settled-written, settled-on}
 use Rattle.firm_rules.proofs.tables.settle_at.Goals as goal
 
@@ -19,13 +18,11 @@ returns-in-On-clause-tasks g c =
     ∙ ap (settled c.args.patience (values c.args.machines.now) c.in-Some.task.now) (sym c.in-On.is))
 
 pub returns-in-Wait-clause-names : goal.returns-in-Wait-clause-names
-returns-in-Wait-clause-names g c = keys-with_value_at c.args.tasks.now c.args.place c.placed.result
+returns-in-Wait-clause-names g c = keys-with_value_at c.args.tasks.now c.args.place c.waits_on.new.self
 
 pub returns-in-Wait-clause-tasks : goal.returns-in-Wait-clause-tasks
 returns-in-Wait-clause-tasks g c =
     settled-written c.args.patience (values c.args.machines.now) c.args.tasks.now.entries c.args.place
-    c.in-Some.task.now c.placed.result c.args.choice c.in-Some.ensures.value
-    (c.placed.ensures
-    ∙ ap (λ (waited : ℕ). let t : Task = record c.in-Some.task.now { machine = None; waited = waited } in t)
-    c.next_wait.ensures
+    c.in-Some.task.now c.waits_on.new.self c.args.choice c.in-Some.ensures.value
+    (c.waits_on.ensures
     ∙ ap (settled c.args.patience (values c.args.machines.now) c.in-Some.task.now) (sym c.in-Wait.is))

@@ -1,17 +1,53 @@
-use Rattle.std.proofs.Common.{◌≡◌, ℕ, List, length, map, All, sym, ap, subst, ◌∙◌, arith}
+use Rattle.std.proofs.Common.{◌≡◌, List, length, All, sym, ap, subst, ◌∙◌, arith}
+use Rattle.std.specs.Prelude.{slice_index_or}
 use Rattle.std.specs.Map.{values_of}
 use Rattle.std.proofs.lemmas.List.{length-map}
 use Rattle.firm_rules.specs.Book.{TenantRows}
-use Rattle.firm_rules.specs.Placement.{Case, IsLegal, IsPlace}
-use Rattle.firm_rules.specs.Round.{case_of, demand_of, rows_after, weight_at}
-use Rattle.firm_rules.specs.inner.Tables.{seated, weight_in}
+use Rattle.firm_rules.specs.Placement.{Case, IsLegal, IsPlace, stays, task_at}
+use Rattle.firm_rules.specs.Round.{case_of, demand_of, rows_after, settled, weight_at, zipped}
+use Rattle.firm_rules.specs.inner.Tables.{rows_in, seat, seated}
 use Rattle.firm_rules.specs.declared.book.Machine.{Machine}
 use Rattle.firm_rules.specs.declared.book.Task.{Task}
+use Rattle.firm_rules.specs.declared.rounds.Choice.{Choice}
 use Rattle.firm_rules.proofs.CaseKept.{is-case, kept, settled-counted, sound-rows}
 use Rattle.firm_rules.proofs.CaseLaws.{case-rows_after}
 use Rattle.firm_rules.proofs.Legals.{to_legal}
+use Rattle.firm_rules.proofs.Stays.{stays-seated, stays-settled}
 use Rattle.firm_rules.proofs.TableLemmas.{tables-settled}
+use Rattle.firm_rules.proofs.TaskWrites.{any_choice}
 use Rattle.firm_rules.proofs.tables.Rows.settle.Goals as goal
+
+pub settle_all-self-inside-requires-clause-stay : goal.settle_all-self-inside-requires-clause-stay
+settle_all-self-inside-requires-clause-stay g c place choice d below is =
+    let rows : TenantRows =
+    rows_in c.self.inside.limits c.self.inside.machines.entries c.self.inside.jobs.entries
+    c.self.inside.tasks.entries in
+    stays-settled rows c.self.invariant.tables.sound c.self.invariant.tables.form c.patience-patience.result place
+    choice d below
+    (ap (λ (k : Case). stays (task_at k place).home choice) (sym c.self.invariant.case) ∙ is)
+
+pub settle_case-requires-clause-stay : goal.settle_case-requires-clause-stay
+settle_case-requires-clause-stay g c place d below is =
+    let now : TenantRows = c.args.self.now in
+    let rows : TenantRows =
+    rows_in c.self.inside.limits c.self.inside.machines.entries c.self.inside.jobs.entries
+    c.self.inside.tasks.entries in
+    let choices : List Choice = c.args.choices.now in
+    let choice : Choice = slice_index_or choices place any_choice in
+    let legal : IsLegal (case_of now) choices = to_legal (case_of now) choices c.requires.legal in
+    let one_each : length choices ≡ length rows.tasks =
+    legal.one_each ∙ length-map now.tasks (demand_of now)
+    ∙ ap (λ (r : TenantRows). length r.tasks) (sym c.self.view_is) in
+    ap (λ (l : List Task). seat (weight_at rows) (slice_index_or l place d) choice (task_at c.self.inside.case place))
+    c.settle_all-self-inside.ensures.tasks
+    ∙ ap (λ (k : Case). seat (weight_at rows)
+    (slice_index_or (zipped (settled c.patience-patience.result rows.machines) rows.tasks choices) place d) choice
+    (task_at k place))
+    c.self.invariant.case
+    ∙ stays-seated rows c.self.invariant.tables.sound c.self.invariant.tables.form c.patience-patience.result choices
+    one_each place d below
+    (ap (λ (k : Case). stays (task_at k place).home choice) (sym c.self.invariant.case) ∙ is)
+    ∙ ap (λ (k : Case). task_at k place) (sym c.self.invariant.case)
 
 pub settle_case-requires-clause-one_each : goal.settle_case-requires-clause-one_each
 settle_case-requires-clause-one_each g c =
