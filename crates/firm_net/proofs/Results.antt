@@ -1,12 +1,13 @@
 -- What each change of a net's parts says of the net before and after.
 use Rattle.std.proofs.Common.{◌≡◌, ◌≢◌, ℕ, ◌+◌, ◌-◌, ◌<◌, ◌≤◌, ◌⊎◌, inl, inr, ◌^◌, List, [], ◌∷◌, Contains, length}
 use Rattle.std.proofs.Common.{is_some, IfSome, Bool, true, false, cond, ◌==◌, refl, sym, ap, ap₂, ◌∙◌, subst, subst₂}
-use Rattle.std.proofs.Common.{arith, Option, Some, None, option_map, IsSome}
+use Rattle.std.proofs.Common.{arith, Option, Some, None, option_map, IsSome, set}
 use Rattle.std.specs.Option.{IsSomeAnd}
 use Rattle.std.proofs.lemmas.Bool.{false≢true}
+use Rattle.std.proofs.lemmas.List.{set-get_or}
 use Rattle.std.proofs.lemmas.Option.{same_Some}
 use Rattle.firm_arena.specs.Arena.{Arena, find, held_at, capacity_of, len_of, with_put, without, IsVacant, changed_at}
-use Rattle.firm_arena.specs.Arena.{changed_all, slot_changed}
+use Rattle.firm_arena.specs.Arena.{changed_all, slot_changed, with_value}
 use Rattle.firm_arena.specs.declared.Id.{Id}
 use Rattle.firm_net.specs.Row.{Row, IsRow}
 use Rattle.firm_net.specs.Net.{Lists, Net, IsNet, IsNode, end_of, lists_at, row_at, with_node, without_node}
@@ -29,7 +30,7 @@ use Rattle.firm_net.specs.declared.links.Node.{Node}
 use Rattle.firm_net.specs.declared.links.ArcList.{ArcList}
 use Rattle.firm_net.specs.declared.links.Neighbours.{Neighbours}
 use Rattle.firm_arena.specs.Changes.{held_at-changed_all, capacity_of-changed_all, len_of-changed_all, find-changed_all}
-use Rattle.firm_arena.specs.Changes.{not-some, is-some, find-changed_at}
+use Rattle.firm_arena.specs.Changes.{not-some, is-some, find-changed_at, find-held}
 use Rattle.firm_net.proofs.Facts.{with_node-others, with_node-counts, without_node-others, without_node-gone}
 use Rattle.firm_net.proofs.Facts.{without_node-counts, with_arc-row, with_arc-others, with_arc-counts}
 use Rattle.firm_net.proofs.Facts.{without_row-others, without_row-gone, without_row-counts, with_row-others}
@@ -139,6 +140,13 @@ removes_node links nodes new old n node is shows was there no_out no_in made =
           subst₂ (λ (o k : Net). IsEdit o k (n ∷ []) [] [] []) was (sym m.is)
           (without_node-edit net n (lists_of links node) is shown (subst (λ (k : Net). IsNet k) m.is m.net));
     }
+
+-- a value that is written back as it was changes nothing
+pub written-back : {X : Type 0} (a : Arena X) (id : Id) (value : X) → find a id ≡ Some value
+    → with_value a id value ≡ a
+written-back {X} a id value found =
+    ap (λ (held : List (Option (ℕ × X))). let made : Arena X = record { held = held; counter = a.counter } in made)
+    (ap (λ slot. set a.held id.place slot) (sym (find-held a id value found)) ∙ set-get_or a.held id.place None)
 
 -- an arc's row was changed
 pub record ChangesRow (links : Arena Link) (nodes : Arena Node) (old : Net) (a : ArcId) (f : Row → Row) : Type 0 where

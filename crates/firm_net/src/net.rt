@@ -314,15 +314,12 @@ impl Net {
         ensures net_before { IsNet self.old }
         ensures net { IsNet self.new }
     {
-        let Some(link) = self.links.get(arc.id).copied() else {
+        let Some(link) = self.links.get_mut(arc.id) else {
             return false;
         };
-        let tail = link.row.tail();
-        let head = link.row.head();
-        let Some(row) = ArcRow::new(tail, head, low, cap, cost, flow) else {
+        if !link.row.set_numbers(low, cap, cost, flow) {
             return false;
-        };
-        set_row(&mut self.links, arc, row);
+        }
         self.clear = false;
         true
     }

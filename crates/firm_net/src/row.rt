@@ -1,7 +1,7 @@
 //! Names of nodes and arcs, and the row of an arc.
-ghost use Rattle.std.specs.Prelude.{◌≡◌, ◌≢◌, ◌↔◌, IsSome, IfSome, IsTrue};
+ghost use Rattle.std.specs.Prelude.{◌≡◌, ◌≢◌, ◌↔◌, IsSome, IfSome, IsTrue, false};
 ghost use Rattle.firm_net.specs.Row.{Row, IsRow};
-ghost use Rattle.firm_net.specs.Net.{IsResidual, with_unit};
+ghost use Rattle.firm_net.specs.Net.{IsResidual, AreInRange, with_numbers, with_unit};
 
 use firm_arena::Id;
 use std::marker::Model;
@@ -72,7 +72,7 @@ impl ArcRow {
         ensures row { IfSome result (λ row.
             row ≡ record { tail = tail; head = head; low = low; cap = cap; cost = cost; flow = flow }) }
     {
-        let in_range = low <= flow && flow <= cap && cap <= CAPACITY_LIMIT && cost <= COST_LIMIT;
+        let in_range = are_in_range(low, cap, cost, flow);
         if tail == head || !in_range {
             return None;
         }
@@ -179,6 +179,24 @@ impl ArcRow {
         }
     }
 
+    /// Gives the arc these numbers. False, and nothing changes, exactly where not `low <= flow <= cap <= 4,096` and
+    /// `cost <= 3,000,000`.
+    pub(crate) fn set_numbers(&mut self, low: u32, cap: u32, cost: u32, flow: u32) -> bool
+        ensures allowed { IsTrue result ↔ AreInRange low cap cost flow }
+        ensures sets { IsTrue result → self.new ≡ with_numbers low cap cost flow self.old }
+        ensures unchanged { result ≡ false → self.new ≡ self.old }
+        ensures row { IsRow self.new }
+    {
+        let in_range = are_in_range(low, cap, cost, flow);
+        if in_range {
+            self.low = low;
+            self.cap = cap;
+            self.cost = cost;
+            self.flow = flow;
+        }
+        in_range
+    }
+
     /// Sets low and flow to 0.
     pub(crate) fn clear(&mut self)
         ensures { self.new ≡ record self.old { low = 0; flow = 0 } }
@@ -186,4 +204,11 @@ impl ArcRow {
         self.low = 0;
         self.flow = 0;
     }
+}
+
+/// Whether an arc may have these numbers.
+fn are_in_range(low: u32, cap: u32, cost: u32, flow: u32) -> bool
+    ensures { IsTrue result ↔ AreInRange low cap cost flow }
+{
+    low <= flow && flow <= cap && cap <= CAPACITY_LIMIT && cost <= COST_LIMIT
 }
