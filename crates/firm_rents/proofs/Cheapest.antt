@@ -9,7 +9,8 @@ use Rattle.std.specs.Option.{option_to_list}
 use Rattle.std.proofs.lemmas.Bool.{cases_lt, cases_Bool, or_cases, eqb-true}
 use Rattle.firm_rules.specs.declared.rounds.Choice.{Choice}
 use Rattle.firm_rules.specs.declared.rounds.Choice.TheVariants.{On, Wait}
-use Rattle.firm_rules.specs.Placement.{Demand, Case, IsPlace, leaves, runs_at, prefers, is_remote, task_cost}
+use Rattle.firm_rules.specs.Placement.{Demand, Case, IsPlace, leaves, runs_at, stays, prefers, is_remote}
+use Rattle.firm_rules.specs.Placement.{task_cost}
 use Rattle.firm_rents.specs.Rents.{paid, least_paid}
 use Rattle.firm_rents.specs.Lowest.{IsNeither, IsLowest}
 use Rattle.firm_rents.specs.inner.Lowest.{IsCheapestSoFar}
@@ -44,7 +45,7 @@ wide-le case task j =
     )
 
 -- and one that is neither its own nor preferred costs it just that
-wide_is : (case : Case) (task : Demand) (j : ℕ) → runs_at task.home j ≡ false → prefers task j ≡ false
+pub wide_is : (case : Case) (task : Demand) (j : ℕ) → runs_at task.home j ≡ false → prefers task j ≡ false
     → task_cost case task (On j) ≡ wide_cost case task
 wide_is case task j runs prefer =
     let remote : is_remote task j ≡ nat_lt 0 (length task.preferred) =
@@ -56,6 +57,38 @@ wide_is case task j runs prefer =
     and_true : (b : Bool) → (b && true && true) ≡ b
     and_true true = refl
     and_true false = refl
+
+-- its own costs it nothing
+pub own_is : (case : Case) (task : Demand) (j : ℕ) → runs_at task.home j ≡ true → task_cost case task (On j) ≡ 0
+own_is case task j runs = omega (
+  arith,
+  left task.home runs,
+  remote_none (nat_lt 0 (length task.preferred))
+      (not (prefers task j)) (runs_at task.home j) runs,
+)
+  where
+    left : (home : Option ℕ) → runs_at home j ≡ true → cond (leaves home (On j)) case.churn 0 ≡ 0
+    left None e = refl
+    left (Some home) e = ap (λ b. cond (not b) case.churn 0) e
+
+    remote_none : (a b c : Bool) → c ≡ true → cond (a && b && not c) case.remote 0 ≡ 0
+    remote_none true true true e = refl
+    remote_none true false c e = refl
+    remote_none false b c e = refl
+    remote_none true true false e = absurd (true≢false (sym e))
+
+-- none is preferred where nothing is
+pub none_preferred : (xs : List ℕ) (j : ℕ) → length xs ≡ 0 → list_any (λ k. k == j) xs ≡ false
+none_preferred [] j e = refl
+none_preferred (x ∷ xs) j e = absurd (omega arith)
+
+-- the only machine on which it stays is its own
+pub stays_own : (home : Option ℕ) (choice : Choice) (j : ℕ) → stays home choice ≡ true → runs_at home j ≡ true
+    → choice ≡ On j
+stays_own None (On p) j e f = absurd (true≢false (sym e))
+stays_own (Some home) (On p) j e f = ap On (sym (eqb-true home p e) ∙ eqb-true home j f)
+stays_own None Wait j e f = absurd (true≢false (sym e))
+stays_own (Some home) Wait j e f = absurd (true≢false (sym e))
 
 -- a machine that is its own or preferred is among the near ones
 any_at : (j : ℕ) (xs : List ℕ) → list_any (λ k. k == j) xs ≡ true → (i : ℕ) × (i < length xs) × (slice_index xs i ≡ j)
@@ -86,6 +119,15 @@ wide_or_near case task j =
     (λ (p : prefers task j ≡ false). inl (wide_is case task j h p))
     (cases_Bool (prefers task j)))
     (cases_Bool (runs_at task.home j))
+
+-- a machine that is not its own costs the task the wide cost, or it is among those preferred
+pub wide_or_preferred : (case : Case) (task : Demand) (j : ℕ) → runs_at task.home j ≡ false
+    → (task_cost case task (On j) ≡ wide_cost case task)
+    ⊎ ((i : ℕ) × (i < length task.preferred) × (slice_index task.preferred i ≡ j))
+wide_or_preferred case task j away =
+    ⊎_elim (λ (p : prefers task j ≡ true). inr (any_at j task.preferred p))
+    (λ (p : prefers task j ≡ false). inl (wide_is case task j away p))
+    (cases_Bool (prefers task j))
 
 -- THE SEARCH FOR THE CHEAPEST
 module _ (case : Case) (rents : List ℕ) (task : Demand) (a b : Choice) where

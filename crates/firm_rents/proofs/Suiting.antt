@@ -13,10 +13,11 @@ use Rattle.firm_rents.specs.declared.classes.Offer.{Offer}
 use Rattle.firm_rents.specs.declared.classes.LevelRents.{LevelRents}
 use Rattle.firm_rules.specs.Placement.{task_at}
 use Rattle.firm_rents.specs.Levels.{IsAtMost, time, amount, paid_by_level, slot_by_level}
-use Rattle.firm_rules.specs.ChoiceCost.{near, wide_cost}
+use Rattle.firm_rules.specs.ChoiceCost.{wide_cost}
 use Rattle.firm_rents.specs.inner.Classes.{offered, rents_at, place_of, level_rents, place_offer, place_levels}
 use Rattle.firm_rents.specs.inner.Classes.{IsLeast, NoMore}
-use Rattle.firm_rents.proofs.Cheapest.{own_at, wide_or_near}
+use Rattle.firm_rents.proofs.Cheapest.{own_is, wide_is, none_preferred, wide_or_preferred}
+use Rattle.firm_rents.proofs.Comparing.{by_amount}
 use Rattle.firm_rents.proofs.Lexicographic.{at_most-add, at_most-cancel, at_most-same, at_most-trans}
 
 -- what a choice of this time costs at a time, and behind its amount
@@ -196,7 +197,7 @@ least_kept rents one other j less least =
     at_most-trans (place_levels rents 0 other 0) (place_levels rents 0 one 0) (place_levels rents 0 j 0) less least
 
 -- MACHINES THAT COST ALL TASKS ALIKE
-wide_offer : (case : Case) (rents : LevelRents) (i j : ℕ)
+pub wide_offer : (case : Case) (rents : LevelRents) (i j : ℕ)
     → task_cost case (task_at case i) (On j) ≡ wide_cost case (task_at case i)
     → runs_at (task_at case i).home j ≡ false
     → place_offer rents (wide_cost case (task_at case i)) j (i * (length case.slots + 2) + suc j)
@@ -205,6 +206,45 @@ wide_offer case rents i j cost runs =
     ap (λ n. place_offer rents n j (i * (length case.slots + 2) + suc j)) (sym cost)
     ∙ ap (λ b. place_offer rents (task_cost case (task_at case i) (On j)) j
     (i * (length case.slots + 2) + cond b 0 (suc j))) (sym runs)
+
+-- what a choice of a machine costs a task that stays there, or that prefers none
+pub stays_offer : (case : Case) (rents : LevelRents) (i j : ℕ) → runs_at (task_at case i).home j ≡ true
+    → place_offer rents 0 j (i * (length case.slots + 2))
+    ≡ place_offer rents (task_cost case (task_at case i) (On j)) j (time case i (On j))
+stays_offer case rents i j runs =
+    let at : i * (length case.slots + 2) ≡ time case i (On j) =
+    omega (arith, ap (λ b. cond b 0 (suc j)) runs) in
+    ap (λ n. place_offer rents n j (i * (length case.slots + 2))) (sym (own_is case (task_at case i) j runs))
+    ∙ ap (place_offer rents (task_cost case (task_at case i) (On j)) j) at
+
+pub any_offer : (case : Case) (rents : LevelRents) (i j : ℕ) → runs_at (task_at case i).home j ≡ false
+    → length (task_at case i).preferred ≡ 0
+    → place_offer rents (wide_cost case (task_at case i)) j (i * (length case.slots + 2) + suc j)
+    ≡ place_offer rents (task_cost case (task_at case i) (On j)) j (time case i (On j))
+any_offer case rents i j away none =
+    wide_offer case rents i j
+    (wide_is case (task_at case i) j away (none_preferred (task_at case i).preferred j none)) away
+
+-- a machine at its offer to all that are neither on it nor prefer it
+pub alike : (case : Case) (rents : LevelRents) (i : ℕ) (chosen : Offer) (j cost begun : ℕ)
+    → cost ≡ wide_cost case (task_at case i) → begun ≡ i * (length case.slots + 2)
+    → IsAtMost (offered rents.classes.items chosen) (place_levels rents cost j (begun + suc j))
+    → task_cost case (task_at case i) (On j) ≡ wide_cost case (task_at case i)
+    → runs_at (task_at case i).home j ≡ false → NoMore case rents i chosen (On j)
+alike case rents i chosen j cost begun p q told wide away =
+    no_more case rents i chosen (On j)
+    (subst (λ o. IsAtMost (offered rents.classes.items chosen) (offered rents.classes.items o))
+    (ap (λ n. place_offer rents n j (begun + suc j)) p
+    ∙ (ap (λ t. place_offer rents (wide_cost case (task_at case i)) j (t + suc j)) q
+    ∙ wide_offer case rents i j wide away)) told)
+
+-- the amount of the lowest rent alone tells
+pub least_amount : (case : Case) (rents : LevelRents) (i : ℕ) (chosen : Offer) (lowest j : ℕ)
+    → IsLeast rents lowest j → chosen.amount < wide_cost case (task_at case i) + slice_index rents.amounts.items lowest
+    → task_cost case (task_at case i) (On j) ≡ wide_cost case (task_at case i) → NoMore case rents i chosen (On j)
+least_amount case rents i chosen lowest j least less cost =
+    by_amount (offered rents.classes.items chosen) (paid_by_level case (level_rents rents) i (On j))
+    (omega (arith, less, cost, least 0 (λ l h. absurd (omega arith))))
 
 -- the lowest rent at a time tells of a machine that is dearer at the time of its own
 pub tells : (case : Case) (rents : LevelRents) (i : ℕ) (chosen : Offer) (lowest j a : ℕ)
@@ -222,32 +262,38 @@ tells case rents i chosen lowest j a told dearer cost runs =
     (place_levels rents wide j at) told (dearer_by rents wide lowest j a at dearer)))
 
 -- A TASK'S CHOICE IS ITS CHEAPEST
+pub no_more_itself : (case : Case) (rents : LevelRents) (i : ℕ) (choice : Choice) (chosen : Offer)
+    → chosen ≡ place_offer rents (task_cost case (task_at case i) choice)
+    (place_of (length rents.amounts.items) choice) (time case i choice)
+    → NoMore case rents i chosen choice
+no_more_itself case rents i choice chosen is =
+    subst (λ o. NoMore case rents i o choice) (sym is)
+    (no_more case rents i (place_offer rents (task_cost case (task_at case i) choice)
+    (place_of (length rents.amounts.items) choice) (time case i choice)) choice (λ l same. omega arith))
+
 pub all_suit : (case : Case) (rents : LevelRents) (i : ℕ) (choice : Choice) (chosen : Offer)
     → chosen ≡ place_offer rents (task_cost case (task_at case i) choice)
     (place_of (length rents.amounts.items) choice) (time case i choice)
     → NoMore case rents i chosen Wait
-    → ((k : ℕ) → k < length (near (task_at case i))
-    → NoMore case rents i chosen (On (slice_index (near (task_at case i)) k)))
+    → ((j : ℕ) → j < length case.slots → runs_at (task_at case i).home j ≡ true → NoMore case rents i chosen (On j))
+    → ((k : ℕ) → k < length (task_at case i).preferred
+    → NoMore case rents i chosen (On (slice_index (task_at case i).preferred k)))
     → ((j : ℕ) → j < length case.slots → task_cost case (task_at case i) (On j) ≡ wide_cost case (task_at case i)
     → runs_at (task_at case i).home j ≡ false → NoMore case rents i chosen (On j))
     → (other : Choice) → IsPlace (length case.slots) other
     → IsAtMost (paid_by_level case (level_rents rents) i choice) (paid_by_level case (level_rents rents) i other)
-all_suit case rents i choice chosen is waits nears others other place =
+all_suit case rents i choice chosen is waits own preferred others other place =
     at_most_paid case rents i choice other (subst (λ o. NoMore case rents i o other) is (each other place))
   where
-    listed : (j : ℕ) → (k : ℕ) × (k < length (near (task_at case i))) × (slice_index (near (task_at case i)) k ≡ j)
-        → NoMore case rents i chosen (On j)
-    listed j there = subst (λ j. NoMore case rents i chosen (On j)) there.2 (nears there.0 there.1)
-
     each : (other : Choice) → IsPlace (length case.slots) other → NoMore case rents i chosen other
     each Wait place = waits
     each (On j) place =
-        ⊎_elim (λ (own : runs_at (task_at case i).home j ≡ true).
-        listed j (own_at (task_at case i).home (task_at case i).preferred j own))
+        ⊎_elim (λ (here : runs_at (task_at case i).home j ≡ true). own j place here)
         (λ (away : runs_at (task_at case i).home j ≡ false).
         ⊎_elim (λ (cost : task_cost case (task_at case i) (On j) ≡ wide_cost case (task_at case i)).
         others j place cost away)
-        (λ (there : (k : ℕ) × (k < length (near (task_at case i))) × (slice_index (near (task_at case i)) k ≡ j)).
-        listed j there)
-        (wide_or_near case (task_at case i) j))
+        (λ (there : (k : ℕ) × (k < length (task_at case i).preferred)
+        × (slice_index (task_at case i).preferred k ≡ j)).
+        subst (λ j. NoMore case rents i chosen (On j)) there.2 (preferred there.0 there.1))
+        (wide_or_preferred case (task_at case i) j away))
         (cases_Bool (runs_at (task_at case i).home j))

@@ -3,7 +3,7 @@ ghost use Rattle.std.specs.Prelude.{◌≡◌, ◌≢◌, ◌^◌, ◌<◌, ◌�
 ghost use Rattle.firm_rents.specs.Levels.{IsAtMost};
 ghost use Rattle.firm_rents.specs.declared.classes.Class.{Class as ClassOf};
 ghost use Rattle.firm_rents.specs.inner.Classes.{number, AreClasses, offered, Covers, Differ};
-ghost use Rattle.firm_rents.specs.inner.Classes.{IsCheaperFrom, IsParting};
+ghost use Rattle.firm_rents.specs.inner.Classes.{IsCheaperFrom, IsKnown, IsParting, IsPartingOf};
 
 /// A class of places: at its time their rents have its number, else they are those of its parent's. A rent of the first
 /// class has 1 at each time.
@@ -42,10 +42,18 @@ struct Differences {
 
 /// The first time at which the numbers of two classes may differ, and what they are then.
 #[derive(Clone, Copy)]
-struct Parting {
+pub(crate) struct Parting {
     time: u64,
     one: u32,
     other: u32,
+}
+
+/// Where two classes part, as it was found last: tasks behind one another often go to the same machine.
+#[derive(Clone, Copy)]
+pub(crate) struct Known {
+    one: u32,
+    other: u32,
+    parting: Parting,
 }
 
 /// The time and the number of the class that was left behind last on a way to the first class; `NEVER` before.
@@ -70,23 +78,56 @@ pub(crate) fn is_at_most(classes: &[Class], one: Offer, other: Offer) -> bool
     if one.amount != other.amount {
         return one.amount < other.amount;
     }
-    if one.class == other.class {
-        return one.time <= other.time;
-    }
-    is_at_most_behind(classes, one, other)
+    let parting = parting_of(classes, one.class, other.class);
+    is_at_most_parted(classes, parting, one, other)
 }
 
-// Whether the one offer is at most the other, where their amounts are the same and their classes are not.
-fn is_at_most_behind(classes: &[Class], one: Offer, other: Offer) -> bool
+// Where two classes part; nowhere if they are one.
+#[inline(always)]
+fn parting_of(classes: &[Class], one: u32, other: u32) -> Parting
+    requires tree { AreClasses classes.now }
+    requires one { one < length classes.now }
+    requires other { other < length classes.now }
+    ensures { IsPartingOf classes.now one other result }
+{
+    if one == other {
+        return Parting::NOWHERE;
+    }
+    first_parting(classes, one, other)
+}
+
+/// Whether the one offer is at most the other, where their amounts are the same and their classes part so.
+#[inline(always)]
+pub(crate) fn is_at_most_parted(
+    classes: &[Class],
+    parting: Parting,
+    one: Offer,
+    other: Offer,
+) -> bool
     requires tree { AreClasses classes.now }
     requires one { one.class < length classes.now }
     requires other { other.class < length classes.now }
     requires amounts { one.amount ≡ other.amount }
-    requires classes { one.class ≢ other.class }
+    requires parting { IsPartingOf classes.now one.class other.class parting }
     ensures yes { result ≡ true → IsAtMost (offered classes.now one) (offered classes.now other) }
     ensures no { result ≡ false → IsAtMost (offered classes.now other) (offered classes.now one) }
 {
-    let parting = first_parting(classes, one.class, other.class);
+    if one.class == other.class {
+        return one.time <= other.time;
+    }
+    is_at_most_behind(classes, parting, one, other)
+}
+
+// The same where their classes are not the same.
+fn is_at_most_behind(classes: &[Class], parting: Parting, one: Offer, other: Offer) -> bool
+    requires tree { AreClasses classes.now }
+    requires one { one.class < length classes.now }
+    requires other { other.class < length classes.now }
+    requires amounts { one.amount ≡ other.amount }
+    requires parting { IsParting (number classes.now one.class) (number classes.now other.class) parting }
+    ensures yes { result ≡ true → IsAtMost (offered classes.now one) (offered classes.now other) }
+    ensures no { result ≡ false → IsAtMost (offered classes.now other) (offered classes.now one) }
+{
     if u64::from(one.time.min(other.time)) < parting.time && one.time != other.time {
         return one.time < other.time;
     }
@@ -114,17 +155,27 @@ pub(crate) fn cheaper_since(classes: &[Class], one: Offer, other: Offer) -> u64
     cheaper_from(classes, one.class, other.class).saturating_add(1)
 }
 
-/// The first time at which two classes differ, if the one is cheaper then; else 2^32.
-pub(crate) fn cheaper_from(classes: &[Class], one: u32, other: u32) -> u64
+// The first time at which two classes differ, if the one is cheaper then; else 2^32.
+fn cheaper_from(classes: &[Class], one: u32, other: u32) -> u64
     requires tree { AreClasses classes.now }
     requires one { one < length classes.now }
     requires other { other < length classes.now }
     ensures { result < 2 ^ 32 → IsCheaperFrom (number classes.now one) (number classes.now other) result }
 {
+    cheaper_from_parted(classes, parting_of(classes, one, other), one, other)
+}
+
+/// The first time at which two classes that part so differ, if the one is cheaper then; else 2^32.
+pub(crate) fn cheaper_from_parted(classes: &[Class], parting: Parting, one: u32, other: u32) -> u64
+    requires tree { AreClasses classes.now }
+    requires one { one < length classes.now }
+    requires other { other < length classes.now }
+    requires parting { IsPartingOf classes.now one other parting }
+    ensures { result < 2 ^ 32 → IsCheaperFrom (number classes.now one) (number classes.now other) result }
+{
     if one == other {
         return NEVER;
     }
-    let parting = first_parting(classes, one, other);
     if parting.one != parting.other {
         return if parting.one < parting.other {
             parting.time
@@ -192,6 +243,63 @@ fn first_parting(classes: &[Class], one: u32, other: u32) -> Parting
         one: first.number,
         other: second.number,
     }
+}
+
+impl Known {
+    /// Nothing.
+    pub(crate) const NOTHING: Known = Known {
+        one: 0,
+        other: 0,
+        parting: Parting::NOWHERE,
+    };
+
+    /// Where these two part.
+    #[inline(always)]
+    pub(crate) fn parting(&mut self, classes: &[Class], one: u32, other: u32) -> Parting
+        requires tree { AreClasses classes.now }
+        requires one { one < length classes.now }
+        requires other { other < length classes.now }
+        requires known { IsKnown classes.now self.old }
+        ensures known { IsKnown classes.now self.new }
+        ensures parting { IsPartingOf classes.now one other result }
+    {
+        if self.one == one && self.other == other {
+            return self.parting;
+        }
+        let parting = parting_of(classes, one, other);
+        *self = Known {
+            one,
+            other,
+            parting,
+        };
+        parting
+    }
+
+    /// Whether the one offer is at most the other, level by level.
+    #[inline(always)]
+    pub(crate) fn is_at_most(&mut self, classes: &[Class], one: Offer, other: Offer) -> bool
+        requires tree { AreClasses classes.now }
+        requires one { one.class < length classes.now }
+        requires other { other.class < length classes.now }
+        requires known { IsKnown classes.now self.old }
+        ensures known { IsKnown classes.now self.new }
+        ensures yes { result ≡ true → IsAtMost (offered classes.now one) (offered classes.now other) }
+    {
+        if one.amount != other.amount {
+            return one.amount < other.amount;
+        }
+        let parting = self.parting(classes, one.class, other.class);
+        is_at_most_parted(classes, parting, one, other)
+    }
+}
+
+impl Parting {
+    /// Of a class and itself.
+    const NOWHERE: Parting = Parting {
+        time: NEVER,
+        one: 1,
+        other: 1,
+    };
 }
 
 impl Left {

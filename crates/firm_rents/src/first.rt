@@ -1,19 +1,26 @@
 //! Whether a placement is the round's: whether rents in levels suit it, by one pass over machines and one over tasks.
-ghost use Rattle.std.specs.Prelude.{◌≡◌, ◌+◌, ◌*◌, ◌^◌, ◌<◌, ◌≤◌, true, false, ℕ, length, slice_index, IsTrue};
+ghost use Rattle.std.specs.Prelude.{◌≡◌, ◌+◌, ◌*◌, ◌^◌, ◌<◌, ◌≤◌, true, false, ℕ, suc, length, slice_index};
+ghost use Rattle.std.specs.Prelude.{IsTrue};
 ghost use Rattle.firm_rules.specs.declared.rounds.Choice.{Choice as ChoiceOf};
 ghost use Rattle.firm_rules.specs.declared.rounds.Choice.TheVariants.{On, Wait};
-ghost use Rattle.firm_rules.specs.Placement.{load, rank, runs_at, task_cost, IsPlace};
+ghost use Rattle.firm_rules.specs.Placement.{rank, runs_at, stays, task_cost, IsPlace};
 ghost use Rattle.firm_rules.specs.Round.{IsRound};
 ghost use Rattle.firm_rules.specs.Placement.{task_at, choice_at};
 ghost use Rattle.firm_rents.specs.Levels.{time, IsAtMost, paid_by_level, slot_by_level};
-ghost use Rattle.firm_rules.specs.ChoiceCost.{near, wide_cost};
-ghost use Rattle.firm_rents.specs.inner.Classes.{AreClasses, AreInLevels, IsLeast, IsSpent, NoMore, SuitsLoad};
-ghost use Rattle.firm_rents.specs.inner.Classes.{level_rents, place_of, place_offer};
+ghost use Rattle.firm_rules.specs.ChoiceCost.{wide_cost};
+ghost use Rattle.firm_rents.specs.inner.Classes.{AreClasses, AreInLevels, IsKnown, IsLeast, IsSpent, NoMore};
+ghost use Rattle.firm_rents.specs.inner.Classes.{SuitsLoad, level_rents, offered, place_levels, place_of, place_offer};
 
-use crate::classes::{Class, LevelRents, Offer, cheaper_from, cheaper_since, is_at_most};
+use crate::classes::{
+    Class, Known, LevelRents, Offer, cheaper_from_parted, cheaper_since, is_at_most,
+    is_at_most_parted,
+};
 use crate::laws::rents_show_first;
 use crate::rents::MOST_RENT;
-use firm_rules::{Case, Choice, legality_is_judged, loads_of, slot_cost};
+use firm_rules::{Case, Choice, legality_is_judged, slot_cost};
+
+// As many as a tenant may have, and more: as many as `Case::counts_loads` counts.
+const MOST_MACHINES: usize = 4_096;
 
 /// Whether rents in levels, whoever proposed them, show that a placement is the round's: it is legal, no legal one
 /// costs less, and none that costs as much comes before it. Where the answer is no, nothing is said. Takes no memory.
@@ -24,10 +31,11 @@ pub fn shows_first(case: &Case, rents: &LevelRents, placement: &[Choice]) -> boo
     legality_is_judged();
     // No more tasks are counted than a tenant may have.
     prove!(case.task_count() <= 4_096);
-    if !case.is_legal(placement) || !are_in_levels(rents, case.machine_count()) {
+    let mut loads = [0u8; MOST_MACHINES];
+    if !case.counts_loads(placement, &mut loads) || !are_in_levels(rents, case.machine_count()) {
         return false;
     }
-    if !machines_suit(case, rents, placement) {
+    if !machines_suit(case, rents, &loads) {
         return false;
     }
     tasks_suit(case, rents, placement)
@@ -87,14 +95,12 @@ fn are_classes(classes: &[Class]) -> bool
 }
 
 // Whether each machine's last task is paid for, and no free slot is worth more than it would cost.
-fn machines_suit(case: &Case, rents: &LevelRents, placement: &[Choice]) -> bool
+fn machines_suit(case: &Case, rents: &LevelRents, loads: &[u8; MOST_MACHINES]) -> bool
     requires levels { AreInLevels (length case.now.slots) rents.now }
-    requires few { length placement.now ≤ 4096 }
-    requires room { (j : ℕ) → j < length case.now.slots → load placement.now j ≤ slice_index case.now.slots j }
+    requires room { (j : ℕ) → j < length case.now.slots → slice_index loads.now j ≤ slice_index case.now.slots j }
     ensures { result ≡ true → (j : ℕ) → j < length case.now.slots
-        → SuitsLoad case.now (level_rents rents.now) j (load placement.now j) }
+        → SuitsLoad case.now (level_rents rents.now) j (slice_index loads.now j) }
 {
-    let loads = loads_of(placement);
     for place in 0..case.machine_count() {
         if !suits_load(case, rents, place, u64::from(loads[place])) {
             return false;
@@ -170,6 +176,14 @@ struct Mark {
     since: u64,
 }
 
+// What is kept from task to task: where the classes of a choice part from that of waiting and from that of the lowest
+// rent.
+#[derive(Clone, Copy)]
+struct Kept {
+    waits: Known,
+    lowest: Known,
+}
+
 // Whether each task's choice is its cheapest.
 fn tasks_suit(case: &Case, rents: &LevelRents, placement: &[Choice]) -> bool
     requires levels { AreInLevels (length case.now.slots) rents.now }
@@ -187,47 +201,199 @@ fn tasks_suit(case: &Case, rents: &LevelRents, placement: &[Choice]) -> bool
         spent: 0,
         since: spent_since(rents, lowest, 0),
     };
+    let mut kept = Kept {
+        waits: Known::NOTHING,
+        lowest: Known::NOTHING,
+    };
     for task in 0..case.task_count() {
         mark = passed(case, rents, mark, time_of(case, task, 0));
-        if !suits_task(case, rents, task, placement[task], mark) {
+        if !kept.suits_task(case, rents, task, placement[task], mark) {
             return false;
         }
     }
     true
 }
 
-// Whether the choice is the task's cheapest.
-fn suits_task(case: &Case, rents: &LevelRents, task: usize, choice: Choice, mark: Mark) -> bool
+impl Kept {
+    // Whether the choice is the task's cheapest.
+    fn suits_task(
+        &mut self,
+        case: &Case,
+        rents: &LevelRents,
+        task: usize,
+        choice: Choice,
+        mark: Mark,
+    ) -> bool
+        requires levels { AreInLevels (length case.now.slots) rents.now }
+        requires task { task < length case.now.tasks }
+        requires choice { IsPlace (length case.now.slots) choice }
+        requires lowest { 0 < length case.now.slots → mark.lowest < length case.now.slots }
+        requires least { (j : ℕ) → j < length case.now.slots → IsLeast rents.now mark.lowest j }
+        requires spent { (j : ℕ) → j < mark.spent
+            → IsSpent rents.now mark.lowest (task * (length case.now.slots + 2)) j }
+        requires waits { IsKnown rents.now.classes.items self.old.waits }
+        requires low { IsKnown rents.now.classes.items self.old.lowest }
+        ensures waits { IsKnown rents.now.classes.items self.new.waits }
+        ensures low { IsKnown rents.now.classes.items self.new.lowest }
+        ensures suits { result ≡ true → (other : ChoiceOf) → IsPlace (length case.now.slots) other
+            → IsAtMost (paid_by_level case.now (level_rents rents.now) task choice)
+            (paid_by_level case.now (level_rents rents.now) task other) }
+    {
+        let staying = case.stays(task, choice);
+        let chosen = chosen_offer(case, rents, task, choice, staying);
+        let waits = offer(case, rents, task, Choice::Wait);
+        let classes = rents.classes.as_slice();
+        if !self.waits.is_at_most(classes, chosen, waits)
+            || !own_suits(case, rents, task, chosen, staying)
+            || !preferred_suit(case, rents, task, chosen)
+        {
+            return false;
+        }
+        self.others_suit(case, rents, task, chosen, mark)
+    }
+
+    // Whether all other machines cost the task no less than its choice. They cost it alike but for their rents, so most
+    // are told by the lowest one: from a place on by that one at the place's time, before that because they are spent.
+    fn others_suit(
+        &mut self,
+        case: &Case,
+        rents: &LevelRents,
+        task: usize,
+        chosen: Offer,
+        mark: Mark,
+    ) -> bool
+        requires levels { AreInLevels (length case.now.slots) rents.now }
+        requires task { task < length case.now.tasks }
+        requires chosen { chosen.class < length rents.now.classes.items }
+        requires lowest { 0 < length case.now.slots → mark.lowest < length case.now.slots }
+        requires least { (j : ℕ) → j < length case.now.slots → IsLeast rents.now mark.lowest j }
+        requires spent { (j : ℕ) → j < mark.spent
+            → IsSpent rents.now mark.lowest (task * (length case.now.slots + 2)) j }
+        requires waits { IsKnown rents.now.classes.items self.old.waits }
+        requires low { IsKnown rents.now.classes.items self.old.lowest }
+        ensures waits { IsKnown rents.now.classes.items self.new.waits }
+        ensures low { IsKnown rents.now.classes.items self.new.lowest }
+        ensures suits { result ≡ true → (j : ℕ) → j < length case.now.slots
+            → task_cost case.now (task_at case.now task) (On j) ≡ wide_cost case.now (task_at case.now task)
+            → runs_at (task_at case.now task).home j ≡ false → NoMore case.now rents.now task chosen (On j) }
+    {
+        if case.machine_count() == 0 {
+            return true;
+        }
+        let classes = rents.classes.as_slice();
+        let wide = case.wide_cost(task);
+        let begun = time_of(case, task, 0);
+        let first = offer_of(rents, wide, mark.lowest, begun + 1);
+        if chosen.amount != first.amount {
+            return chosen.amount < first.amount;
+        }
+        // Amounts are alike from here on. The end is a guess: from which place on the lowest rent tells that no machine
+        // costs the task less, as the choice made ranks before the place, or that rent is dearer at a rank before it.
+        // Whether it is right is asked below.
+        let parting = self.lowest.parting(classes, chosen.class, first.class);
+        if is_at_most_parted(classes, parting, chosen, first) {
+            return true;
+        }
+        let from = cheaper_from_parted(classes, parting, chosen.class, first.class);
+        let dearer = from.saturating_sub(u64::from(begun));
+        let made = u64::from(chosen.time.saturating_sub(begun));
+        let end = case.machine_count().min(dearer.min(made) as usize);
+        let last = Offer {
+            time: begun + 1 + end as u32,
+            ..first
+        };
+        let all = Span {
+            from: 0,
+            to: case.machine_count(),
+            cost: wide,
+            begun,
+        };
+        if is_at_most_parted(classes, parting, chosen, last) {
+            each_suits(
+                rents,
+                chosen,
+                Span {
+                    from: mark.spent,
+                    to: end,
+                    ..all
+                },
+            )
+        } else {
+            each_suits(rents, chosen, all)
+        }
+    }
+}
+
+// What the choice costs the task with its rent: nothing of its own where the task stays. Most tasks stay or prefer no
+// machine, and are told without a look at what they prefer.
+#[inline(always)]
+fn chosen_offer(
+    case: &Case,
+    rents: &LevelRents,
+    task: usize,
+    choice: Choice,
+    staying: bool,
+) -> Offer
     requires levels { AreInLevels (length case.now.slots) rents.now }
     requires task { task < length case.now.tasks }
     requires choice { IsPlace (length case.now.slots) choice }
-    requires lowest { 0 < length case.now.slots → mark.lowest < length case.now.slots }
-    requires least { (j : ℕ) → j < length case.now.slots → IsLeast rents.now mark.lowest j }
-    requires spent { (j : ℕ) → j < mark.spent → IsSpent rents.now mark.lowest (task * (length case.now.slots + 2)) j }
-    ensures { result ≡ true → (other : ChoiceOf) → IsPlace (length case.now.slots) other
-        → IsAtMost (paid_by_level case.now (level_rents rents.now) task choice)
-        (paid_by_level case.now (level_rents rents.now) task other) }
+    requires staying { staying ≡ stays (task_at case.now task).home choice }
+    ensures offer { result ≡ place_offer rents.now (task_cost case.now (task_at case.now task) choice)
+        (place_of (length rents.now.amounts.items) choice) (time case.now task choice) }
+    ensures within { result.class < length rents.now.classes.items }
 {
-    let chosen = offer(case, rents, task, choice);
-    let waits = offer(case, rents, task, Choice::Wait);
-    if !is_at_most(rents.classes.as_slice(), chosen, waits)
-        || !near_suit(case, rents, task, chosen)
-    {
-        return false;
+    if let Choice::On(place) = choice {
+        if staying {
+            return offer_of(rents, 0, place as usize, time_of(case, task, 0));
+        }
+        if case.preferred(task).is_empty() {
+            let wide = case.wide_cost(task);
+            return offer_of(
+                rents,
+                wide,
+                place as usize,
+                time_of(case, task, place as usize + 1),
+            );
+        }
     }
-    others_suit(case, rents, task, chosen, mark)
+    offer(case, rents, task, choice)
 }
 
-// Whether the task's own machine and those that it prefers cost it no less than its choice.
-fn near_suit(case: &Case, rents: &LevelRents, task: usize, chosen: Offer) -> bool
+// Whether the task's own machine, unless its choice is to stay there, costs it no less than its choice.
+fn own_suits(case: &Case, rents: &LevelRents, task: usize, chosen: Offer, staying: bool) -> bool
     requires levels { AreInLevels (length case.now.slots) rents.now }
     requires task { task < length case.now.tasks }
     requires chosen { chosen.class < length rents.now.classes.items }
-    ensures { result ≡ true → (k : ℕ) → k < length (near (task_at case.now task))
-        → NoMore case.now rents.now task chosen (On (slice_index (near (task_at case.now task)) k)) }
+    requires own { staying ≡ true → (j : ℕ) → runs_at (task_at case.now task).home j ≡ true
+        → NoMore case.now rents.now task chosen (On j) }
+    ensures { result ≡ true → (j : ℕ) → j < length case.now.slots → runs_at (task_at case.now task).home j ≡ true
+        → NoMore case.now rents.now task chosen (On j) }
 {
-    let near = case.near(task);
-    for place in near.as_slice() {
+    if staying {
+        return true;
+    }
+    match case.home(task) {
+        Choice::Wait => true,
+        Choice::On(place) => {
+            // Each home is one of the machines, which `home` doesn't say.
+            if (place as usize) < case.machine_count() {
+                suits(case, rents, task, chosen, place)
+            } else {
+                true
+            }
+        }
+    }
+}
+
+// Whether the machines that the task prefers cost it no less than its choice.
+fn preferred_suit(case: &Case, rents: &LevelRents, task: usize, chosen: Offer) -> bool
+    requires levels { AreInLevels (length case.now.slots) rents.now }
+    requires task { task < length case.now.tasks }
+    requires chosen { chosen.class < length rents.now.classes.items }
+    ensures { result ≡ true → (k : ℕ) → k < length (task_at case.now task).preferred
+        → NoMore case.now rents.now task chosen (On (slice_index (task_at case.now task).preferred k)) }
+{
+    for place in case.preferred(task) {
         if !suits(case, rents, task, chosen, *place) {
             return false;
         }
@@ -247,96 +413,36 @@ fn suits(case: &Case, rents: &LevelRents, task: usize, chosen: Offer, place: u32
     is_at_most(rents.classes.as_slice(), chosen, other)
 }
 
-// Whether all other machines cost the task no less than its choice. They cost it alike but for their rents, so most are
-// told by the lowest one: from a place on by that one at the place's time, before that because they are spent.
-fn others_suit(case: &Case, rents: &LevelRents, task: usize, chosen: Offer, mark: Mark) -> bool
-    requires levels { AreInLevels (length case.now.slots) rents.now }
-    requires task { task < length case.now.tasks }
-    requires chosen { chosen.class < length rents.now.classes.items }
-    requires lowest { 0 < length case.now.slots → mark.lowest < length case.now.slots }
-    requires least { (j : ℕ) → j < length case.now.slots → IsLeast rents.now mark.lowest j }
-    requires spent { (j : ℕ) → j < mark.spent → IsSpent rents.now mark.lowest (task * (length case.now.slots + 2)) j }
-    ensures { result ≡ true → (j : ℕ) → j < length case.now.slots
-        → task_cost case.now (task_at case.now task) (On j) ≡ wide_cost case.now (task_at case.now task)
-        → runs_at (task_at case.now task).home j ≡ false → NoMore case.now rents.now task chosen (On j) }
-{
-    if case.machine_count() == 0 {
-        return true;
-    }
-    let classes = rents.classes.as_slice();
-    let wide = case.wide_cost(task);
-    let first = offer_of(rents, wide, mark.lowest, time_of(case, task, 1));
-    if is_at_most(classes, chosen, first) {
-        return true;
-    }
-    let end = case
-        .machine_count()
-        .min(told_from(case, rents, task, chosen, mark.lowest));
-    let last = offer_of(rents, wide, mark.lowest, time_of(case, task, 1 + end));
-    if is_at_most(classes, chosen, last) {
-        each_suits(
-            case,
-            rents,
-            task,
-            chosen,
-            Span {
-                from: mark.spent,
-                to: end,
-            },
-        )
-    } else {
-        each_suits(
-            case,
-            rents,
-            task,
-            chosen,
-            Span {
-                from: 0,
-                to: case.machine_count(),
-            },
-        )
-    }
-}
-
-// Some places, one after the other.
+// Some places, one after the other, with what a machine there costs a task that neither runs on it nor prefers it, and
+// the time of the task's first rank.
 #[derive(Clone, Copy)]
 struct Span {
     from: usize,
     to: usize,
+    cost: u64,
+    begun: u32,
 }
 
-// Whether each of these machines costs the task no less than its choice.
-fn each_suits(case: &Case, rents: &LevelRents, task: usize, chosen: Offer, span: Span) -> bool
-    requires levels { AreInLevels (length case.now.slots) rents.now }
-    requires task { task < length case.now.tasks }
+// Whether each of these machines costs no less than the choice, taken as one that the task neither runs on nor
+// prefers. Of its own machine and of those that it prefers this says nothing.
+fn each_suits(rents: &LevelRents, chosen: Offer, span: Span) -> bool
+    requires levels { AreInLevels (length rents.now.amounts.items) rents.now }
     requires chosen { chosen.class < length rents.now.classes.items }
-    requires span { span.to ≤ length case.now.slots }
-    ensures { result ≡ true → (j : ℕ) → span.from ≤ j → j < span.to → NoMore case.now rents.now task chosen (On j) }
+    requires span { span.to ≤ length rents.now.amounts.items }
+    requires few { span.to ≤ 4096 }
+    requires cost { span.cost ≤ 2 ^ 22 }
+    requires begun { span.begun ≤ 2 ^ 25 }
+    ensures { result ≡ true → (j : ℕ) → span.from ≤ j → j < span.to
+        → IsAtMost (offered rents.now.classes.items chosen) (place_levels rents.now span.cost j (span.begun + suc j)) }
 {
-    // No more machines are counted than a tenant may have.
-    prove!(case.machine_count() <= 4_096);
+    let classes = rents.classes.as_slice();
     for place in span.from..span.to {
-        if !suits(case, rents, task, chosen, place as u32) {
+        let other = offer_of(rents, span.cost, place, span.begun + 1 + place as u32);
+        if !is_at_most(classes, chosen, other) {
             return false;
         }
     }
     true
-}
-
-// From which place on the lowest rent tells that no machine costs the task less: where the choice made ranks before the
-// place, or that rent is dearer at a rank before it. A guess: `others_suit` asks whether it is so.
-fn told_from(case: &Case, rents: &LevelRents, task: usize, chosen: Offer, lowest: usize) -> usize
-    requires levels { AreInLevels (length case.now.slots) rents.now }
-    requires task { task < length case.now.tasks }
-    requires chosen { chosen.class < length rents.now.classes.items }
-    requires lowest { lowest < length case.now.slots }
-{
-    let begun = time_of(case, task, 0);
-    let rent = offer_of(rents, 0, lowest, 0);
-    let from = cheaper_from(rents.classes.as_slice(), chosen.class, rent.class);
-    let dearer = from.saturating_sub(u64::from(begun));
-    let made = u64::from(chosen.time.saturating_sub(begun));
-    dearer.min(made).min(4_096) as usize
 }
 
 // What a choice costs the task of this number with its rent.
@@ -366,7 +472,8 @@ fn offer(case: &Case, rents: &LevelRents, task: usize, choice: Choice) -> Offer
 fn time_of(case: &Case, task: usize, rank: usize) -> u32
     requires task { task < length case.now.tasks }
     requires rank { rank ≤ length case.now.slots + 1 }
-    ensures { result ≡ task * (length case.now.slots + 2) + rank }
+    ensures time { result ≡ task * (length case.now.slots + 2) + rank }
+    ensures few { result ≤ 2 ^ 25 }
 {
     // No more tasks are counted than a tenant may have.
     prove!(case.task_count() <= 4_096);

@@ -1,6 +1,6 @@
 -- Rents in levels as the check reads them: an amount, and a class of places behind it.
 use Rattle.std.specs.Prelude.{◌≡◌, ℕ, zero, suc, ◌+◌, ◌-◌, ◌^◌, ◌<◌, ◌≤◌, ◌==◌, List, length, slice_index}
-use Rattle.std.specs.Prelude.{if◌then◌else◌, slice_index_or}
+use Rattle.std.specs.Prelude.{if◌then◌else◌, slice_index_or, ◌≢◌}
 use Rattle.firm_rules.specs.declared.rounds.Choice.{Choice}
 use Rattle.firm_rules.specs.declared.rounds.Choice.TheVariants.{On, Wait}
 use Rattle.firm_rules.specs.Placement.{Case}
@@ -8,6 +8,7 @@ use Rattle.firm_rents.specs.Levels.{IsAtMost, slot_by_level, paid_by_level}
 use Rattle.firm_rents.specs.declared.classes.Class.{Class}
 use Rattle.firm_rents.specs.declared.classes.Offer.{Offer}
 use Rattle.firm_rents.specs.declared.classes.Differences.{Differences}
+use Rattle.firm_rents.specs.declared.classes.Known.{Known}
 use Rattle.firm_rents.specs.declared.classes.LevelRents.{LevelRents}
 use Rattle.firm_rents.specs.declared.classes.Parting.{Parting}
 
@@ -53,6 +54,13 @@ pub record IsParting (f g : ℕ → ℕ) (parting : Parting) : Type 0 where
   pub before : (t : ℕ) → t < parting.time → f t ≡ g t
   pub one : f parting.time ≡ parting.one
   pub other : g parting.time ≡ parting.other
+
+-- two classes part there, if they are not one
+abbrev pub IsPartingOf : List Class → ℕ → ℕ → Parting → Type 0
+IsPartingOf classes one other parting = one ≢ other → IsParting (number classes one) (number classes other) parting
+
+abbrev pub IsKnown : List Class → Known → Type 0
+IsKnown classes known = IsPartingOf classes known.one known.other known.parting
 
 -- one is the cheaper at the first time at which they differ
 pub record IsCheaperFrom (one other : ℕ → ℕ) (first : ℕ) : Type 0 where

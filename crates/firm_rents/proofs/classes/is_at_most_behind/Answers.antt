@@ -23,13 +23,13 @@ returns-clause-no c =
 pub returns-then-one-other-clause-yes : goal.returns-then-one-other-clause-yes
 returns-then-one-other-clause-yes c =
     λ e. by_choice c.args.classes.now c.args.one c.args.other (omega arith)
-    (λ t h. c.first_parting-parting.ensures.before t (omega (arith, h, ltb-true, c.min.ensures, c.from.ensures)))
+    (λ t h. c.requires.parting.before t (omega (arith, h, ltb-true, c.min.ensures, c.from.ensures)))
     (omega (arith, ltb-true))
 
 pub returns-then-one-other-clause-no : goal.returns-then-one-other-clause-no
 returns-then-one-other-clause-no c =
     λ e. by_choice c.args.classes.now c.args.other c.args.one (omega arith)
-    (λ t h. sym (c.first_parting-parting.ensures.before t (omega (arith, h, ltb-false, c.min.ensures, c.from.ensures))))
+    (λ t h. sym (c.requires.parting.before t (omega (arith, h, ltb-false, c.min.ensures, c.from.ensures))))
     (omega (arith, ltb-false))
 
 pub returns-then-here-there-clause-yes : goal.returns-then-here-there-clause-yes
@@ -37,7 +37,7 @@ returns-then-here-there-clause-yes c =
     let classes = c.args.classes.now in
     let one = c.args.one in
     let other = c.args.other in
-    let first = c.first_parting-parting.result.time in
+    let first = c.args.parting.time in
     let choices : (one.time ≡ other.time) ⊎ ((first ≤ one.time) × (first ≤ other.time)) =
     elim c.else-from-parting.branch [
       | else-from-parting-via-then-from-parting+else-one-other w ↦ inl (omega (arith, w.if-one-other.false))
@@ -47,12 +47,12 @@ returns-then-here-there-clause-yes c =
             omega (arith, w.if-from-parting.false, c.min.ensures, c.from.ensures),
           )
     ] in
-    λ e. by_parting classes one other first c.requires.amounts c.first_parting-parting.ensures.before choices
+    λ e. by_parting classes one other first c.requires.amounts c.requires.parting.before choices
     (omega (
       arith,
       ltb-true,
-      c.marked-here.ensures classes c.first_parting-parting.ensures.one,
-      c.marked-there.ensures classes c.first_parting-parting.ensures.other,
+      c.marked-here.ensures classes c.requires.parting.one,
+      c.marked-there.ensures classes c.requires.parting.other,
     ))
 
 pub returns-then-here-there-clause-no : goal.returns-then-here-there-clause-no
@@ -60,7 +60,7 @@ returns-then-here-there-clause-no c =
     let classes = c.args.classes.now in
     let one = c.args.one in
     let other = c.args.other in
-    let first = c.first_parting-parting.result.time in
+    let first = c.args.parting.time in
     let choices : (other.time ≡ one.time) ⊎ ((first ≤ other.time) × (first ≤ one.time)) =
     elim c.else-from-parting.branch [
       | else-from-parting-via-then-from-parting+else-one-other w ↦ inl (omega (arith, w.if-one-other.false))
@@ -70,11 +70,11 @@ returns-then-here-there-clause-no c =
             omega (arith, w.if-from-parting.false, c.min.ensures, c.from.ensures),
           )
     ] in
-    λ e. by_parting classes other one first (omega arith) (λ t h. sym (c.first_parting-parting.ensures.before t h))
+    λ e. by_parting classes other one first (omega arith) (λ t h. sym (c.requires.parting.before t h))
     choices (omega (
       arith,
       ltb-false,
       c.if-here-there.true,
-      c.marked-here.ensures classes c.first_parting-parting.ensures.one,
-      c.marked-there.ensures classes c.first_parting-parting.ensures.other,
+      c.marked-here.ensures classes c.requires.parting.one,
+      c.marked-there.ensures classes c.requires.parting.other,
     ))

@@ -1,5 +1,5 @@
-use Rattle.std.proofs.Common.{◌<◌, ◌∙◌, ℕ, subst, arith}
-use Rattle.firm_rules.specs.Placement.{load}
+use Rattle.std.proofs.Common.{ℕ, subst, arith}
+use Rattle.std.specs.Prelude.{slice_index}
 use Rattle.firm_rents.specs.inner.Classes.{level_rents, SuitsLoad}
 use Rattle.firm_rents.proofs.Suiting.{one_more}
 use Rattle.firm_rents.proofs.first.machines_suit.Goals as goal
@@ -8,10 +8,9 @@ pub loop-place-preserved : goal.loop-place-preserved
 loop-place-preserved c =
     let place = c.loop-place.place in
     let rents = level_rents c.args.rents.now in
-    let inside : place < 4096 = omega (arith, c.loop-place-test.true, c.machine_count-place-end.ensures.few) in
-    one_more (λ (j : ℕ). SuitsLoad c.args.case.now rents j (load c.args.placement.now j)) place c.loop-place.invariant
-    (subst (SuitsLoad c.args.case.now rents place) (c.from.ensures ∙ c.loads_of-loads.ensures place inside)
-    (c.suits_load.ensures c.if-not-suits_load.false))
+    one_more (λ (j : ℕ). SuitsLoad c.args.case.now rents j (slice_index c.args.loads.now j)) place
+    c.loop-place.invariant
+    (subst (SuitsLoad c.args.case.now rents place) c.from.ensures (c.suits_load.ensures c.if-not-suits_load.false))
 
 pub returns : goal.returns
 returns c = λ e j l. c.loop-place.invariant j (omega arith)

@@ -1,6 +1,6 @@
 use Rattle.firm_rents.proofs.Comparing.{cheaper_of}
 use Rattle.std.proofs.Common.{arith}
-use Rattle.firm_rents.proofs.classes.cheaper_from.Goals as goal
+use Rattle.firm_rents.proofs.classes.cheaper_from_parted.Goals as goal
 
 pub returns-then-found : goal.returns-then-found
 returns-then-found c =
