@@ -1,14 +1,18 @@
 -- Steps of a loop that changes the elements of a list in turn.
 use mathlib.Core.List.{map-map}
-use Rattle.std.proofs.Common.{◌≡◌, ℕ, zero, suc, ◌+◌, ◌<◌, ◌≤◌, true, false, not, Option, None, List, [], ◌∷◌, map}
-use Rattle.std.proofs.Common.{length, get_or, bytes_eq, arith, refl, sym, ap, ap₂, ◌∙◌}
-use Rattle.std.specs.List.{All}
-use Rattle.std.proofs.lemmas.Bool.{cond-true, cond-false, cond_both, not-true}
+use Rattle.std.proofs.Common.{◌≡◌, ℕ, zero, suc, ◌+◌, ◌<◌, ◌≤◌, true, false, not, Option, Some, None, List, []}
+use Rattle.std.proofs.Common.{◌∷◌, map, length, get_or, bytes_eq, IfSome, arith, refl, sym, ap, ap₂, ◌∙◌, subst}
+use Rattle.std.specs.List.{All, position_or_len}
+use Rattle.std.proofs.lemmas.Bool.{cond-true, cond-false, cond_both, not-true, false≢true, eqb-true}
+use Rattle.std.proofs.lemmas.List.Sums.{passes_at_first}
+use Rattle.std.proofs.lemmas.Slice.Eq.{bytes_eq-Decides}
 use Rattle.std.proofs.lemmas.List.{get_or-map, length-map}
 use Rattle.std.proofs.lemmas.List.Elements.{All-map, filter_passes}
-use Rattle.firm_rules.specs.Book.{TenantRows, is_on, forgetting, evicted}
+use Rattle.firm_rules.specs.Book.{TenantRows, machine_names, name_at, is_on, forgetting, evicted}
+use Rattle.firm_rules.specs.Placement.{IsPlace, stays}
 use Rattle.firm_rules.specs.Preferences.{without_preference}
-use Rattle.firm_rules.specs.Round.{task_after, rows_after, zipped}
+use Rattle.firm_rules.specs.Round.{machine_place, task_after, rows_after, zipped}
+use Rattle.firm_rules.specs.declared.book.Machine.{Machine}
 use Rattle.firm_rules.specs.declared.book.Task.{Task}
 use Rattle.firm_rules.specs.declared.rounds.Choice.{Choice}
 use Rattle.firm_rules.specs.declared.rounds.Choice.TheVariants.{On, Wait}
@@ -179,6 +183,29 @@ settle-step rows choices n choice home waited below is h w =
         (task_after rows task choice).waited task ≡ task_after rows task choice
     same rows task (On j) = refl
     same rows task Wait = refl
+
+-- a round leaves a task as it is that stays where it runs
+pub settled-same : (rows : TenantRows) (task : Task) (machine : Option (List ℕ)) (choice : Choice)
+    → machine ≡ task.machine → IfSome machine (λ _. task.waited ≡ 0) → IsPlace (length rows.machines) choice
+    → stays (machine_place rows machine) choice ≡ true → task_after rows task choice ≡ task
+settled-same rows task machine Wait is none there on = let no : false ≡ true = on in absurd (false≢true no)
+settled-same rows task None (On j) is none there on = let no : false ≡ true = on in absurd (false≢true no)
+settled-same rows task (Some name) (On j) is none there on =
+    let names : List (List ℕ) = machine_names rows in
+    let at : position_or_len (bytes_eq name) names ≡ j = eqb-true (position_or_len (bytes_eq name) names) j on in
+    let below : position_or_len (bytes_eq name) names < length names =
+    omega (arith, at, there, length-map rows.machines (λ (m : Machine). m.name)) in
+    let found : bytes_eq name (name_at names j) ≡ true =
+    subst (λ (k : ℕ). bytes_eq name (name_at names k) ≡ true) at (passes_at_first (bytes_eq name) names [] below) in
+    let named : name ≡ name_at names j = (bytes_eq-Decides name (name_at names j)).0 found in
+    ap₂ (λ (m : Option (List ℕ)) (w : ℕ). placed m w task) (ap (λ (n : List ℕ). Some n) (sym named) ∙ is) (sym none)
+
+pub settle-same : (rows : TenantRows) (choices : List Choice) (n : ℕ) → n < length rows.tasks
+    → task_after rows (task_at rows n) (get_or choices n Wait) ≡ task_at rows n
+    → settled_first rows choices (n + 1) ≡ settled_first rows choices n
+settle-same rows choices n below same =
+    ap (λ (l : List Task). let s : TenantRows = record rows { tasks = l } in s)
+    (first-stays (λ (i : ℕ) (t : Task). task_after rows t (get_or choices i Wait)) n rows.tasks no_task below same)
 
 pub settle-end : (rows : TenantRows) (choices : List Choice) (n : ℕ) → length choices ≡ length rows.tasks
     → length rows.tasks ≤ n → settled_first rows choices n ≡ rows_after rows choices

@@ -1,7 +1,7 @@
 -- What a net holds once the arcs of a task were changed.
-use Rattle.std.proofs.Common.{◌≡◌, ◌≢◌, ℕ, ◌+◌, ◌<◌, true, false, Option, Some, None, List, [], ◌∷◌, map}
-use Rattle.std.proofs.Common.{length, get_or, bytes_eq, arith, refl, sym, ap, ◌∙◌, subst}
-use Rattle.std.specs.List.{IsDistinct}
+use Rattle.std.proofs.Common.{◌≡◌, ◌≢◌, ℕ, ◌+◌, ◌<◌, Bool, true, false, Option, Some, None, is_some, List, [], ◌∷◌}
+use Rattle.std.proofs.Common.{map, length, get_or, bytes_eq, arith, refl, sym, ap, ◌∙◌, subst}
+use Rattle.std.specs.List.{All, IsDistinct}
 use Rattle.std.proofs.lemmas.List.{get_or-map, length-map}
 use Rattle.std.proofs.lemmas.List.Sums.{position_or_len_is}
 use Rattle.std.proofs.lemmas.Map.Keys.{apart_from_distinct}
@@ -10,11 +10,13 @@ use Rattle.firm_net.specs.Row.{Row}
 use Rattle.firm_net.specs.Net.{Net, IsNode, row_at}
 use Rattle.firm_net.specs.declared.row.NodeId.{NodeId}
 use Rattle.firm_rules.specs.Book.{TenantRows, machine_names, is_on}
-use Rattle.firm_rules.specs.Round.{task_after}
+use Rattle.firm_rules.specs.Placement.{Case, Demand, task_at as demand_at, home_choice, IsPlace, stays}
+use Rattle.firm_rules.specs.Round.{case_of, demand_of, machine_place, task_after}
+use Rattle.firm_rules.specs.SoundBook.{AreInForm}
 use Rattle.firm_rules.specs.declared.book.Task.{Task}
 use Rattle.firm_rules.specs.declared.book.Machine.{Machine}
 use Rattle.firm_rules.specs.declared.rounds.Choice.{Choice}
-use Rattle.firm_rules.specs.declared.rounds.Choice.TheVariants.{Wait}
+use Rattle.firm_rules.specs.declared.rounds.Choice.TheVariants.{On, Wait}
 use Rattle.firm_net.specs.Edits.{Span}
 use Rattle.firm_graph.specs.Parts.{MachineParts}
 use Rattle.firm_graph.specs.declared.ids.TaskParts.{TaskParts}
@@ -26,7 +28,7 @@ use Rattle.firm_graph.proofs.Lookups.{node_under-at}
 use Rattle.firm_graph.proofs.Machines.{bytes_eq-swap}
 use Rattle.firm_graph.proofs.Drops.{holds-row}
 use Rattle.firm_graph.proofs.Places.{home-there, home-other}
-use Rattle.firm_graph.proofs.Firsts.{first-read, forgotten-at, throw-yes, settle-step}
+use Rattle.firm_graph.proofs.Firsts.{first-read, forgotten-at, throw-yes, settle-step, settle-same, settled-same}
 
 -- the home of a task is there, and is not the tail of the arc that is led to it
 pub leads-home : (g : Graph) (place : ℕ) (parts : TaskParts) (home : Option (List ℕ)) (net : Net) (head : NodeId)
@@ -117,6 +119,52 @@ settle-next g rows machines hub choices place choice parts stand before after ro
     }) read in
     subst (λ (r : TenantRows). Mirrors (moved g r after))
     (settle-step g.rows choices place choice home stand.waited there choice_is refl its.waited) made
+
+-- where a task runs, as a round has it
+home-at : (rows : TenantRows) (case : Case) (place : ℕ) → case ≡ case_of rows → place < length rows.tasks
+    → (demand_at case place).home ≡ machine_place rows (task_at rows place).machine
+home-at rows case place is below =
+    let none : Demand = record { home = None; preferred = []; delay = 0; job = 0 } in
+    ap (λ (k : Case). (demand_at k place).home) is
+    ∙ ap (λ (d : Demand). d.home) (get_or-map (demand_of rows) rows.tasks place no_task none below)
+
+-- the step of a loop that passes by a task that stays where it runs
+pub stay-next : (g : Graph) (rows : TenantRows) (case : Case) (choices : List Choice) (place : ℕ) (choice : Choice)
+    (net : Net) → g.rows ≡ rows → case ≡ case_of rows → AreInForm rows → All (IsPlace (length rows.machines)) choices
+    → length choices ≡ length rows.tasks → place < length rows.tasks → get_or choices place Wait ≡ choice
+    → stays (demand_at case place).home choice ≡ true → Mirrors (moved g (settled_first g.rows choices place) net)
+    → Mirrors (moved g (settled_first g.rows choices (place + 1)) net)
+stay-next g rows case choices place choice net rows_is case_is form places each here choice_is on mirrors =
+    let task : Task = task_at rows place in
+    let there : IsPlace (length rows.machines) choice =
+    subst (IsPlace (length rows.machines)) choice_is (places place Wait (omega (arith, here, each))) in
+    let home : stays (machine_place rows task.machine) choice ≡ true =
+    ap (λ (o : Option ℕ). stays o choice) (sym (home-at rows case place case_is here)) ∙ on in
+    let same : task_after rows task (get_or choices place Wait) ≡ task =
+    ap (task_after rows task) choice_is
+    ∙ settled-same rows task task.machine choice refl (form.running place no_task here) there home in
+    let S : TenantRows → Type 0 =
+    λ (r : TenantRows). settled_first r choices place ≡ settled_first r choices (place + 1) in
+    subst (λ (r : TenantRows). Mirrors (moved g r net))
+    (subst S (sym rows_is) (sym (settle-same rows choices place here same))) mirrors
+
+-- whether a choice is a machine
+abbrev pub is_machine : Choice → Bool
+is_machine (On j) = true
+is_machine Wait = false
+
+-- a task runs whose home, as a choice, is a machine
+pub runs-home : (rows : TenantRows) (case : Case) (place : ℕ) (home choice : Choice) → case ≡ case_of rows
+    → place < length rows.tasks → home ≡ home_choice (demand_at case place).home → home ≡ choice
+    → is_machine choice ≡ is_some (task_at rows place).machine
+runs-home rows case place home choice is below home_is choice_is =
+    ap is_machine (sym choice_is ∙ home_is ∙ ap home_choice (home-at rows case place is below))
+    ∙ same rows (task_at rows place).machine
+  where
+    same : (rows : TenantRows) (machine : Option (List ℕ))
+        → is_machine (home_choice (machine_place rows machine)) ≡ is_some machine
+    same rows None = refl
+    same rows (Some name) = refl
 
 -- where names differ, the name at a place is looked up at that place
 pub node_under-own : (names : List (List ℕ)) (nodes : List NodeId) (other : NodeId) (place : ℕ)

@@ -1,6 +1,6 @@
 //! Edits of a net, each with what it takes away and brings.
 ghost use Rattle.std.specs.Prelude.{◌≡◌, ◌≢◌, ◌+◌, ◌^◌, ◌<◌, ◌≤◌, None, Some, [], ◌∷◌, ◌++◌, vec_len, vec_capacity};
-ghost use Rattle.std.specs.Prelude.{length, map, true, IsTrue, nat_lt, if◌then◌else◌, All, Contains};
+ghost use Rattle.std.specs.Prelude.{length, map, true, nat_lt, if◌then◌else◌, All, Contains};
 ghost use Rattle.firm_arena.specs.Arena.{capacity_of};
 ghost use Rattle.firm_net.specs.Row.{Row};
 ghost use Rattle.firm_net.specs.Net.{IsNet, IsNode, lists_at, row_at, out_list, in_list, added_of, node_count};
@@ -96,21 +96,7 @@ pub(crate) fn lead(net: &mut Net, arc: ArcId, head: NodeId)
     ensures added { added_of net.new ≤ added_of net.old }
     ensures net { IsNet net.new }
 {
-    if leads_to(net, arc, head) {
-        return;
-    }
     net.retarget(arc, head);
-}
-
-/// Whether an arc leads to a node.
-pub(crate) fn leads_to(net: &Net, arc: ArcId, head: NodeId) -> bool
-    ensures there { IsTrue result → (row : Row) → row_at net.now arc ≡ Some row → row.head ≡ head }
-    ensures net { IsNet net.now }
-{
-    let Some(row) = net.arc(arc) else {
-        return false;
-    };
-    row.head() == head
 }
 
 /// Adds a value to a list with room for it.

@@ -1,6 +1,6 @@
 //! The arcs of tasks that start, move, or are thrown out of their machine.
 ghost use Rattle.std.specs.Prelude.{◌≡◌, ◌≤◌, ◌<◌, ◌+◌, length, slice_index_or, min, List, ℕ, Option, None, Some};
-ghost use Rattle.std.specs.Prelude.{if◌then◌else◌, map, All, position, bytes_eq, slice_set, true, IfSome};
+ghost use Rattle.std.specs.Prelude.{if◌then◌else◌, map, All, position, bytes_eq, slice_set, true, IfSome, is_some};
 ghost use Rattle.std.specs.List.{AllZip};
 ghost use Rattle.firm_rules.specs.Limits.{longest_patience};
 ghost use Rattle.firm_rules.specs.Book.{is_on, evicted, machine_names};
@@ -11,7 +11,7 @@ ghost use Rattle.firm_graph.specs.Graph.{Graph as GraphRow, Mirrors, weight_unde
 ghost use Rattle.firm_graph.specs.inner.Steps.{IsPlacing, IsFitting, Stands, moved, refitted, with_task_at, task_at};
 ghost use Rattle.firm_graph.specs.inner.Steps.{with_forgetting_at, forgetting_rows, thrown_out_first};
 
-use crate::edits::{away_cost, lead, leads_to, rate, rate_preferred, unlink};
+use crate::edits::{away_cost, lead, rate, rate_preferred, unlink};
 use crate::ids::{MachineIds, Stand, TaskParts};
 use firm_net::{Net, NodeId};
 use firm_rules::{Choice, Name, Rows};
@@ -130,7 +130,8 @@ pub(crate) struct Heads<'a> {
     pub(crate) hub: NodeId,
 }
 
-/// Gives the arcs of all tasks those that go with the choices of a round.
+/// Gives the arcs of all tasks those that go with the choices of a round. Most tasks stay on their machines, and keep
+/// all.
 pub(crate) fn settle_tasks(
     net: &mut Net,
     rows: &Rows,
@@ -146,14 +147,18 @@ pub(crate) fn settle_tasks(
         → g.machines ≡ heads.now.machines.now → g.tasks ≡ tasks.now → g.hub ≡ heads.now.hub
         → Mirrors (moved g (rows_after g.rows choices.now) net.new) }
 {
+    rows.limits();
     for (place, choice) in choices.iter().enumerate() {
+        if rows.case().stays(place, *choice) {
+            continue;
+        }
         let stand = stand_of(rows, heads, place, *choice);
         settle_task(net, rows, &tasks[place], place, stand);
     }
 }
 
-// Gives the arcs of the task at a place the ends, capacities and costs of one that stands so after a round. Most tasks
-// stay on their machines, and keep all; for one that goes on waiting its wait alone costs more.
+// Gives the arcs of the task at a place the ends, capacities and costs of one that stands so after a round. For one
+// that goes on waiting its wait alone costs more.
 fn settle_task(net: &mut Net, rows: &Rows, parts: &TaskParts, place: usize, stand: Stand)
     requires place { place < length rows.now.tasks }
     requires waited { stand.waited ≤ longest_patience }
@@ -162,21 +167,15 @@ fn settle_task(net: &mut Net, rows: &Rows, parts: &TaskParts, place: usize, stan
         → task_at g.rows place ≡ task_at rows.now place
         → Mirrors (moved g (with_task_at g.rows place home stand.waited) net.new) }
 {
-    let Some(task) = rows.task_at(place) else {
-        unreachable!()
-    };
-    let runs = task.machine.is_some();
-    let is_led = leads_to(net, parts.arcs.stay, stand.node);
-    if runs != stand.runs || !is_led {
+    if is_running(rows, place) || stand.runs {
         place_task(net, rows, *parts, place, stand);
         return;
     }
-    if task.waited == stand.waited {
+    if rows.waited_at(place) == stand.waited {
         return;
     }
-    let leaving = where_runs(stand.runs, rows.limits().churn() as u32);
     let weight = weight_of(rows, place);
-    rate(net, parts.arcs.wait, 1, weight + stand.waited + leaving);
+    rate(net, parts.arcs.wait, 1, weight + stand.waited);
 }
 
 /// Where the stay arc of a task leads that runs on the machine of this name, or waits.
@@ -230,10 +229,24 @@ fn waited_after(rows: &Rows, place: usize) -> u32
     ensures value { result ≡ min rows.now.limits.patience ((task_at rows.now place).waited + 1) }
     ensures most { result ≤ longest_patience }
 {
-    let Some(task) = rows.task_at(place) else {
-        unreachable!()
-    };
-    task.next_wait(rows.limits().patience())
+    let waited = rows.waited_at(place);
+    let patience = rows.limits().patience();
+    if u64::from(waited) < patience {
+        waited + 1
+    } else {
+        patience as u32
+    }
+}
+
+// Whether the task at a place runs.
+fn is_running(rows: &Rows, place: usize) -> bool
+    requires { place < length rows.now.tasks }
+    ensures { result ≡ is_some (task_at rows.now place).machine }
+{
+    match rows.case().home(place) {
+        Choice::On(_) => true,
+        Choice::Wait => false,
+    }
 }
 
 // Whether the task at a place runs on the machine of a name.

@@ -6,8 +6,19 @@ use Rattle.firm_graph.specs.declared.ids.TaskParts.{TaskParts}
 use Rattle.firm_graph.specs.Graph.{Mirrors}
 use Rattle.firm_graph.specs.inner.Steps.{moved}
 use Rattle.firm_graph.proofs.Firsts.{settle-end}
-use Rattle.firm_graph.proofs.Turns.{settle-next}
+use Rattle.firm_graph.proofs.Turns.{settle-next, stay-next}
 use Rattle.firm_graph.proofs.moves.settle_tasks.Goals as goal
+
+pub loop-place-preserved-then-stays : goal.loop-place-preserved-then-stays
+loop-place-preserved-then-stays c = record {
+  so_far = λ g mirrors net_is rows_is machines_is tasks_is hub_is.
+      let here : c.loop-place.place < length c.args.rows.now.tasks = omega arith in
+      stay-next g c.args.rows.now c.case.result.now c.args.choices.now c.loop-place.place _ c.loop-place.net rows_is
+      c.case.ensures c.limits.ensures.form c.requires.places c.requires.one_each here
+      (get_or_default c.args.choices.now c.loop-place.place Wait _ c.loop-place-test.true)
+      (sym c.stays.ensures ∙ c.if-stays.true)
+      (c.loop-place.invariant.so_far g mirrors net_is rows_is machines_is tasks_is hub_is);
+}
 
 pub loop-place-preserved : goal.loop-place-preserved
 loop-place-preserved c = record {
