@@ -1,8 +1,9 @@
 //! A placement while it is made: the way that each task takes, what stands on each machine, and the places' prices.
 
 use crate::numbers::{NONE, Numbers};
-use crate::table::{Span, Table, Way};
+use crate::table::{Span, Table, TaskRow, Way};
 use std::alloc::{AllocError, Global};
+use std::mem;
 
 /// A price that no task pays: that of a full machine until a task on it had rather go.
 pub(crate) const FULL: u32 = 1 << 30;
@@ -57,6 +58,28 @@ pub(crate) struct Draft {
     // The tasks at each place that may move, as a list in both directions: the first at each, and where each stands.
     first: Numbers,
     spots: Vec<Spot>,
+}
+
+/// The ways that tasks take, the prices and the loads of a draft, set aside.
+#[derive(Drop)]
+pub(crate) struct Aside {
+    taken: Numbers,
+    prices: Numbers,
+    loads: Numbers,
+}
+
+impl Aside {
+    /// Room for this many tasks and machines together.
+    pub(crate) fn new(alloc: Global, nodes: usize) -> Result<Aside, AllocError> {
+        let taken = Numbers::new(alloc, nodes)?;
+        let prices = Numbers::new(alloc, nodes)?;
+        let loads = Numbers::new(alloc, nodes)?;
+        Ok(Aside {
+            taken,
+            prices,
+            loads,
+        })
+    }
 }
 
 impl Draft {
@@ -158,12 +181,21 @@ impl Draft {
         self.paid(way) == self.paid_by(table, way.task)
     }
 
-    /// Whether no machine costs the task less than others, and going to any and waiting cost it different amounts.
+    /// Whether it is told without its ways that only one of them costs the task no more than it pays. The hub's price
+    /// is read once for all tasks.
     #[inline(always)]
-    pub(crate) fn has_one_way(&self, table: &Table, task: u32) -> bool {
-        let ways = table.ways_of(task);
-        ways.from.saturating_add(2) == ways.to
-            && self.paid(table.way(ways.from)) != table.wait(task)
+    pub(crate) fn has_one_way(&self, task: u32, row: &TaskRow, hub_price: u32) -> bool {
+        let wide = row.away.saturating_add(hub_price);
+        let wait = row.wait;
+        if row.is_plain() {
+            return wide != wait;
+        }
+        if !row.is_near_home_only() {
+            return false;
+        }
+        let own = self.price(row.home);
+        let is_home = self.taken(task) == row.own_way();
+        own != wide && own != wait && (is_home || wide != wait)
     }
 
     /// Where the task is, `NONE` while it is left out.
@@ -179,11 +211,13 @@ impl Draft {
             way: NONE,
             paid: NONE,
         };
-        for way in ways.from..ways.to {
-            let paid = self.paid(table.way(way));
-            if paid < best.paid && way != but {
-                best = Offer { way, paid };
+        let mut number = ways.from;
+        for way in table.ways_in(ways) {
+            let paid = self.paid(*way);
+            if paid < best.paid && number != but {
+                best = Offer { way: number, paid };
             }
+            number = number.saturating_add(1);
         }
         best
     }
@@ -211,6 +245,13 @@ impl Draft {
     #[inline(always)]
     pub(crate) fn may_leave(&self, table: &Table, machine: u32) -> bool {
         self.loads.at(machine) > 0 && self.last_slot_cost(table, machine) >= self.prices.at(machine)
+    }
+
+    /// Exchanges the ways that tasks take, the prices and the loads for those that were set aside.
+    pub(crate) fn exchange(&mut self, aside: &mut Aside) {
+        mem::swap(&mut self.taken, &mut aside.taken);
+        mem::swap(&mut self.prices, &mut aside.prices);
+        mem::swap(&mut self.loads, &mut aside.loads);
     }
 
     /// Leaves out each task, and empties each machine.
@@ -253,9 +294,9 @@ impl Draft {
         }
     }
 
-    /// Puts the task on the list of its place.
-    pub(crate) fn enter(&mut self, table: &Table, task: u32) {
-        let place = self.place_of(table, task);
+    /// Puts the task on the list of the place where it is.
+    #[inline(always)]
+    pub(crate) fn enter(&mut self, task: u32, place: u32) {
         let next = self.first.at(place);
         if let Some(spot) = self.spots.get_mut(task as usize) {
             *spot = Spot {
@@ -290,13 +331,13 @@ impl Draft {
     }
 
     /// Has a task that is on a list go another way.
-    pub(crate) fn turn(&mut self, table: &Table, way: u32) {
-        let task = table.way(way).task;
+    pub(crate) fn turn(&mut self, table: &Table, number: u32) {
+        let Way { task, place, .. } = table.way(number);
         if self.taken.at(task) != NONE {
             self.leave(task);
         }
-        self.taken.set(task, way);
-        self.enter(table, task);
+        self.taken.set(task, number);
+        self.enter(task, place);
     }
 
     /// Makes a step of a path.

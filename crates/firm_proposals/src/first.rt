@@ -107,21 +107,20 @@ impl First {
     // The first place that the task can have, where that is told at once: it is on its own machine, or no machine costs
     // it less than others, and it had rather wait or a unit from the hub is left for it. Else `NONE`.
     fn told_place(&mut self, table: &Table, draft: &mut Draft, task: u32) -> u32 {
-        let (taken, ways) = (draft.taken(task), table.ways_of(task));
-        let home = table.home(task);
-        if home != NONE && taken == ways.from {
-            return home;
+        let row = table.row(task);
+        let taken = draft.taken(task);
+        if row.home != NONE && taken == row.own_way() {
+            return row.home;
         }
-        let hub_way = ways.from;
-        let wait_way = hub_way.saturating_add(1);
-        if wait_way.saturating_add(1) != ways.to {
+        if !row.is_plain() {
             return NONE;
         }
-        if taken == wait_way && !draft.is_tight(table, hub_way) {
+        let wide = row.away.saturating_add(draft.price(table.hub()));
+        if taken == row.wait_way() && wide != row.wait {
             return table.outside();
         }
         let machine = self.first_alive(table, draft);
-        if taken != hub_way || !draft.is_loose(machine) {
+        if taken != row.hub_way() || !draft.is_loose(machine) {
             return NONE;
         }
         self.hold(table, draft, machine, time_of(table, task));
@@ -132,7 +131,8 @@ impl First {
     fn place_for(&mut self, table: &Table, draft: &mut Draft, task: u32, work: &mut Work) -> u32
         ensures most { work.new.most ≡ work.old.most }
     {
-        let (own, wait) = (table.own_way(task), table.wait_way(task));
+        let row = table.row(task);
+        let (own, wait) = (row.own_way(), row.wait_way());
         let begun = time_of(table, task);
         if own != NONE
             && self.turn_to(
@@ -145,11 +145,11 @@ impl First {
                 work,
             )
         {
-            return table.home(task);
+            return row.home;
         }
         let machine = self.machine_for(table, draft, task, work);
         if machine != NONE {
-            if draft.taken(task) == table.hub_way(task) {
+            if draft.taken(task) == row.hub_way() {
                 self.hold(table, draft, machine, begun);
             }
             return machine;
@@ -165,7 +165,8 @@ impl First {
     fn machine_for(&mut self, table: &Table, draft: &mut Draft, task: u32, work: &mut Work) -> u32
         ensures most { work.new.most ≡ work.old.most }
     {
-        let preferred = table.preferred_ways(task);
+        let row = table.row(task);
+        let preferred = row.preferred_ways();
         let mut next = next_tight(table, draft, preferred);
         let mut at_hub = AtHub::before(table, draft, task);
         if next == NONE && at_hub == AtHub::No {
@@ -187,10 +188,10 @@ impl First {
                 next = next_tight(table, draft, behind);
             } else if machine >= table.machines() || at_hub == AtHub::No {
                 return NONE;
-            } else if table.is_near(task, machine) || !self.is_alive(table, draft, machine) {
+            } else if table.is_near(row, machine) || !self.is_alive(table, draft, machine) {
                 machine = machine.saturating_add(1);
             } else if at_hub == AtHub::Unasked {
-                let at = table.hub_way(task);
+                let at = row.hub_way();
                 let time = begun.saturating_add(machine);
                 at_hub = AtHub::of(self.turn_to(table, draft, Trial { at, time }, work));
             } else {
@@ -304,6 +305,11 @@ impl First {
             self.ahead.read(table, draft, &self.links);
             self.behind.read(table, draft, &self.links);
         }
+        if self.is_dead_end(table, draft, wish.from) {
+            // A search would see no other place.
+            self.classes.part_one(wish.from, wish.time);
+            return false;
+        }
         let met = self.meet(table, draft, wish, work);
         if met == NONE {
             return false;
@@ -311,6 +317,15 @@ impl First {
         self.ahead.make(table, draft, met);
         self.behind.make(table, draft, met);
         true
+    }
+
+    // Whether this is a machine from which nothing leads on: no task, and no unit to the outside or the hub.
+    fn is_dead_end(&self, table: &Table, draft: &Draft, place: u32) -> bool {
+        let hub = table.hub();
+        place < hub
+            && draft.first(place) == NONE
+            && !self.links.leads_outside(draft, place)
+            && (draft.price(place) != draft.price(hub) || !draft.is_loose(place))
     }
 
     // Looks from both ends in turn. Gives the place where they meet; `NONE` if they don't.
@@ -327,11 +342,11 @@ impl First {
             turn: 1,
             now: self.now,
         };
-        self.ahead.begin(view, wish.from);
-        self.behind.begin(view, wish.to);
+        self.ahead.begin(&view, wish.from);
+        self.behind.begin(&view, wish.to);
         // Once more than looks are left, so that a lack of them is told.
         for _ in 0..work.left().saturating_add(1) {
-            match self.ahead.look(view, &self.behind, work) {
+            match self.ahead.look(&view, &self.behind, work) {
                 Found::On => {}
                 Found::Met(place) => return place,
                 Found::Closed => {
@@ -340,7 +355,7 @@ impl First {
                 }
                 Found::Short => return NONE,
             }
-            match self.behind.look(view, &self.ahead, work) {
+            match self.behind.look(&view, &self.ahead, work) {
                 Found::On => {}
                 Found::Met(place) => return place,
                 Found::Closed => {
@@ -358,7 +373,7 @@ impl First {
 impl AtHub {
     // As it is before a search.
     fn before(table: &Table, draft: &Draft, task: u32) -> AtHub {
-        let way = table.hub_way(task);
+        let way = table.row(task).hub_way();
         if draft.taken(task) == way {
             AtHub::Yes
         } else if draft.is_tight(table, way) {

@@ -7,8 +7,8 @@
 //! allowed; none is made that is not counted. A proposal has a choice for each task, an amount and a class for each
 //! machine, and a class for waiting (`specs/Proposed.antt`). No clause says that a round is proposed, or shown. A
 //! proposer takes its memory when it is made, for all rounds within a tenant's limits, and keeps of a round its last
-//! proposal: its price of the hub is the first that the next one tries. `first_best` of firm_canon asks for one in each
-//! round.
+//! proposal, whose price of the hub the next one may try, and which of two prices that one is to try first.
+//! `first_best` of firm_canon asks for one in each round.
 //!
 //! So that this needs few proofs, no table is read by an index that has to be in range: past its end a table of
 //! `Numbers` has `NONE`, where nothing is written. Sums saturate. Loops go over a span, or as long as a look is left. A
@@ -19,8 +19,9 @@
 //! to the hub, outside. `Draft` has the way that each task takes, the loads, and a price for each place.
 //!
 //! 1. **Market** (`market.rt`): what the tasks do at one price of the hub. Prices of machines fall from it until no
-//!    task on them had rather go. The price of the last round is tried first, then one at which as many tasks had
-//!    rather pay than wait as there are slots that cost no more.
+//!    task on them had rather go. Two prices are tried: one at which as many tasks had rather pay than wait as there
+//!    are slots that cost no more, and that of the last round. The one that was better when both were last tried comes
+//!    first; if it is right the other is not tried.
 //! 2. **Least** (`least.rt`, `paths.rt`): who may as well wait does so from the last task on. Tasks that found no slot
 //!    are sent, and units that the hub lacks are pulled, first over ways that cost nothing more: a sweep, in which what
 //!    led nowhere once is dead. Where no such way is left, one search for a shortest path from all of them has prices

@@ -1,11 +1,12 @@
 //! What the tasks do at a price of the hub: prices of machines fall from it until no task on them had rather go.
 ghost use Rattle.std.specs.Prelude.{◌≡◌};
 
-use crate::draft::{Draft, FULL};
+use crate::draft::{Aside, Draft, FULL};
 use crate::numbers::{NONE, Stack};
-use crate::table::{Span, Table};
+use crate::table::{Span, Table, TaskRow};
 use crate::work::Work;
 use std::alloc::{AllocError, Global};
+use std::mem;
 
 /// How often prices fall at most; then the tasks that prefer machines are left out.
 const MOST_PASSES: u32 = 64;
@@ -109,6 +110,9 @@ pub(crate) struct Traders {
     near: Stack,
     waiting: Stack,
     stands: Vec<Stand>,
+    // What another trade made, set aside.
+    other_stands: Vec<Stand>,
+    aside: Aside,
 }
 
 impl Traders {
@@ -117,12 +121,22 @@ impl Traders {
         let near = Stack::new(alloc, nodes)?;
         let waiting = Stack::new(alloc, nodes)?;
         let stands = vec![in alloc; Stand::Settled; nodes]?;
+        let other_stands = vec![in alloc; Stand::Settled; nodes]?;
+        let aside = Aside::new(alloc, nodes)?;
         Ok(Traders {
             movers,
             near,
             waiting,
             stands,
+            other_stands,
+            aside,
         })
+    }
+
+    /// Sets aside what the last trade made, and brings back what was set aside before.
+    pub(crate) fn set_aside(&mut self, draft: &mut Draft) {
+        mem::swap(&mut self.stands, &mut self.other_stands);
+        draft.exchange(&mut self.aside);
     }
 
     pub(crate) fn read(&mut self, table: &Table) {
@@ -130,17 +144,16 @@ impl Traders {
         self.near.clear();
         self.waiting.clear();
         for task in 0..table.tasks() {
-            if table.is_plain(task) {
+            let row = table.row(task);
+            if row.is_plain() {
                 continue;
             }
-            let runs = table.home(task) != NONE;
-            let preferred = table.preferred_ways(task);
-            let prefers = preferred.from < preferred.to;
             self.movers.push(task);
-            if prefers {
-                self.near.push(task);
+            if row.is_near_home_only() {
+                continue;
             }
-            if prefers && !runs {
+            self.near.push(task);
+            if row.home == NONE {
                 self.waiting.push(task);
             }
         }
@@ -201,10 +214,10 @@ impl Traders {
         draft.set_price(table.hub(), price);
         for at in 0..self.movers.count() {
             let task = self.movers.at(at);
-            let home = table.home(task);
-            if home != NONE {
-                draft.take(task, table.own_way(task));
-                draft.add_load(home);
+            let row = table.row(task);
+            if row.home != NONE {
+                draft.take(task, row.own_way());
+                draft.add_load(row.home);
             }
         }
         for machine in 0..table.machines() {
@@ -217,12 +230,16 @@ impl Traders {
     fn fall(&self, table: &Table, draft: &mut Draft, work: &mut Work)
         ensures most { work.new.most ≡ work.old.most }
     {
+        let hub_price = draft.price(table.hub());
         let mut falls = false;
         for at in 0..self.movers.count() {
             if !work.look() {
                 return;
             }
-            falls = yields(table, draft, self.movers.at(at)) || falls;
+            let task = self.movers.at(at);
+            if !is_content(table, draft, task, hub_price) {
+                falls = yields(table, draft, task) || falls;
+            }
         }
         for _ in 0..MOST_PASSES {
             if !falls {
@@ -257,11 +274,12 @@ fn top_price(table: &Table, draft: &Draft, machine: u32) -> u32 {
 // Puts a task that prefers this many machines on the cheapest of them, the one that fewest prefer, if that is no
 // dearer than any machine is.
 fn prefer(table: &Table, draft: &mut Draft, task: u32, count: u32) {
-    let preferred = table.preferred_ways(task);
+    let row = table.row(task);
+    let preferred = row.preferred_ways();
     if preferred.to.saturating_sub(preferred.from) != count {
         return;
     }
-    let best = draft.cheapest(table, table.ways_of(task), NONE);
+    let best = draft.cheapest(table, row.ways, NONE);
     if best.way >= preferred.to {
         return;
     }
@@ -287,6 +305,15 @@ fn least_wanted(table: &Table, draft: &Draft, ways: Span, paid: u32) -> u32 {
         }
     }
     best
+}
+
+// Whether it is told without its ways that a task does not yield: only its own machine costs it less than others, and
+// it as well stays there.
+#[inline(always)]
+fn is_content(table: &Table, draft: &Draft, task: u32, hub_price: u32) -> bool {
+    let row = table.row(task);
+    let wide = row.away.saturating_add(hub_price);
+    row.is_near_home_only() && draft.price(row.home) <= wide.min(row.wait)
 }
 
 // Whether the task had rather leave its machine: then the machine's price falls to what holds it or, where no slot is
@@ -336,49 +363,52 @@ fn forget(table: &Table, draft: &mut Draft) {
 // at the hub's price.
 #[inline(always)]
 fn settle(table: &Table, draft: &mut Draft, task: u32, price: u32) -> Stand {
-    let ways = table.ways_of(task);
-    let hub_way = ways.to.saturating_sub(2);
-    if ways.from == hub_way {
-        return settle_plain(table, draft, task, hub_way, price);
+    let row = table.row(task);
+    let is_out = draft.taken(task) == NONE;
+    if is_out && row.is_plain() {
+        return settle_plain(row, draft, task, price);
     }
-    settle_mover(table, draft, task, price)
-}
-
-// For a task that no machine costs less than others, which is left out.
-#[inline(always)]
-fn settle_plain(table: &Table, draft: &mut Draft, task: u32, hub_way: u32, price: u32) -> Stand {
-    let wide = table.way(hub_way).cost.saturating_add(price);
-    let wait = table.wait(task);
-    if wait < wide {
-        draft.take(task, hub_way.saturating_add(1));
-        return Stand::Settled;
-    }
-    draft.take(task, hub_way);
-    if wait > wide { Stand::Sure } else { Stand::Tie }
-}
-
-// For a task that some machines may cost less than others.
-fn settle_mover(table: &Table, draft: &mut Draft, task: u32, price: u32) -> Stand {
-    let stand = if draft.taken(task) == NONE {
+    let stand = if is_out {
         settle_near(table, draft, task)
     } else {
         Stand::Settled
     };
-    let home = table.home(task);
-    if home != NONE
-        && draft.price(home) == price
-        && draft.taken(task) == table.own_way(task)
-        && table.wait(task) == price
-    {
-        return Stand::HomeTie;
+    if is_home_tie(row, draft, task, price) {
+        Stand::HomeTie
+    } else {
+        stand
     }
-    stand
 }
 
-// For such a task that is left out.
+// Whether the task is on its own machine, pays the hub's price, and as well waits.
+#[inline(always)]
+fn is_home_tie(row: &TaskRow, draft: &Draft, task: u32, price: u32) -> bool {
+    row.home != NONE
+        && draft.price(row.home) == price
+        && row.wait == price
+        && draft.taken(task) == row.own_way()
+}
+
+// For a task that no machine costs less than others.
+#[inline(always)]
+fn settle_plain(row: &TaskRow, draft: &mut Draft, task: u32, price: u32) -> Stand {
+    let wide = row.away.saturating_add(price);
+    if row.wait < wide {
+        draft.take(task, row.wait_way());
+        return Stand::Settled;
+    }
+    draft.take(task, row.hub_way());
+    if row.wait > wide {
+        Stand::Sure
+    } else {
+        Stand::Tie
+    }
+}
+
+// For a task that some machines may cost less than others.
 fn settle_near(table: &Table, draft: &mut Draft, task: u32) -> Stand {
-    let ways = table.ways_of(task);
-    let hub_way = table.hub_way(task);
+    let row = table.row(task);
+    let (ways, hub_way) = (row.ways, row.hub_way());
     let best = draft.cheapest(table, ways, NONE);
     if best.way > hub_way {
         draft.take(task, best.way);
@@ -394,7 +424,7 @@ fn settle_near(table: &Table, draft: &mut Draft, task: u32) -> Stand {
         draft.add_load(table.way(way).place);
         return Stand::Settled;
     }
-    let is_sure = table.wait(task) > best.paid;
+    let is_sure = row.wait > best.paid;
     let is_at_hub = draft.paid(table.way(hub_way)) == best.paid;
     if is_at_hub {
         draft.take(task, hub_way);

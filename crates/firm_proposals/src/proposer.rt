@@ -63,7 +63,7 @@ impl Proposer {
     }
 
     /// The round's placement, if one is proposed with the work that is left and shown to be it; the price of going to
-    /// any machine in the proposal before is tried first. `None` says nothing of the round. The check takes no look.
+    /// any machine in the proposal before may be tried. `None` says nothing of the round. The check takes no look.
     pub fn first(&mut self, case: &Case, work: &mut Work) -> Option<&[Choice]>
         ensures first { IfSome result (λ placement. IsRound case.now placement.now) }
         ensures most { work.new.most ≡ work.old.most }
@@ -79,9 +79,9 @@ impl Proposer {
         }
     }
 
-    /// Proposes a placement and rents in levels for a round, with the work that is left. Tries `hint` first as the
-    /// price of going to any machine, as `hub_price` gave it for the round before. Where the answer is no, nothing is
-    /// proposed; where it is yes, `shows_first` judges what is.
+    /// Proposes a placement and rents in levels for a round, with the work that is left. May try `hint` as the price of
+    /// going to any machine, as `hub_price` gave it for the round before. Where the answer is no, nothing is proposed;
+    /// where it is yes, `shows_first` judges what is.
     pub fn propose(&mut self, case: &Case, hint: Option<u32>, work: &mut Work) -> bool
         ensures most { work.new.most ≡ work.old.most }
         ensures limits { self.new.limits ≡ self.old.limits }

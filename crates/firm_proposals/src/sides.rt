@@ -195,7 +195,7 @@ impl Side {
     }
 
     /// Begins a search at a place.
-    pub(crate) fn begin(&mut self, view: View, place: u32) {
+    pub(crate) fn begin(&mut self, view: &View, place: u32) {
         self.seen.clear();
         self.near.clear();
         self.entered = 0;
@@ -226,13 +226,13 @@ impl Side {
     }
 
     #[inline(always)]
-    fn has_seen(&self, view: View, place: u32) -> bool {
+    fn has_seen(&self, view: &View, place: u32) -> bool {
         self.mark(place).search == view.search
     }
 
     /// Looks at what comes next, up to a new place that leads on.
     #[inline(always)]
-    pub(crate) fn look(&mut self, view: View, other: &Side, work: &mut Work) -> Found
+    pub(crate) fn look(&mut self, view: &View, other: &Side, work: &mut Work) -> Found
         ensures most { work.new.most ≡ work.old.most }
     {
         let place = if !self.units.are_none() {
@@ -265,7 +265,7 @@ impl Side {
 
     // Looks at a link of units of the machine that was seen last; gives the place at its other end if that is new, else
     // `NONE`.
-    fn look_at_unit(&mut self, view: View, work: &mut Work) -> u32
+    fn look_at_unit(&mut self, view: &View, work: &mut Work) -> u32
         ensures most { work.new.most ≡ work.old.most }
     {
         if !work.look() {
@@ -281,7 +281,7 @@ impl Side {
     }
 
     // Goes into the next machine that leads on, and says whether there is one.
-    fn goes_on(&mut self, view: View) -> bool {
+    fn goes_on(&mut self, view: &View) -> bool {
         for next in self.entered..self.near.count() {
             self.entered = next.saturating_add(1);
             let place = self.near.at(next);
@@ -294,7 +294,7 @@ impl Side {
     }
 
     // Looks whether the hub or the outside is left.
-    fn look_far(&mut self, view: View, work: &mut Work) -> Found
+    fn look_far(&mut self, view: &View, work: &mut Work) -> Found
         ensures most { work.new.most ≡ work.old.most }
     {
         if !work.look() {
@@ -312,7 +312,7 @@ impl Side {
     // gives; `NONE` if there is none. One of another class is forgotten: classes that were parted stay so. Behind the
     // machines come the tasks.
     #[inline(always)]
-    fn look_round(&mut self, view: View, other: &Side, walk: &mut Walk, work: &mut Work) -> u32
+    fn look_round(&mut self, view: &View, other: &Side, walk: &mut Walk, work: &mut Work) -> u32
         ensures most { work.new.most ≡ work.old.most }
     {
         if walk.machines == 0 {
@@ -347,7 +347,7 @@ impl Side {
 
     // Whether a unit may go between the hub or the outside and a machine.
     #[inline(always)]
-    fn goes(&self, view: View, is_hub: bool, machine: u32) -> bool {
+    fn goes(&self, view: &View, is_hub: bool, machine: u32) -> bool {
         let (links, draft) = (view.links, view.draft);
         match (is_hub, self.is_ahead) {
             (true, true) => true,
@@ -359,7 +359,7 @@ impl Side {
 
     // Looks along a walk, up to a new place, which it gives; `NONE` if there is none.
     #[inline(always)]
-    fn look_along(&mut self, view: View, walk: &mut Walk, work: &mut Work) -> u32
+    fn look_along(&mut self, view: &View, walk: &mut Walk, work: &mut Work) -> u32
         ensures most { work.new.most ≡ work.old.most }
     {
         let from = walk.place;
@@ -381,7 +381,7 @@ impl Side {
 
     // Marks a place as seen by this step, and says whether it is new: it was not seen, and is of the search's class.
     #[inline(always)]
-    fn mark_new(&mut self, view: View, step: Step) -> bool {
+    fn mark_new(&mut self, view: &View, step: Step) -> bool {
         let search = view.search;
         let Some(mark) = self.marks.get_mut(step.to as usize) else {
             return false;
@@ -399,7 +399,7 @@ impl Side {
 
     // Keeps a new place to be gone into, the hub and the outside last.
     #[inline(always)]
-    fn enter(&mut self, view: View, place: u32) {
+    fn enter(&mut self, view: &View, place: u32) {
         self.seen.push(place);
         if place < view.table.hub() {
             self.last = place;
@@ -414,7 +414,7 @@ impl Side {
 
     // Whether there is anything to look at from a machine.
     #[inline(always)]
-    fn leads_on(&self, view: View, machine: u32) -> bool {
+    fn leads_on(&self, view: &View, machine: u32) -> bool {
         let has_links = if self.is_ahead {
             view.draft.first(machine) != NONE
         } else {
@@ -425,7 +425,7 @@ impl Side {
 
     // The walk from a place.
     #[inline(always)]
-    fn walk_from(&mut self, view: View, place: u32) -> Walk {
+    fn walk_from(&mut self, view: &View, place: u32) -> Walk {
         let hub = view.table.hub();
         let machines = if place < hub {
             0
@@ -443,7 +443,7 @@ impl Side {
 
     // A machine's links with the outside and the hub, but for those that were seen.
     #[inline(always)]
-    fn units_of(&self, view: View, machine: u32) -> UnitLinks {
+    fn units_of(&self, view: &View, machine: u32) -> UnitLinks {
         let (links, draft) = (view.links, view.draft);
         let outside = !self.saw_outside
             && if self.is_ahead {

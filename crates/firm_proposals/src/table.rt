@@ -7,8 +7,7 @@ ghost use Rattle.std.specs.Prelude.{◌≡◌, ◌<◌, length};
 ghost use Rattle.firm_proposals.specs.inner.Written.{SameSize};
 
 use crate::numbers::{NONE, Numbers};
-use arrayvec::ArrayVec;
-use firm_rules::{Case, Choice, slot_cost};
+use firm_rules::{Case, Choice, MOST_PREFERENCES, slot_cost};
 use std::alloc::{AllocError, Global};
 
 /// What a task can do: go to a place, at a cost of its own.
@@ -36,6 +35,18 @@ pub(crate) struct Span {
 }
 
 impl Span {
+    /// No number.
+    pub(crate) const NONE: Span = Span {
+        from: NONE,
+        to: NONE,
+    };
+
+    /// Whether there is a number in it.
+    #[inline(always)]
+    pub(crate) fn is_some(self) -> bool {
+        self.from < self.to
+    }
+
     /// As far as up to this number.
     #[inline(always)]
     pub(crate) fn up_to(self, most: u32) -> Span {
@@ -52,16 +63,79 @@ pub(crate) const MOST_SLOTS: u32 = 64;
 /// How often a count of slots can be halved.
 const SLOT_HALVINGS: u32 = 6;
 
+/// A task: the numbers of its ways, the machine that it runs on, `NONE` if it waits, and what going to any machine and
+/// waiting cost it.
+#[derive(Clone, Copy)]
+pub(crate) struct TaskRow {
+    pub(crate) ways: Span,
+    pub(crate) home: u32,
+    pub(crate) away: u32,
+    pub(crate) wait: u32,
+}
+
+impl TaskRow {
+    // No task.
+    const NONE: TaskRow = TaskRow {
+        ways: Span::NONE,
+        home: NONE,
+        away: NONE,
+        wait: NONE,
+    };
+
+    /// Whether no machine costs the task less than others: it does not run, and prefers none.
+    #[inline(always)]
+    pub(crate) fn is_plain(&self) -> bool {
+        self.ways.from.saturating_add(2) == self.ways.to
+    }
+
+    /// Whether only its own machine costs the task less than others: it runs, and prefers no other.
+    #[inline(always)]
+    pub(crate) fn is_near_home_only(&self) -> bool {
+        self.ways.from.saturating_add(3) == self.ways.to && self.home != NONE
+    }
+
+    /// The task's way to its own machine, `NONE` if it waits.
+    #[inline(always)]
+    pub(crate) fn own_way(&self) -> u32 {
+        if self.home == NONE {
+            NONE
+        } else {
+            self.ways.from
+        }
+    }
+
+    /// The numbers of the task's ways to machines that it prefers and does not run on.
+    #[inline(always)]
+    pub(crate) fn preferred_ways(&self) -> Span {
+        let own = if self.home == NONE { 0 } else { 1 };
+        Span {
+            from: self.ways.from.saturating_add(own),
+            to: self.hub_way(),
+        }
+    }
+
+    /// The task's way to any machine.
+    #[inline(always)]
+    pub(crate) fn hub_way(&self) -> u32 {
+        self.ways.to.saturating_sub(2)
+    }
+
+    /// The task's way to the outside.
+    #[inline(always)]
+    pub(crate) fn wait_way(&self) -> u32 {
+        self.ways.to.saturating_sub(1)
+    }
+}
+
 /// What a round is about.
 #[derive(Drop)]
 pub(crate) struct Table {
     ways: Vec<Way>,
     way_count: u32,
-    // Where each task's ways begin, and behind the last task where they end.
-    firsts: Numbers,
-    // The machine that each task runs on, `NONE` if it waits.
-    homes: Numbers,
-    // What each task's wait costs.
+    // One row a task, as most questions about it ask for several of these numbers.
+    rows: Vec<TaskRow>,
+    none: TaskRow,
+    // What each task's wait costs, once more, as a guess of the hub's price counts through all of them.
     waits: Numbers,
     slots: Numbers,
     // How many tasks prefer each machine.
@@ -72,15 +146,11 @@ pub(crate) struct Table {
     slot_costs: Numbers,
 }
 
-/// How many times a machine may be named near a task: as its own, and four times as preferred.
-const MOST_NEAR: usize = 5;
-
 impl Table {
     /// Tables for this many tasks and machines together, and this many ways.
     pub(crate) fn new(alloc: Global, nodes: usize, ways: usize) -> Result<Table, AllocError> {
         let table = vec![in alloc; Way::NONE; ways]?;
-        let firsts = Numbers::new(alloc, nodes)?;
-        let homes = Numbers::new(alloc, nodes)?;
+        let rows = vec![in alloc; TaskRow::NONE; nodes]?;
         let waits = Numbers::new(alloc, nodes)?;
         let slots = Numbers::new(alloc, nodes)?;
         let demands = Numbers::new(alloc, nodes)?;
@@ -88,8 +158,8 @@ impl Table {
         Ok(Table {
             ways: table,
             way_count: 0,
-            firsts,
-            homes,
+            rows,
+            none: TaskRow::NONE,
             waits,
             slots,
             demands,
@@ -136,18 +206,6 @@ impl Table {
         self.demands.at(machine)
     }
 
-    /// The machine that the task runs on, `NONE` if it waits.
-    #[inline(always)]
-    pub(crate) fn home(&self, task: u32) -> u32 {
-        self.homes.at(task)
-    }
-
-    /// What the task's wait costs.
-    #[inline(always)]
-    pub(crate) fn wait(&self, task: u32) -> u32 {
-        self.waits.at(task)
-    }
-
     /// What the waits of all tasks cost.
     pub(crate) fn waits(&self) -> &[u32] {
         self.waits.first(self.tasks)
@@ -162,54 +220,30 @@ impl Table {
         self.way_count
     }
 
+    /// A task's row.
+    #[inline(always)]
+    pub(crate) fn row(&self, task: u32) -> &TaskRow {
+        self.rows.get(task as usize).unwrap_or(&self.none)
+    }
+
     /// The numbers of the task's ways.
     #[inline(always)]
     pub(crate) fn ways_of(&self, task: u32) -> Span {
-        Span {
-            from: self.firsts.at(task),
-            to: self.firsts.at(task.saturating_add(1)),
-        }
+        self.row(task).ways
     }
 
-    /// Whether no machine costs the task less than others: it does not run, and prefers none.
+    /// The ways of these numbers, as far as there are any.
     #[inline(always)]
-    pub(crate) fn is_plain(&self, task: u32) -> bool {
-        let ways = self.ways_of(task);
-        ways.from.saturating_add(2) == ways.to
+    pub(crate) fn ways_in(&self, span: Span) -> &[Way] {
+        let to = self.ways.len().min(span.to as usize);
+        let from = to.min(span.from as usize);
+        &self.ways[from..to]
     }
 
-    /// The numbers of the task's ways to machines that it prefers and does not run on.
-    pub(crate) fn preferred_ways(&self, task: u32) -> Span {
-        let ways = self.ways_of(task);
-        let own = if self.home(task) == NONE { 0 } else { 1 };
-        Span {
-            from: ways.from.saturating_add(own),
-            to: ways.to.saturating_sub(2),
-        }
-    }
-
-    /// The task's way to its own machine, if it runs.
-    pub(crate) fn own_way(&self, task: u32) -> u32 {
-        if self.home(task) == NONE {
-            NONE
-        } else {
-            self.firsts.at(task)
-        }
-    }
-
-    pub(crate) fn hub_way(&self, task: u32) -> u32 {
-        self.ways_of(task).to.saturating_sub(2)
-    }
-
-    pub(crate) fn wait_way(&self, task: u32) -> u32 {
-        self.ways_of(task).to.saturating_sub(1)
-    }
-
-    /// Whether one of the task's ways leads to this machine alone.
-    pub(crate) fn is_near(&self, task: u32, machine: u32) -> bool {
-        let ways = self.ways_of(task);
-        for way in ways.from..ways.to.saturating_sub(2) {
-            if self.way(way).place == machine {
+    /// Whether one of a task's ways leads to this machine alone.
+    pub(crate) fn is_near(&self, row: &TaskRow, machine: u32) -> bool {
+        for number in row.ways.from..row.hub_way() {
+            if self.way(number).place == machine {
                 return true;
             }
         }
@@ -253,11 +287,11 @@ impl Table {
         self.read_slot_costs(case);
         self.read_machines(case);
         self.read_tasks(case);
-        let ways = self.way_count;
+        let ways = self.way_count as usize;
         let machines = self.machines;
-        self.firsts.set(self.tasks, ways);
         let have_machines = machines == 0 || self.slots.at(machines.saturating_sub(1)) != NONE;
-        have_machines && self.firsts.at(self.tasks) == ways && ways as usize <= self.ways.len()
+        let have_tasks = self.tasks as usize <= self.rows.len();
+        have_machines && have_tasks && ways <= self.ways.len()
     }
 
     fn read_slot_costs(&mut self, case: &Case)
@@ -295,8 +329,7 @@ impl Table {
             Choice::On(place) => place,
             Choice::Wait => NONE,
         };
-        self.firsts.set(task, self.way_count);
-        self.homes.set(task, home);
+        let from = self.way_count;
         if home != NONE {
             self.add_way(task, home, 0);
         }
@@ -308,6 +341,15 @@ impl Table {
         self.waits.set(task, wait);
         let outside = self.outside();
         self.add_way(task, outside, wait);
+        let to = self.way_count;
+        if let Some(row) = self.rows.get_mut(number) {
+            *row = TaskRow {
+                ways: Span { from, to },
+                home,
+                away,
+                wait,
+            };
+        }
     }
 
     fn read_preferred(&mut self, case: &Case, task: u32, home: u32)
@@ -315,16 +357,20 @@ impl Table {
         ensures { SameSize self.old self.new }
     {
         let number = task as usize;
-        let near = case.near(number);
-        let mut next = lowest_from(&near, 0, home);
-        for _ in 0..MOST_NEAR {
+        let preferred = case.preferred(number);
+        let mut next = lowest_from(preferred, 0, home);
+        if next == NONE {
+            return;
+        }
+        // All that it prefers and does not run on cost it the same.
+        let cost = case.cost_of_choice(number, Choice::On(next)) as u32;
+        for _ in 0..MOST_PREFERENCES {
+            self.add_way(task, next, cost);
+            self.demands.add(next, 1);
+            next = lowest_from(preferred, next.saturating_add(1), home);
             if next == NONE {
                 return;
             }
-            let cost = case.cost_of_choice(number, Choice::On(next)) as u32;
-            self.add_way(task, next, cost);
-            self.demands.add(next, 1);
-            next = lowest_from(&near, next.saturating_add(1), home);
         }
     }
 
@@ -339,9 +385,9 @@ impl Table {
 }
 
 // The lowest of the places from this one on, but for `home`; `NONE` if there is none.
-fn lowest_from(places: &ArrayVec<u32, MOST_NEAR>, from: u32, home: u32) -> u32 {
+fn lowest_from(places: &[u32], from: u32, home: u32) -> u32 {
     let mut lowest = NONE;
-    for place in places.as_slice() {
+    for place in places {
         if *place >= from && *place != home {
             lowest = lowest.min(*place);
         }

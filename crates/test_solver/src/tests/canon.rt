@@ -429,7 +429,7 @@ fn expect_counts_of(
 #[test]
 fn what_a_round_takes_is_counted(rt: HostRuntime) {
     let small = Limits::check(9, 24, 100, 1, 2, 7);
-    expect_counts_of(&rt, rt.alloc(), small, (2, 2), (3, 47, 6));
+    expect_counts_of(&rt, rt.alloc(), small, (2, 2), (3, 47, 5));
     let large = Limits::check(33, 91, 100, 1, 2, 7);
     expect_counts_of(&rt, rt.alloc(), large, (10, 20), (20, 1321, 40));
 }
