@@ -1,11 +1,11 @@
 """Measures lines a second of the built program, and its memory over a long input.
 
-usage: tools/run bench/lines.py [--program FILE] [--lines N] [--repeats R] [--bytes B] [--rates] [--keep]
+usage: tools/run bench/lines.py [--program FILE] [--lines N] [--repeats R] [--bytes B] [--rates] [--single] [--keep]
 Streams of refused adders, `show`, `where`, and all three in turn, for a tenant of 10 rows and for one of 4,000, from a
 file to a file. Times are processor times (user and system), the least of R runs, less those of a run that only adds
 the rows; where valgrind is installed, also instructions. Every output is checked: its last number is the count of
-lines, or the exit status is 1. The program may be `firm_measure`, which serves on one thread; with `--rates` nothing
-but lines a second is measured.
+lines, or the exit status is 1. With `--single` the program is a `firm_explain`, which measures on one thread; with
+`--rates` nothing but lines a second is measured.
 """
 
 from __future__ import annotations
@@ -22,7 +22,7 @@ from pathlib import Path
 from typing import NamedTuple
 
 import results
-from shared import BUILT, CannotRun, program_file, require, run_script
+from shared import BUILT, EXPLAIN, CannotRun, measuring, program_file, require, run_script
 
 ROSTER = "tenant,nodes,arcs,life,spread,churn\nt,4096,65536,1099511627776,1,2\n"
 TIME = "/usr/bin/time"
@@ -50,11 +50,12 @@ LINES = {
 
 @dataclass(frozen=True)
 class Options:
-    program: str
+    program: str | None
     lines: int
     repeats: int
     bytes: int
     rates: bool
+    single: bool
     keep: bool
 
 
@@ -97,7 +98,8 @@ class Bench:
     def __init__(self, options: Options, folder: Path) -> None:
         self.options, self.folder = options, folder
         (folder / "roster.csv").write_text(ROSTER)
-        self.words = [options.program, "--roster", str(folder / "roster.csv")]
+        program = measuring(options.program or EXPLAIN) if options.single else [options.program or str(BUILT)]
+        self.words = [*program, "--roster", str(folder / "roster.csv")]
 
     def run(self, commands: int) -> Spent:
         """A run on the file `input`; the last reply must have the number of the commands."""
@@ -172,11 +174,12 @@ def print_memory(bench: Bench) -> None:
 
 def read_options() -> Options:
     parser = argparse.ArgumentParser(description=(__doc__ or "").splitlines()[0])
-    parser.add_argument("--program", type=program_file, default=str(BUILT))
+    parser.add_argument("--program", type=program_file)
     parser.add_argument("--lines", type=int, default=1_000_000)
     parser.add_argument("--repeats", type=int, default=5)
     parser.add_argument("--bytes", type=int, default=100_000_000)
     parser.add_argument("--rates", action="store_true", help="nothing but lines a second")
+    parser.add_argument("--single", action="store_true", help="the program is a firm_explain, which measures")
     parser.add_argument("--keep", action="store_true", help=results.HELP)
     return Options(**vars(parser.parse_args()))
 

@@ -31,7 +31,7 @@ import kept
 import results
 from kept import RoundRecord
 from measure import Subjects, build_lemon, read_counts, time_stream
-from shared import BUILT, CannotRun, Missed, built, kinds, program_file, require, run_script
+from shared import BUILT, EXPLAIN, CannotRun, Missed, kinds, measuring, program_file, require, run_script
 
 SIZES = "100x20,500x100,2000x500,3000x1000"
 ONE_WORKER = ("--workers", "1")
@@ -84,11 +84,12 @@ def milliseconds(seconds: float | None) -> str:
 
 def words_of(options: Options) -> tuple[list[str], list[str]]:
     """The first words of the program whose rounds are timed, and of the one that counts."""
+    measure = measuring(options.measure)
     if options.search:
-        return [options.measure, "--search"], [options.measure, "--search"]
+        return [*measure, "--search"], [*measure, "--search"]
     if options.single:
-        return [options.measure], [options.measure]
-    return [options.program, *ONE_WORKER], [options.measure]
+        return measure, measure
+    return [options.program, *ONE_WORKER], measure
 
 
 def measure_stream(options: Options, lemon: str | None, kind: str, size: str) -> list[RoundRecord]:
@@ -200,8 +201,8 @@ def measure_all(options: Options, lemon: str | None, file: TextIO) -> tuple[list
 def read_options() -> Options:
     parser = argparse.ArgumentParser(description=(__doc__ or "").splitlines()[0])
     parser.add_argument("--program", default=str(BUILT), help="the built program (default: %(default)s)")
-    measure = "the built program that says how much each round searched (default: %(default)s)"
-    parser.add_argument("--measure", default=str(built("firm_measure")), help=measure)
+    measure = "the built firm_explain, which counts what each round searched (default: %(default)s)"
+    parser.add_argument("--measure", default=str(EXPLAIN), help=measure)
     beside = "another built program, as of an earlier state: equal output, and its times"
     parser.add_argument("--beside", type=program_file, help=beside)
     parser.add_argument("--sizes", default=SIZES)

@@ -5,12 +5,13 @@ from __future__ import annotations
 from harness import kinds
 from harness.checks import CannotRun, Missed, compile_source, require, run_script
 from harness.kinds import TENANT, Stream, read_size
-from harness.program import BUILT, ROOT, Roster, built, opened, program_file, run
+from harness.program import BUILT, EXPLAIN, ROOT, Roster, built, measuring, opened, program_file, run
 from harness.rows import hear, hear_round, network, open_rows
 
 __all__ = [
     "BUILT",
     "CannotRun",
+    "EXPLAIN",
     "Missed",
     "ROOT",
     "Roster",
@@ -21,6 +22,7 @@ __all__ = [
     "hear",
     "hear_round",
     "kinds",
+    "measuring",
     "network",
     "open_rows",
     "opened",

@@ -4,7 +4,7 @@ usage: tools/run bench/workers.py [--program FILE] [--beside FILE] [--measure FI
                         [--size 500x100] [--rounds N] [--repeats R] [--keep]
 Each tenant has a full cold book and asks its rounds in turn with the others, from a file to a file: the best of R runs,
 less a run that only adds the rows, by the clock on the wall and by processor time. With each number of workers the
-output must be the same, and that of `firm_measure`, the service on one thread, where it is built; the exit status is 1
+output must be the same, and that of `firm_explain measure`, on one thread, where it is built; the exit status is 1
 where one differs. With `--beside` another built program is measured in turn with it. Each row of the table is kept as a
 line of JSON in out/bench/workers.jsonl. bench/live.py measures what one client sees, and an idle service.
 """
@@ -25,7 +25,7 @@ from typing import NamedTuple
 import kept
 import results
 from kept import RateRecord
-from shared import BUILT, built, program_file, read_size, run_script
+from shared import BUILT, EXPLAIN, measuring, program_file, read_size, run_script
 
 HEADING = "tenant,nodes,arcs,life,spread,churn\n"
 TABLE = """\
@@ -106,7 +106,8 @@ def best_of(commands: list[list[str]], repeats: int, path: Path) -> list[Spent]:
 
 
 def services_of(options: Options) -> list[Service]:
-    found = [Service("firm_measure", None, [options.measure])] if Path(options.measure).exists() else []
+    single = Service("firm_explain measure", None, measuring(options.measure))
+    found = [single] if Path(options.measure).exists() else []
     for name, program in (("firm", options.program), ("beside", options.beside)):
         if program:
             counts = options.workers.split(",")
@@ -140,7 +141,8 @@ def read_options() -> Options:
     parser = argparse.ArgumentParser(description=(__doc__ or "").splitlines()[0])
     parser.add_argument("--program", type=program_file, default=str(BUILT))
     parser.add_argument("--beside", type=program_file, help="another built program")
-    parser.add_argument("--measure", default=str(built("firm_measure")), help="left out where it is not there")
+    measure = "the built firm_explain; left out where it is not there"
+    parser.add_argument("--measure", default=str(EXPLAIN), help=measure)
     parser.add_argument("--workers", default="1,2,4")
     parser.add_argument("--tenants", type=int, default=8)
     parser.add_argument("--size", type=read_size, default="500x100", help="tasks and machines of a tenant")

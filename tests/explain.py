@@ -33,7 +33,6 @@ from harness import kinds, program, service
 from harness.checks import CannotRun, Check, Suite, require, run_script, run_suites
 from harness.small_streams import random_stream, with_noise
 
-EXPLAIN = program.built("firm_explain")
 WORKED = program.ROOT / "crates" / "firm_explain"  # with the rounds that docs/EXPLAIN.md works by hand
 MOST_TIMES = 3  # firm's processor time
 TIMED_SECONDS = 1.0  # which firm takes, about, for a stream that is timed
@@ -780,7 +779,7 @@ def main() -> int:
     parser.add_argument("words", nargs="*", metavar="WORD", help="only checks whose names have one of these words")
     parser.add_argument("--quick", action="store_true", help="small streams alone, in half a minute")
     program.add_program(parser)
-    parser.add_argument("--explain", type=program.program_file, default=str(EXPLAIN), metavar="FILE")
+    parser.add_argument("--explain", type=program.program_file, default=str(program.EXPLAIN), metavar="FILE")
     given = parser.parse_args()
     options = Options(given.quick, given.program, given.explain)
     chosen = {

@@ -17,7 +17,6 @@ from functools import partial
 from typing import Iterator
 
 from explain import (
-    EXPLAIN,
     Options,
     Stream,
     explained,
@@ -204,7 +203,7 @@ def main() -> int:
     parser.add_argument("words", nargs="*", metavar="WORD", help="only checks whose names have one of these words")
     parser.add_argument("--quick", action="store_true", help="40 random streams in place of 1,000")
     program.add_program(parser)
-    parser.add_argument("--explain", type=program.program_file, default=str(EXPLAIN), metavar="FILE")
+    parser.add_argument("--explain", type=program.program_file, default=str(program.EXPLAIN), metavar="FILE")
     given = parser.parse_args()
     options = Options(given.quick, given.program, given.explain)
     chosen = {

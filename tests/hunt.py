@@ -98,8 +98,8 @@ def play(measure: str, seeds: Sequence[Seed], is_compared: bool = True) -> list[
     records = [b",".join(FULL_HEADING).decode(), *(book.record(name) for name, book in zip(names, books))]
     text = "".join(book.text(name) for name, book in zip(names, books))
     with program.Roster("".join(f"{record}\n" for record in records).encode()) as roster:
-        replies = answers([measure, "--counts"], roster, text)
-        others = answers([measure, "--search"], roster, text) if is_compared else []
+        replies = answers([*program.measuring(measure), "--counts"], roster, text)
+        others = answers([*program.measuring(measure), "--search"], roster, text) if is_compared else []
     require(len(others) == (text.count("\n") if is_compared else 0), f"{len(others)} replies by searches")
     rounds: dict[str, list[Round]] = {name: [] for name in names}
     for line in replies[text.count("\n") :]:
@@ -235,8 +235,8 @@ class Hunt:
 
 def read_options() -> Options:
     parser = argparse.ArgumentParser(description=(__doc__ or "").splitlines()[0])
-    named = "the built program that says how much each round took (default: %(default)s)"
-    default = str(program.built("firm_measure"))
+    named = "the built firm_explain, which measures rounds (default: %(default)s)"
+    default = str(program.EXPLAIN)
     parser.add_argument("--measure", type=program.program_file, default=default, metavar="FILE", help=named)
     parser.add_argument("--minutes", type=float, default=10)
     parser.add_argument("--seed", type=int, default=1)

@@ -102,7 +102,7 @@ def unpack(package: Path, folder: Path) -> Path:
 def files_are_there(release: ModuleType, root: Path) -> None:
     """Each program has its page and its completions, and systemd takes the units."""
     share = root / "usr/share"
-    for program in (release.PROGRAMS | release.SERVICES).keys() - {release.NO_HELP}:
+    for program in release.PROGRAMS | release.SERVICES:
         page = gzip.decompress((share / f"man/man1/{program}.1.gz").read_bytes()).decode()
         require(page.startswith('.\\" DO NOT MODIFY') and ".SH NAME" in page and "0.1.0+git" in page, page[:200])
         said(["bash", "-n", share / f"bash-completion/completions/{program}"], PATH=os.environ["PATH"])

@@ -25,7 +25,6 @@ from harness.checks import Check, Missed, Suite, require, run_script, run_suites
 from harness.small_streams import random_stream, with_noise
 
 STATE = program.built("firm_state")
-EXPLAIN = program.built("firm_explain")
 WORKERS = ("1", "2", "8")
 MOST_PLACES = 64
 FAULT = re.compile(rb"firm_state: state fault (\d+) ([a-z-]+) in line (\d+)\n")
@@ -553,7 +552,7 @@ def main() -> int:
     parser.add_argument("--quick", action="store_true", help="few and small streams, in some seconds")
     program.add_program(parser)
     parser.add_argument("--state", type=program.program_file, default=str(STATE), metavar="FILE")
-    parser.add_argument("--explain", type=program.program_file, default=str(EXPLAIN), metavar="FILE")
+    parser.add_argument("--explain", type=program.program_file, default=str(program.EXPLAIN), metavar="FILE")
     given = parser.parse_args()
     options = Options(given.quick, given.program, given.state, given.explain)
     chosen = {

@@ -3,9 +3,9 @@
 usage: tools/run tests/worked.py [--program FILE] [WORD..]
 Each text of tests/services is a service: its roster, an empty line, and then what is read; what follows '< ' is
 written. Those of this script have bytes that no such text can hold, or many tenants. Each is played with 1, 2 and 8
-workers, and on one thread by firm_explain, whose reasons are left out, and firm_measure, where they are built. With
-words only the checks whose names have one of them. Each check has a line; the exit status is 1 where one failed. It
-needs a C compiler (cc) for refuse.c, which cuts the input.
+workers, and on one thread by firm_explain, whose reasons are left out, and its measure, where it is built. With words
+only the checks whose names have one of them. Each check has a line; the exit status is 1 where one failed. It needs a C
+compiler (cc) for refuse.c, which cuts the input.
 """
 
 from __future__ import annotations
@@ -18,14 +18,13 @@ from typing import Callable, Iterator, NamedTuple, Sequence
 
 from harness import program
 from harness.checks import CannotRun, Check, Missed, Suite, print_skipped, require, run_script, run_suites
-from harness.program import ROOT, built
+from harness.program import EXPLAIN, ROOT
 
 SERVICES = ROOT / "tests" / "services"
 HEADING = b"tenant,nodes,arcs,life,spread,churn\n"
 WRITTEN = b"< "
 PIECES = (1, 2, 7, 257, 4096)
 WORKERS = ("1", "2", "8")
-ON_ONE_THREAD = ("firm_explain", "firm_measure")
 MOST_TENANTS = 64
 STAYS = 200  # of tenants one after another at one place
 
@@ -214,11 +213,10 @@ def play_all(play: Callable[[Worked], None]) -> None:
 def ways(path: str) -> dict[str, list[str]]:
     """The first words of each way of serving, by its name."""
     found = {f"workers {workers}": [path, "--workers", workers] for workers in WORKERS}
-    for crate in ON_ONE_THREAD:
-        if built(crate).exists():
-            found[crate] = [str(built(crate))]
-        else:
-            print_skipped(crate, f"it is not built: cd crates/{crate} && rt run")
+    if EXPLAIN.exists():
+        found |= {"firm_explain": [str(EXPLAIN)], "firm_explain measure": program.measuring()}
+    else:
+        print_skipped("firm_explain", "it is not built: ./build.py firm_explain")
     return found
 
 

@@ -34,7 +34,6 @@ PROGRAMS = {
     "firm": "places the tasks of many tenants at the lowest cost",
     "firm_explain": "explains each placement of a stream of commands",
     "firm_state": "writes the state behind a stream, a part of it, or two as one",
-    "firm_measure": "measures how long the rounds of a stream take",
 }
 SERVICES = {
     "firmd": "serves firm to many clients",
@@ -67,7 +66,6 @@ case $* in
 esac
 """
 PYTHON = "/usr/bin/python3"  # Debian's, which has its packages
-NO_HELP = "firm_measure"  # it takes the path of a roster, and no other word
 NOTHING_STATUS = 3
 LAST_COMMIT = ("git", "log", "-1", "--date=format:%Y%m%d", "--format=%H %ct %cd %an <%ae>")
 
@@ -167,8 +165,6 @@ def add_manual(top: Path, release: Version) -> None:
     pages = top / "share/man/man1"
     pages.mkdir(parents=True, exist_ok=True)
     for program, purpose in (PROGRAMS | SERVICES).items():
-        if program == NO_HELP:
-            continue
         words = ["--no-info", "--section", "1", "--source", f"firm {release.name}", "--name", purpose]
         words += ["--version-string", release.name]
         path, epoch = f"{top}/bin:{os.environ['PATH']}", str(release.date)
@@ -180,8 +176,6 @@ def add_completions(top: Path) -> None:
     """Completions of bash and zsh."""
     bash, zsh = top / "share/bash-completion/completions", top / "share/zsh/vendor-completions"
     for program in PROGRAMS | SERVICES:
-        if program == NO_HELP:
-            continue
         if program in PARSERS:
             found = [
                 said(PYTHON, "-c", SHTAB, PARSERS[program], shell, PYTHONPATH=str(top / "lib/firm"))

@@ -31,6 +31,12 @@ def built(crate: str) -> Path:
 
 
 BUILT = built("firm")
+EXPLAIN = built("firm_explain")
+
+
+def measuring(explain: str | Path = EXPLAIN) -> list[str]:
+    """The first words of a run of firm_explain that answers on one thread, and may tell how much each round took."""
+    return [str(explain), "measure"]
 
 
 class Run(NamedTuple):

@@ -57,6 +57,22 @@
 //! that reach one another by choices of later tasks (`parts`).
 //!
 //! `witness` follows, for each choice of `--why`, moves that cost nothing by the task's own rents to what the task has.
+//!
+//! # Measuring
+//!
+//! `firm_explain measure --roster FILE`, or with `--state FILE`, answers on one thread without reasons. Its words don't
+//! come to `run`. It is proved safe, and to end; no contract says what it writes.
+//!
+//! ```sh
+//! cd crates/firm_explain/measure/data
+//! firm_explain measure --roster roster.csv < ../stdin             # answers as firm does, without workers
+//! firm_explain measure --counts --roster roster.csv < ../stdin    # the same, and then a line for each round
+//! firm_explain measure --search --roster roster.csv < ../stdin    # tenants' lines alone, rounds without proposals
+//! ```
+//!
+//! A round's line, as `alpha 2 29 0`, has the tenant's name, the round's path searches, their looks, and the looks of
+//! its proposals. For these lines each tenant that the service opens with, but none that a line admits, answers its own
+//! lines once more (`replay`). With `--counts` or `--search` the whole input is read first.
 #![tactic(auto)]
 
 mod choices;
@@ -66,6 +82,7 @@ mod explainer;
 mod ladder;
 mod leaving;
 mod market;
+mod measure;
 mod moves;
 mod numbers;
 mod options;
@@ -73,6 +90,7 @@ mod order_line;
 mod parts;
 mod program;
 mod reasons;
+mod replay;
 mod rows;
 mod text;
 mod why;
@@ -80,6 +98,7 @@ mod witness;
 
 use firm_program::{arguments, refuse_words};
 use firm_text::Bytes;
+use measure::{MEASURE, measure};
 use program::NAME;
 pub use program::{Sinks, run};
 use std::process::ExitCode;
@@ -95,6 +114,9 @@ fn main(rt: HostRuntime) -> ExitCode {
         Ok(words) => words,
         Err(error) => return ExitCode::from(refuse_words(NAME, &error, &mut sinks.faults)),
     };
+    if words.get(1).is_some_and(|word| word.as_str() == MEASURE) {
+        return ExitCode::from(measure(&rt, &words[2..], &mut sinks));
+    }
     let mut reader = Bytes::new(rt.stdin());
     ExitCode::from(run(&rt, rt.alloc(), words.as_slice(), &mut reader, &mut sinks))
 }

@@ -5,7 +5,7 @@ ghost use Rattle.std.specs.Prelude.{◌≡◌, IfOk, MatchOption, MatchResult, m
 ghost use Rattle.clap.specs.Words.{FailsBy};
 ghost use Rattle.firm_program.specs.Options.{HasRule, text_of};
 ghost use Rattle.firm_explain.specs.CommandLine.{all_option, faults_in, machine_option, rows_option, tenant_option};
-ghost use Rattle.firm_explain.specs.CommandLine.{Gives, IsFlag, IsNoName, rows_given, why_option};
+ghost use Rattle.firm_explain.specs.CommandLine.{flag_option, Gives, IsFlag, IsNoName, rows_given, why_option};
 ghost use Rattle.firm_explain.specs.inner.Asking.{AsksFor, IsCommandLine, IsNameIfGiven, MisasksFor};
 
 use clap::{Arg, ArgAction, Command, Error, value_parser};
@@ -13,6 +13,11 @@ use firm_program::{Fault, Named, WordsFault, option, roster_option, state_option
 use firm_rules::{Name, Slots};
 use std::alloc::{AllocError, Global};
 use std::convert::AsStr;
+
+// What the help says after the options.
+const MEASURING: &str = "\
+firm_explain measure answers without reasons, on one thread, and can tell how
+much each round took: see firm_explain measure --help.";
 
 /// What the words of the command line give.
 #[derive(Drop)]
@@ -34,7 +39,7 @@ pub(crate) struct Given<'a> {
 }
 
 /// What is asked of the rounds that are explained.
-#[derive(Clone, Copy, Debug, PartialEq, Eq)]
+#[derive(Clone, Copy)]
 pub(crate) struct Request {
     /// The tenant whose rounds are explained; `None` for those of all.
     pub(crate) tenant: Option<Name>,
@@ -140,6 +145,7 @@ fn command_line<'a>(alloc: Global) -> Result<Command<'a>, AllocError>
 {
     Command::new(alloc, "firm_explain")
         .about("Answers as firm does, and writes behind each round why it is the cheapest")
+        .after_help(MEASURING)
         .arg(roster_option(alloc))?
         .arg(state_option(alloc))?
         .arg(tenant_option(alloc))?
@@ -181,17 +187,25 @@ fn machine_option<'a>(alloc: Global) -> Arg<'a>
 fn all_option<'a>(alloc: Global) -> Arg<'a>
     ensures { HasRule all_option result }
 {
-    Arg::new(alloc, "all")
-        .long("all")
-        .action(ArgAction::SetTrue)
-        .help("Gives each task that waits a line of its own")
+    flag(alloc, "all", "Gives each task that waits a line of its own")
 }
 
 fn rows_option<'a>(alloc: Global) -> Arg<'a>
     ensures { HasRule rows_option result }
 {
-    Arg::new(alloc, "rows")
-        .long("rows")
+    flag(
+        alloc,
+        "rows",
+        "Gives the rows of each round, by which it can be checked alone",
+    )
+}
+
+/// An option without a value.
+pub(crate) fn flag<'a>(alloc: Global, name: &'a str, help: &'a str) -> Arg<'a>
+    ensures { HasRule (flag_option name.entry.now) result }
+{
+    Arg::new(alloc, name)
+        .long(name)
         .action(ArgAction::SetTrue)
-        .help("Gives the rows of each round, by which it can be checked alone")
+        .help(help)
 }

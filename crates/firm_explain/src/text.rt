@@ -16,8 +16,8 @@ pub(crate) fn put_labelled(text: &mut Vec<u8>, word: &[u8], number: u64) -> Resu
     put_number(text, number)
 }
 
-// Adds a name.
-fn put_name(text: &mut Vec<u8>, name: Name) -> Result<(), AllocError> {
+/// Adds a name.
+pub(crate) fn put_name(text: &mut Vec<u8>, name: Name) -> Result<(), AllocError> {
     text.extend_from_slice(name.as_bytes())
 }
 
@@ -27,6 +27,17 @@ pub(crate) fn put_machine(text: &mut Vec<u8>, rows: &Rows, place: usize) -> Resu
         Some(machine) => put_name(text, machine.name),
         None => Ok(()),
     }
+}
+
+/// Adds a word and the name of the machine at a place.
+pub(crate) fn put_at(
+    text: &mut Vec<u8>,
+    rows: &Rows,
+    word: &[u8],
+    place: u32,
+) -> Result<(), AllocError> {
+    text.extend_from_slice(word)?;
+    put_machine(text, rows, place as usize)
 }
 
 /// Adds the name of the task of this number, if there is one.
@@ -50,23 +61,14 @@ pub(crate) fn put_choice(
 ) -> Result<(), AllocError> {
     match (home, choice) {
         (Choice::Wait, Choice::Wait) => text.extend_from_slice(b" waits"),
-        (Choice::On(from), Choice::Wait) => {
-            text.extend_from_slice(b" preempted from ")?;
-            put_machine(text, rows, from as usize)
-        }
-        (Choice::Wait, Choice::On(place)) => {
-            text.extend_from_slice(b" starts on ")?;
-            put_machine(text, rows, place as usize)
-        }
+        (Choice::On(from), Choice::Wait) => put_at(text, rows, b" preempted from ", from),
+        (Choice::Wait, Choice::On(place)) => put_at(text, rows, b" starts on ", place),
         (Choice::On(from), Choice::On(place)) if from == place => {
-            text.extend_from_slice(b" stays on ")?;
-            put_machine(text, rows, place as usize)
+            put_at(text, rows, b" stays on ", place)
         }
         (Choice::On(from), Choice::On(place)) => {
-            text.extend_from_slice(b" moves from ")?;
-            put_machine(text, rows, from as usize)?;
-            text.extend_from_slice(b" to ")?;
-            put_machine(text, rows, place as usize)
+            put_at(text, rows, b" moves from ", from)?;
+            put_at(text, rows, b" to ", place)
         }
     }
 }

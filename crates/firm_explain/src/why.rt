@@ -14,7 +14,7 @@ use std::alloc::{AllocError, Global};
 
 /// Another choice of the task, in the order of the line: by how much more it costs; of those that cost the same, first
 /// those that rank after the task's own choice; then by place, with waiting last.
-#[derive(Clone, Copy, Debug, PartialEq, Eq, PartialOrd, Ord)]
+#[derive(Clone, Copy, PartialEq, Eq, PartialOrd, Ord)]
 struct Rival {
     more: u64,
     ranks_before: bool,
@@ -47,19 +47,44 @@ fn put_task_why(text: &mut Vec<u8>, market: &Market<'_>, number: usize) -> Resul
 {
     let rents = rents_for(*text.allocator(), market.case, market.placement, number)?;
     let shown = shows_least(market.case, &rents, market.placement);
-    text.extend_from_slice(b"# ")?;
     if !shown.least {
-        text.extend_from_slice(b"NOT SHOWN to be least by ")?;
+        text.extend_from_slice(b"# NOT SHOWN to be least by ")?;
         put_task_name(text, market.rows, number)?;
         return text.extend_from_slice(b"'s rents\n");
     }
+    put_by_rents(text, market, number, &rents, shown)
+}
+
+// The same by rents of the task's own that show the placement.
+fn put_by_rents(
+    text: &mut Vec<u8>,
+    market: &Market<'_>,
+    number: usize,
+    rents: &Rents,
+    by_rents: Shown,
+) -> Result<(), AllocError>
+    requires task { number < length market.now.case.now.tasks }
+    requires shown { Show market.now.case.now rents.now market.now.placement.now }
+{
+    text.extend_from_slice(b"# ")?;
     put_task_name(text, market.rows, number)?;
     text.extend_from_slice(b"'s")?;
-    put_rents(text, market.rows, &rents)?;
-    let rivals = rivals_of(*text.allocator(), market, number, &rents)?;
-    put_rivals(text, market, number, &rents, &rivals)?;
-    put_shown(text, market, number, shown)?;
-    let witnesses = Witnesses::of(*text.allocator(), market, number, &rents)?;
+    put_rents(text, market.rows, rents)?;
+    let rivals = rivals_of(*text.allocator(), market, number, rents)?;
+    put_rivals(text, market, number, rents, &rivals)?;
+    put_shown(text, market, number, by_rents)?;
+    put_witnesses(text, market, number, rents, &rivals)
+}
+
+// What else changes where the task has each other choice.
+fn put_witnesses(
+    text: &mut Vec<u8>,
+    market: &Market<'_>,
+    number: usize,
+    rents: &Rents,
+    rivals: &[Rival],
+) -> Result<(), AllocError> {
+    let witnesses = Witnesses::of(*text.allocator(), market, number, rents)?;
     for rival in rivals.iter() {
         witnesses.put(text, market, choice_of(*rival), rival.more)?;
     }

@@ -5,7 +5,7 @@ ghost use Rattle.std.specs.Prelude.{◌<◌, length};
 use crate::market::Market;
 use crate::moves::Moves;
 use crate::numbers::{NONE, at, set};
-use crate::text::{put_labelled, put_machine, put_task_name};
+use crate::text::{put_at, put_labelled, put_task_name};
 use firm_rents::Rents;
 use firm_rules::Choice;
 use std::alloc::{AllocError, Global};
@@ -164,10 +164,7 @@ fn put_placed(
 ) -> Result<(), AllocError> {
     put_task_name(text, market.rows, task)?;
     match placement.get(task).copied() {
-        Some(Choice::On(place)) => {
-            text.extend_from_slice(b" on ")?;
-            put_machine(text, market.rows, place as usize)
-        }
+        Some(Choice::On(place)) => put_at(text, market.rows, b" on ", place),
         _ => text.extend_from_slice(b" waits"),
     }
 }

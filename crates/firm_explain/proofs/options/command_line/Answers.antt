@@ -6,7 +6,7 @@ use Rattle.firm_explain.proofs.options.command_line.Goals as goal
 
 pub returns : goal.returns
 returns c =
-    let bare = c.about.result in
+    let bare = c.after_help.result in
     let app : app_of bare ≡ new_app (codes "firm_explain") = search rules in
     is_command_line bare c.in_ok-arg.field-0 c.in_ok-arg-2.field-0 c.in_ok-arg-3.field-0 c.in_ok-arg-4.field-0
     c.in_ok-arg-5.field-0 c.in_ok-arg-6.field-0 c.roster_option.result c.state_option.result c.tenant_option.result

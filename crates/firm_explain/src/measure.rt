@@ -1,0 +1,172 @@
+//! `firm_explain measure`: answers on one thread, without reasons, and can tell how much each round took.
+
+ghost use Rattle.std.specs.Prelude.{◌≡◌, false};
+
+use crate::options::flag;
+use crate::program::{NAME, Sinks};
+use crate::replay::Replay;
+use clap::{Arg, Command, Error};
+use firm_program::{
+    Fault, Named, answer_words, read_roster, read_state, roster_option, state_option, tell,
+};
+use firm_table::{MOST_INPUT, Opening, ServeFault, serve_one_from};
+use firm_text::{Bytes, Sink, write_all};
+use std::alloc::{AllocError, Global};
+use std::io::{ErrorKind, Read};
+
+/// The word that asks for it, before its options.
+pub(crate) const MEASURE: &str = "measure";
+
+// What the words of the command line give.
+#[derive(Clone, Copy)]
+struct Given<'a> {
+    roster: Option<&'a str>,
+    state: Option<&'a str>,
+    way: Way,
+}
+
+// What is written, and how rounds are found.
+#[derive(Clone, Copy)]
+struct Way {
+    // Whether each round has a line behind the replies.
+    counts: bool,
+    // Whether tenants' lines alone are answered, and rounds are found by searches, without proposals.
+    search: bool,
+}
+
+/// Answers standard input as the words behind `measure` have it, and returns the exit status.
+pub(crate) fn measure<O: Sink, C: Sink, F: Sink>(
+    rt: &HostRuntime,
+    words: &[String],
+    sinks: &mut Sinks<O, C, F>,
+) -> u8
+    requires { O.write_failed sinks.old.replies ≡ false }
+{
+    let given = match read(rt.alloc(), words) {
+        Ok(given) => given,
+        Err(error) => {
+            return answer_words(
+                NAME,
+                rt.alloc(),
+                &error,
+                &mut sinks.replies,
+                &mut sinks.faults,
+            );
+        }
+    };
+    match measure_file(rt, given, &mut sinks.replies) {
+        Ok(()) => 0,
+        Err(fault) => tell(NAME, &mut sinks.faults, &fault),
+    }
+}
+
+fn read<'a>(alloc: Global, words: &'a [String]) -> Result<Given<'a>, Error> {
+    let matches = command_line(alloc)?.try_get_matches_from(words)?;
+    Ok(Given {
+        roster: matches.get_str("roster"),
+        state: matches.get_str("state"),
+        way: Way {
+            counts: matches.get_flag("counts"),
+            search: matches.get_flag("search"),
+        },
+    })
+}
+
+fn command_line<'a>(alloc: Global) -> Result<Command<'a>, AllocError> {
+    Command::new(alloc, "firm_explain measure")
+        .about("Answers as firm does, on one thread")
+        .no_binary_name(true)
+        .arg(roster_option(alloc))?
+        .arg(state_option(alloc))?
+        .arg(counts_option(alloc))?
+        .arg(search_option(alloc))
+}
+
+fn counts_option<'a>(alloc: Global) -> Arg<'a> {
+    flag(
+        alloc,
+        "counts",
+        "Tells behind the replies how much each round took",
+    )
+}
+
+fn search_option<'a>(alloc: Global) -> Arg<'a> {
+    flag(
+        alloc,
+        "search",
+        "Finds rounds by searches alone, without proposals",
+    )
+}
+
+// Measures the service that opens with the file.
+fn measure_file<W: Sink>(rt: &HostRuntime, given: Given<'_>, writer: &mut W) -> Result<(), Fault>
+    requires { W.write_failed writer.old ≡ false }
+{
+    match Named::one_of(given.roster, given.state)? {
+        Named::Roster(path) => {
+            let roster = read_roster(rt, rt.alloc(), path)?;
+            measure_opening(rt, Opening::Roster(&roster), given.way, writer)
+        }
+        Named::State(path) => {
+            let saved = read_state(rt, rt.alloc(), path)?;
+            measure_opening(rt, Opening::State(&saved), given.way, writer)
+        }
+    }
+}
+
+fn measure_opening<W: Sink>(
+    rt: &HostRuntime,
+    opening: Opening<'_>,
+    way: Way,
+    writer: &mut W,
+) -> Result<(), Fault>
+    requires { W.write_failed writer.old ≡ false }
+{
+    let alloc = rt.alloc();
+    if !way.counts && !way.search {
+        let mut reader = Bytes::new(rt.stdin());
+        serve_one_from(alloc, &mut reader, writer, opening, MOST_INPUT)?;
+        return Ok(());
+    }
+    let input = read_input(rt)?;
+    if !way.search {
+        let mut reader = Bytes::new(input.as_slice());
+        serve_one_from(alloc, &mut reader, writer, opening, MOST_INPUT)?;
+    }
+    let text = replayed(alloc, opening, way, &input)?;
+    match write_all(writer, &text) {
+        Ok(()) => Ok(()),
+        Err(_) => Err(Fault::Service(ServeFault::Write)),
+    }
+}
+
+// What is still to be written once the tenants have answered the input again: their replies, unless the service wrote
+// them, and the lines of their rounds.
+fn replayed(
+    alloc: Global,
+    opening: Opening<'_>,
+    way: Way,
+    input: &[u8],
+) -> Result<Vec<u8>, AllocError> {
+    let mut replay = Replay::open(alloc, opening, way.search)?;
+    let mut text = Vec::new(alloc);
+    replay.play(alloc, &mut text, input)?;
+    if !way.search {
+        text.clear();
+    }
+    if way.counts {
+        replay.put_counts(&mut text)?;
+    }
+    Ok(text)
+}
+
+fn read_input(rt: &HostRuntime) -> Result<Vec<u8>, Fault> {
+    let mut input = Vec::new(rt.alloc());
+    match rt.stdin().read_to_end(&mut input) {
+        Ok(_) => Ok(input),
+        Err(error) => match error.kind() {
+            ErrorKind::OutOfMemory => Err(Fault::Service(ServeFault::Memory)),
+            _ => Err(Fault::Service(ServeFault::Read)),
+        },
+    }
+}
