@@ -1,7 +1,7 @@
 """Runs the gate and says what it cost: processor minutes by crate, for its proof, its tests and its edits.
 
 usage: tools/run bench/gate.py [--keep] [COMMAND ...]
-The command is `tests/gate --all` where none is named; `tests/edits firm_net` for some edits alone.
+The command is `tests/gate --all --anew` where none is named; `tests/edits firm_net` for some edits alone.
 The command's own output goes to standard error, the table to standard output; the exit status is the command's. --keep
 writes the crates' minutes to docs/results/gate.csv, by which tests/gate says how long it will take.
 
@@ -27,7 +27,7 @@ from typing import NamedTuple
 from shared import ROOT, CannotRun, run_script
 
 KEPT = ROOT / "docs" / "results" / "gate.csv"
-GATE = [str(ROOT / "tests" / "gate"), "--all"]
+GATE = [str(ROOT / "tests" / "gate"), "--all", "--anew"]
 # Where edits are tried: by tests/edits, and by rt itself.
 FOLDERS_OF_EDITS = ("firm-edits-", "rt-edit-")
 PAUSE = 0.2

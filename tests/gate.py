@@ -1,0 +1,187 @@
+#!/usr/bin/env python3
+"""The gate: proves, tests and builds everything, tries the edits, and asks the built program from outside.
+
+usage: tests/gate [--all] [--anew] [--record]
+It works on a copy of the files that git tracks, and of new ones that it does not ignore, so it needs nothing that an
+earlier run left. Its parts: `rt ci`, which proves every crate and its tests and builds and runs every program;
+tests/edits, on the crates that have changed and a quarter of the others, with --all on all of them; tests/quick. What
+an earlier run proved on this machine, the same files over the same libraries, `rt ci` keeps beside the kit and takes as
+proved, but not with --anew. The edits of must-fail/ are set aside for `rt ci`, which would try them one by one:
+tests/edits tries them with the others, many in one check.
+
+At its start it says how long that takes by the processors here and the minutes in docs/results/gate.csv, and behind
+each crate how far it is. --record keeps the record of tests/edits. The last line is 'N passed, M failed' over all
+parts; the exit status is 1 where one failed.
+"""
+
+from __future__ import annotations
+
+import argparse
+import csv
+import os
+import re
+import shutil
+import signal
+import subprocess
+import sys
+import tempfile
+import time
+from pathlib import Path
+from typing import Callable, NamedTuple
+
+from harness.checks import CannotRun, run_script
+from harness.files import commit_here, tracked_files
+from harness.program import ROOT
+from harness.proving import free_bytes
+
+MINUTES = ROOT / "docs" / "results" / "gate.csv"
+EARLY = 0.3  # of the proofs: until then the table alone says how long they take
+OTHER_MINUTES = 1.0  # of a crate that is newer than the table
+# What a check takes at most, as measured, and the part of the free memory that checks are given.
+CHECK_BYTES, MEMORY_PART = 4_000_000_000, 0.8
+COUNT = re.compile(r"^(\d+) passed, (\d+) failed$")
+PROVED = re.compile(r"^rt: (\w+)(: its tests are)? proved$")
+MUST_FAIL = "must-fail"
+RECORD = "tests/edits.tried"
+
+
+class Count(NamedTuple):
+    """How much of a part passed, and how much failed."""
+
+    passed: int
+    failed: int
+
+
+class Minutes(NamedTuple):
+    """The processor minutes that a crate takes in the gate, on the host where they were measured."""
+
+    proof: float
+    tests: float
+    edits: float
+
+
+def measured_minutes() -> dict[str, Minutes]:
+    with open(MINUTES, newline="") as file:
+        rows = list(csv.DictReader(file))
+    return {row["crate"]: Minutes(float(row["proof"]), float(row["tests"]), float(row["edits"])) for row in rows}
+
+
+def lanes() -> int:
+    """How many checks `rt ci` runs side by side: one a processor, as far as memory holds what they take. It reckons two
+    or three times as much for a check, and would leave processors idle."""
+    return max(1, min(len(os.sched_getaffinity(0)), int(MEMORY_PART * free_bytes()) // CHECK_BYTES))
+
+
+def say(text: str) -> None:
+    print(f"gate: {text}", flush=True)
+
+
+class Progress:
+    """How far `rt ci` is, by what it has proved and how long that took where it was measured."""
+
+    def __init__(self, minutes: dict[str, Minutes]) -> None:
+        self.minutes, self.began, self.lanes = minutes, time.monotonic(), lanes()
+        self.all = sum(crate.proof + crate.tests for crate in minutes.values())
+        self.done = 0.0
+
+    def note(self, line: str) -> None:
+        """Says how far it is where the line tells of a crate that is proved, or of its tests."""
+        found = PROVED.match(line)
+        if not found:
+            return
+        name, are_tests = found.groups()
+        crate = self.minutes.get(name, Minutes(OTHER_MINUTES, OTHER_MINUTES, 0))
+        self.done = min(self.done + (crate.tests if are_tests else crate.proof), self.all)
+        passed = (time.monotonic() - self.began) / 60
+        # The lowest crates are proved one after another, so that what they took tells little of the others.
+        is_early = self.done < EARLY * self.all
+        whole = self.all / self.lanes if is_early else passed * self.all / self.done
+        left = max(whole - passed, 0)
+        what = f"{name}'s tests are" if are_tests else f"{name} is"
+        say(f"{what} proved after {passed:.0f} min; {self.done / self.all:.0%} of the proofs, some {left:.0f} min left")
+
+
+def copy_files(place: Path) -> None:
+    """Copies the repository's files to a folder, which git then tracks as a repository of its own."""
+    for path in tracked_files():
+        (place / path).parent.mkdir(parents=True, exist_ok=True)
+        shutil.copy2(ROOT / path, place / path)
+    for words in (["git", "init", "--quiet"], ["git", "add", "--all"]):
+        subprocess.run(words, cwd=place, stdin=subprocess.DEVNULL, check=True)
+
+
+def run_part(words: list[str], folder: Path, note: Callable[[str], None] = lambda line: None) -> Count:
+    """Runs a part of the gate; its count is its last line, and a part that ends otherwise has failed."""
+    began, count = time.monotonic(), None
+    with subprocess.Popen(words, cwd=folder, stdin=subprocess.DEVNULL, stdout=subprocess.PIPE, text=True) as part:
+        for line in part.stdout or ():
+            print(line, end="", flush=True)
+            count = COUNT.match(line)
+            note(line.rstrip("\n"))
+    say(f"{words[0]} took {(time.monotonic() - began) / 60:.1f} minutes")
+    if count is None or (part.returncode and count[2] == "0"):
+        return Count(0, 1)
+    return Count(int(count[1]), int(count[2]))
+
+
+def prove(copy: Path, minutes: dict[str, Minutes], is_anew: bool) -> Count:
+    """Runs `rt ci`, without the edits."""
+    aside = copy.parent / "aside"
+    folders = sorted(copy.glob(f"crates/*/{MUST_FAIL}"))
+    for folder in folders:
+        (aside / folder.parent.name).mkdir(parents=True)
+        folder.rename(aside / folder.parent.name / MUST_FAIL)
+    try:
+        words = ["rt", "ci", *(["--anew"] if is_anew else [])]
+        os.environ.setdefault("RT_JOBS", str(lanes()))
+        return run_part(words, copy, Progress(minutes).note)
+    finally:
+        for folder in folders:
+            (aside / folder.parent.name / MUST_FAIL).rename(folder)
+
+
+def say_plan(minutes: dict[str, Minutes]) -> None:
+    """Says how long the gate takes here, as far as the table tells."""
+    processors = len(os.sched_getaffinity(0))
+    proofs = sum(crate.proof + crate.tests for crate in minutes.values()) / lanes()
+    edits = sum(crate.edits for crate in minutes.values()) / processors
+    say(f"on {processors} processors proofs and tests take some {proofs:.0f} minutes, on a slow host twice as long")
+    say(f"behind them come the edits, {edits:.0f} minutes if all are tried, and the program from outside, 5 minutes")
+
+
+def main() -> int:
+    parser = argparse.ArgumentParser(description=(__doc__ or "").splitlines()[0])
+    parser.add_argument("--all", action="store_true", help="try the edits of all crates")
+    parser.add_argument("--anew", action="store_true", help="prove again what an earlier run proved")
+    parser.add_argument("--record", action="store_true", help="write down which crates' edits were all refused")
+    options = parser.parse_args()
+    if shutil.which("rt") is None:
+        raise CannotRun("rt of the Rattle kit is not on the PATH")
+    minutes = measured_minutes()
+    say_plan(minutes)
+    with tempfile.TemporaryDirectory(prefix="firm-gate-") as name:
+        copy = Path(name) / "firm"
+        copy.mkdir()
+        copy_files(copy)
+        counts = [prove(copy, minutes, options.anew)]
+        if counts[0].failed:
+            say("the edits and the built program wait until all is proved")
+        else:
+            words = ["tests/edits", "--libraries", "rlib", "--commit", commit_here()]
+            words += [word for word, is_given in (("--all", options.all), ("--record", options.record)) if is_given]
+            counts += [run_part(words, copy), run_part(["tests/quick"], copy)]
+            if options.record:
+                shutil.copy2(copy / RECORD, ROOT / RECORD)
+    passed, failed = sum(count.passed for count in counts), sum(count.failed for count in counts)
+    print(f"{passed} passed, {failed} failed")
+    return 1 if failed else 0
+
+
+def stop(number: int, _frame: object) -> None:
+    """Ends as at an interrupt, so that the copy is removed and `rt ci` ended."""
+    sys.exit(128 + number)
+
+
+if __name__ == "__main__":
+    signal.signal(signal.SIGTERM, stop)
+    run_script(main)
