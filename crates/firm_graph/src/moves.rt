@@ -229,13 +229,7 @@ fn waited_after(rows: &Rows, place: usize) -> u32
     ensures value { result ≡ min rows.now.limits.patience ((task_at rows.now place).waited + 1) }
     ensures most { result ≤ longest_patience }
 {
-    let waited = rows.waited_at(place);
-    let patience = rows.limits().patience();
-    if u64::from(waited) < patience {
-        waited + 1
-    } else {
-        patience as u32
-    }
+    rows.next_wait_at(place)
 }
 
 // Whether the task at a place runs.

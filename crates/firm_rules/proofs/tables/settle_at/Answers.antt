@@ -18,11 +18,11 @@ returns-in-On-clause-tasks g c =
     ∙ ap (settled c.args.patience (values c.args.machines.now) c.in-Some.task.now) (sym c.in-On.is))
 
 pub returns-in-Wait-clause-names : goal.returns-in-Wait-clause-names
-returns-in-Wait-clause-names g c = keys-with_value_at c.args.tasks.now c.args.place c.waits_on.new.self
+returns-in-Wait-clause-names g c = keys-with_value_at c.args.tasks.now c.args.place c.wait_once_more.new.self
 
 pub returns-in-Wait-clause-tasks : goal.returns-in-Wait-clause-tasks
 returns-in-Wait-clause-tasks g c =
     settled-written c.args.patience (values c.args.machines.now) c.args.tasks.now.entries c.args.place
-    c.in-Some.task.now c.waits_on.new.self c.args.choice c.in-Some.ensures.value
-    (c.waits_on.ensures
+    c.in-Some.task.now c.wait_once_more.new.self c.args.choice c.in-Some.ensures.value
+    (c.wait_once_more.ensures
     ∙ ap (settled c.args.patience (values c.args.machines.now) c.in-Some.task.now) (sym c.in-Wait.is))
