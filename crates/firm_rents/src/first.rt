@@ -17,10 +17,7 @@ use crate::classes::{
 };
 use crate::laws::rents_show_first;
 use crate::rents::MOST_RENT;
-use firm_rules::{Case, Choice, legality_is_judged, slot_cost};
-
-// As many as a tenant may have, and more: as many as `Case::counts_loads` counts.
-const MOST_MACHINES: usize = 4_096;
+use firm_rules::{Case, Choice, MOST_MACHINES, legality_is_judged, slot_cost};
 
 /// Whether rents in levels, whoever proposed them, show that a placement is the round's: it is legal, no legal one
 /// costs less, and none that costs as much comes before it. Where the answer is no, nothing is said. Takes no memory.
@@ -374,14 +371,7 @@ fn own_suits(case: &Case, rents: &LevelRents, task: usize, chosen: Offer, stayin
     }
     match case.home(task) {
         Choice::Wait => true,
-        Choice::On(place) => {
-            // Each home is one of the machines, which `home` doesn't say.
-            if (place as usize) < case.machine_count() {
-                suits(case, rents, task, chosen, place)
-            } else {
-                true
-            }
-        }
+        Choice::On(place) => suits(case, rents, task, chosen, place),
     }
 }
 

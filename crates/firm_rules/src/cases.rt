@@ -99,7 +99,8 @@ impl<A: Allocator> Case<A> {
     /// Where the task of this number runs, as a choice; `Wait` if it waits.
     pub fn home(&self, task: usize) -> Choice
         requires { task < length self.now.tasks }
-        ensures { result ≡ home_choice (task_at self.now task).home }
+        ensures home { result ≡ home_choice (task_at self.now task).home }
+        ensures place { IsPlace (length self.now.slots) result }
     {
         match self.demand(task).home {
             Some(place) => Choice::On(place),

@@ -50,7 +50,9 @@ pub use laws::{
     the_first_difference_decides, the_round_is_the_first,
 };
 pub use names::Name;
-pub use placements::{cost_of, cost_of_load, legal, loads_of, ranks_before, slot_cost, weight_of};
+pub use placements::{
+    MOST_MACHINES, cost_of, cost_of_load, legal, loads_of, ranks_before, slot_cost, weight_of,
+};
 pub use preferences::{MOST_PREFERENCES, Preferred};
 pub use recent::{MOST_COSTS, RecentCosts};
 pub use replies::{Outcome, Refusal, Reply};

@@ -13,7 +13,8 @@ use crate::rounds::Choice;
 use crate::tables::Rows;
 use std::alloc::Allocator;
 
-/// As many machines as a tenant may have, and more: its limit of nodes is 4,096 at most.
+/// How many machines an array of loads counts: at least as many as any tenant has, as each is a node of its network,
+/// and its limit of nodes is 4,096 at most.
 pub const MOST_MACHINES: usize = 4_096;
 
 /// Whether there is one choice for each task, each a machine or to wait, and no machine has more tasks than slots.

@@ -43,7 +43,7 @@ loop-task-preserved c =
     ) in
     c.in_ok-push.ensures.items
     ∙ ap (λ (l : List Choice). l ++ c.home.result ∷ []) c.loop-task.invariant
-    ∙ ap (λ (x : Choice). map f (take i rows.tasks) ++ x ∷ []) (c.home.ensures
+    ∙ ap (λ (x : Choice). map f (take i rows.tasks) ++ x ∷ []) (c.home.ensures.home
     ∙ ap (λ (k : Case). home_choice (task_at k i).home) c.case-case.ensures ∙ home_read rows i below)
     ∙ sym (ap (map f) (take_more rows.tasks i no_task below) ∙ map_push f (take i rows.tasks)
     (slice_index_or rows.tasks i no_task))

@@ -38,7 +38,7 @@ returns-then-is_same g c d =
     (ap (λ (demand : Demand). home_choice demand.home)
     (sym (get_or-map (demand_of rows) rows.tasks number d none c.requires.there))
     ∙ ap (λ (k : Case). home_choice (task_at k number).home) (sym c.case.ensures)
-    ∙ sym c.home.ensures ∙ c.is_same.ensures c.if-is_same.true)
+    ∙ sym c.home.ensures.home ∙ c.is_same.ensures c.if-is_same.true)
 
 pub returns : goal.returns
 returns g c d =

@@ -27,16 +27,16 @@ loop-task-preserved c =
     elim c.match-home.branch [
       | in-On+then-place-lt-MOST_MACHINES w ↦
           counted-on tasks i no_demand inside c.loop-task.loads c.loop-task.invariant.0 c.loop-task.invariant.1
-          w.in-On.place c.match-home.loads (sym same ∙ sym c.home.ensures ∙ w.in-On.is) w.loads-is
+          w.in-On.place c.match-home.loads (sym same ∙ sym c.home.ensures.home ∙ w.in-On.is) w.loads-is
           (omega (arith, w.if-place-lt-MOST_MACHINES.true))
       | in-On+else-place-lt-MOST_MACHINES w ↦
           counted-far tasks i no_demand inside c.loop-task.loads c.loop-task.invariant.0 c.loop-task.invariant.1
-          w.in-On.place c.match-home.loads (sym same ∙ sym c.home.ensures ∙ w.in-On.is) w.loads-is
+          w.in-On.place c.match-home.loads (sym same ∙ sym c.home.ensures.home ∙ w.in-On.is) w.loads-is
           (omega (arith, w.if-place-lt-MOST_MACHINES.false))
       | in_default w ↦
           counted-none tasks i no_demand inside c.loop-task.loads c.loop-task.invariant.0 c.loop-task.invariant.1
           c.match-home.loads
-          (λ place e. w.in_default.not-On place (c.home.ensures ∙ same ∙ e)) w.loads-is
+          (λ place e. w.in_default.not-On place (c.home.ensures.home ∙ same ∙ e)) w.loads-is
     ]
 
 pub returns : goal.returns

@@ -14,7 +14,7 @@ returns c =
     let found : IsLowest (λ j. paid case self.greater task (On j)) (length case.slots) c.args.chosen
     (home_choice task.home) c.cheapest_other.result =
     subst (λ home. IsLowest (λ j. paid case self.greater task (On j)) (length case.slots) c.args.chosen home
-    c.cheapest_other.result) c.home.ensures c.cheapest_other.ensures in
+    c.cheapest_other.result) c.home.ensures.home c.cheapest_other.ensures in
     record {
       nearest = λ apart. nearest case self.low.now self.high.now self.greater self.gap task c.args.chosen
           (home_choice task.home) c.cheapest_other.result (length case.slots) self.at_gap apart found;
