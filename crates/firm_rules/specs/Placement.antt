@@ -100,7 +100,7 @@ leaves None choice = false
 leaves (Some home) (On j) = not (home == j)
 leaves (Some home) Wait = true
 
--- whether a choice leaves a task that runs at `home`, if it runs, on its machine
+-- whether the choice keeps a running task on its machine
 abbrev pub stays : Option ℕ → Choice → Bool
 stays home (On j) = runs_at home j
 stays home Wait = false
