@@ -28,7 +28,7 @@ pub fn put_reply(text: &mut Vec<u8>, tenant: Name, reply: &Reply) -> Result<(), 
     ensures kept { StartsWith text.new.items text.old.items }
     ensures added { OnOk result (text.new.items ≡ text.old.items ++ text_of_reply tenant reply.now) }
 {
-    text.extend_from_slice(tenant.as_bytes())?;
+    tenant.put(text)?;
     put_number(text, reply.number)?;
     put_outcome(text, &reply.outcome)
 }
@@ -124,28 +124,53 @@ fn put_changes(text: &mut Vec<u8>, changes: &[Change]) -> Result<(), AllocError>
         ≡ text.old.items ++ flat_map spaced (flat_map change_words changes.now)) }
 {
     for change in changes {
-        put_change(text, *change)?;
+        put_change(text, change)?;
     }
     Ok(())
 }
 
 #[tactic(auto, using(crate::proofs::Puts::kept_trans))]
-fn put_change(text: &mut Vec<u8>, change: Change) -> Result<(), AllocError>
+fn put_change(text: &mut Vec<u8>, change: &Change) -> Result<(), AllocError>
     ensures kept { StartsWith text.new.items text.old.items }
-    ensures added { OnOk result (text.new.items ≡ text.old.items ++ flat_map spaced (change_words change)) }
+    ensures added { OnOk result (text.new.items ≡ text.old.items ++ flat_map spaced (change_words change.now)) }
 {
     match change {
-        Change::Start(task, machine) => {
-            put_three(text, b"start", task.as_bytes(), machine.as_bytes())
-        }
+        Change::Start(task, machine) => put_word_and_names(text, b" start", task, machine),
         Change::Move(task, from, to) => {
-            put_three(text, b"move", task.as_bytes(), from.as_bytes())?;
-            put(text, to.as_bytes())
+            put_word_and_names(text, b" move", task, from)?;
+            put_spaced_name(text, to)
         }
-        Change::Preempt(task, machine) => {
-            put_three(text, b"preempt", task.as_bytes(), machine.as_bytes())
-        }
+        Change::Preempt(task, machine) => put_word_and_names(text, b" preempt", task, machine),
     }
+}
+
+/// Adds a word, which has a space before it, and two names.
+#[tactic(auto, using(crate::proofs::Puts::kept_trans))]
+#[inline(always)]
+fn put_word_and_names(
+    text: &mut Vec<u8>,
+    word: &[u8],
+    first: &Name,
+    second: &Name,
+) -> Result<(), AllocError>
+    ensures kept { StartsWith text.new.items text.old.items }
+    ensures added { OnOk result (text.new.items
+        ≡ text.old.items ++ word.now ++ flat_map spaced (first.now ∷ second.now ∷ [])) }
+{
+    text.extend_from_slice(word)?;
+    put_spaced_name(text, first)?;
+    put_spaced_name(text, second)
+}
+
+/// Adds a name, and the space before it.
+#[tactic(auto, using(crate::proofs::Puts::kept_trans))]
+#[inline(always)]
+fn put_spaced_name(text: &mut Vec<u8>, name: &Name) -> Result<(), AllocError>
+    ensures kept { StartsWith text.new.items text.old.items }
+    ensures added { OnOk result (text.new.items ≡ text.old.items ++ flat_map spaced (name.now ∷ [])) }
+{
+    text.push(b' ')?;
+    name.put(text)
 }
 
 /// Adds `ok`, how many machines, jobs and tasks there are, and how many of the tasks run.
