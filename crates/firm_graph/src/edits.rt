@@ -209,13 +209,13 @@ pub(crate) fn unlink_preferred(net: &mut Net, arcs: PreferredArcs)
 }
 
 /// Gives the arcs of a task to the machines that it prefers another cost, and no flow.
-pub(crate) fn rate_preferred(net: &mut Net, arcs: PreferredArcs, cost: u32)
+pub(crate) fn rate_preferred(net: &mut Net, arcs: &PreferredArcs, cost: u32)
     requires cost { cost ≤ 3000000 }
     requires net { IsNet net.old }
     ensures rated { (base : NetRow) (ns : List NodeIdRow) (ss : List Span) (node : NodeIdRow) (old : ℕ)
-        (heads : List NodeIdRow) → length heads ≡ length arcs
-        → Holds base net.old ns (preferred_spans node old heads arcs ++ ss)
-        → Holds base net.new ns (preferred_spans node cost heads arcs ++ ss) }
+        (heads : List NodeIdRow) → length heads ≡ length arcs.now
+        → Holds base net.old ns (preferred_spans node old heads arcs.now ++ ss)
+        → Holds base net.new ns (preferred_spans node cost heads arcs.now ++ ss) }
     ensures net { IsNet net.new }
 {
     for place in 0..arcs.len() {

@@ -562,7 +562,7 @@ impl Graph {
             runs: machine.is_some(),
             waited,
         };
-        let parts = self.tasks[place];
+        let parts = &self.tasks[place];
         place_task(&mut self.net, &self.rows, parts, place, stand);
         self.rows.place_task(place, machine, waited);
     }

@@ -17,10 +17,10 @@ use firm_net::{Net, NodeId};
 use firm_rules::{Choice, Name, Rows};
 
 /// Gives the arcs of the task at a place the ends, capacities and costs of one that stands so.
-pub(crate) fn place_task(net: &mut Net, rows: &Rows, parts: TaskParts, place: usize, stand: Stand)
+pub(crate) fn place_task(net: &mut Net, rows: &Rows, parts: &TaskParts, place: usize, stand: Stand)
     requires place { place < length rows.now.tasks }
     requires waited { stand.waited ≤ longest_patience }
-    ensures placed { (g : GraphRow) (home : Option (List ℕ)) → IsPlacing g net.old rows.now parts place stand home
+    ensures placed { (g : GraphRow) (home : Option (List ℕ)) → IsPlacing g net.old rows.now parts.now place stand home
         → Mirrors (moved g (with_task_at g.rows place home stand.waited) net.new) }
 {
     let limits = rows.limits();
@@ -31,7 +31,7 @@ pub(crate) fn place_task(net: &mut Net, rows: &Rows, parts: TaskParts, place: us
     rate(net, parts.arcs.stay, where_runs(stand.runs, 1), 0);
     lead(net, parts.arcs.stay, stand.node);
     rate(net, parts.arcs.wait, 1, weight + stand.waited + leaving);
-    rate_preferred(net, parts.arcs.preferred, leaving);
+    rate_preferred(net, &parts.arcs.preferred, leaving);
 }
 
 /// Takes the arcs to the machine of a name out of the preferences of all tasks.
@@ -93,7 +93,7 @@ pub(crate) fn evict_tasks(net: &mut Net, rows: &Rows, tasks: &[TaskParts], hub: 
         → Mirrors (moved g (record rows.now { tasks = map (evicted name) rows.now.tasks }) net.new) }
 {
     for (place, parts) in tasks.iter().enumerate() {
-        evict_task(net, rows, *parts, place, Eviction { name, hub });
+        evict_task(net, rows, parts, place, Eviction { name, hub });
     }
 }
 
@@ -105,11 +105,11 @@ struct Eviction {
 }
 
 // Gives the arcs of the task at a place those of one that waits if it runs on the machine that tasks have to leave.
-fn evict_task(net: &mut Net, rows: &Rows, parts: TaskParts, place: usize, from: Eviction)
+fn evict_task(net: &mut Net, rows: &Rows, parts: &TaskParts, place: usize, from: Eviction)
     requires place { place < length rows.now.tasks }
     ensures step { (g : GraphRow) → Mirrors (moved g (thrown_out_first g.rows from.name place) net.old)
         → g.rows ≡ forgetting_rows rows.now from.name → g.hub ≡ from.hub
-        → place < length g.tasks → parts ≡ slice_index_or g.tasks place parts
+        → place < length g.tasks → parts.now ≡ slice_index_or g.tasks place parts.now
         → Mirrors (moved g (thrown_out_first g.rows from.name (place + 1)) net.new) }
 {
     if !runs_on(rows, place, from.name) {
@@ -168,7 +168,7 @@ fn settle_task(net: &mut Net, rows: &Rows, parts: &TaskParts, place: usize, stan
         → Mirrors (moved g (with_task_at g.rows place home stand.waited) net.new) }
 {
     if is_running(rows, place) || stand.runs {
-        place_task(net, rows, *parts, place, stand);
+        place_task(net, rows, parts, place, stand);
         return;
     }
     if rows.waited_at(place) == stand.waited {
@@ -218,18 +218,9 @@ fn stand_of(rows: &Rows, heads: &Heads<'_>, place: usize, choice: Choice) -> Sta
         Choice::Wait => Stand {
             node: heads.hub,
             runs: false,
-            waited: waited_after(rows, place),
+            waited: rows.next_wait_at(place),
         },
     }
-}
-
-// How many rounds will have left the task at a place waiting, after one more.
-fn waited_after(rows: &Rows, place: usize) -> u32
-    requires { place < length rows.now.tasks }
-    ensures value { result ≡ min rows.now.limits.patience ((task_at rows.now place).waited + 1) }
-    ensures most { result ≤ longest_patience }
-{
-    rows.next_wait_at(place)
 }
 
 // Whether the task at a place runs.

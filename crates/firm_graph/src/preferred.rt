@@ -9,9 +9,10 @@ use std::marker::Model;
 /// The arcs of a task to the machines that it prefers, 4 at most, in the order of its row.
 #[derive(Clone, Copy, Debug, PartialEq, Eq)]
 pub struct PreferredArcs {
+    // First, so that a task with no preference is told by the line of memory that has its other arcs.
+    len: u8,
     // `None` past the length.
     arcs: [Option<ArcId>; MOST_PREFERENCES],
-    len: u8,
 }
 
 impl Model for PreferredArcs {

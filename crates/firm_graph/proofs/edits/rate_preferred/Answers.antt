@@ -6,7 +6,7 @@ pub loop-place-preserved : goal.loop-place-preserved
 loop-place-preserved c = record {
   net = c.rate.ensures.net;
   rated = λ base ns ss node old heads e h.
-      rate-step base c.loop-place.net c.rate.new.net ns ss node c.args.cost old c.loop-place.place heads c.args.arcs
+      rate-step base c.loop-place.net c.rate.new.net ns ss node c.args.cost old c.loop-place.place heads c.args.arcs.now
       c.at.result e (omega (arith, c.loop-place-test.true, c.len-place-end.ensures.value)) c.at.ensures
       (c.loop-place.invariant.rated base ns ss node old heads e h) c.rate.ensures.edit c.rate.ensures.added;
 }
@@ -14,6 +14,6 @@ loop-place-preserved c = record {
 pub returns-clause-rated : goal.returns-clause-rated
 returns-clause-rated c =
     λ base ns ss node old heads e h.
-    rate-end base c.loop-place.net ns ss node c.args.cost old c.loop-place.place heads c.args.arcs
+    rate-end base c.loop-place.net ns ss node c.args.cost old c.loop-place.place heads c.args.arcs.now
     (omega (arith, c.loop-place-test.false, c.len-place-end.ensures.value))
     (c.loop-place.invariant.rated base ns ss node old heads e h)

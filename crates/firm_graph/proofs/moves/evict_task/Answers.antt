@@ -23,7 +23,7 @@ returns c = record {
   step = λ g mirrors rows_is hub_is below at.
       let on : is_on c.args.from.name (task_at c.args.rows.now c.args.place).machine ≡ true = sym c.runs_on.ensures ∙
       c.if-not-runs_on.false in
-      evict-next g c.args.rows.now c.args.from.name c.args.place c.args.parts
+      evict-next g c.args.rows.now c.args.from.name c.args.place c.args.parts.now
       (record { node = c.args.from.hub; runs = false; waited = 0 }) c.args.net.now c.place_task.new.net
       rows_is hub_is refl refl c.requires.place below at on mirrors c.place_task.ensures.placed;
 }

@@ -15,7 +15,7 @@ pub returns : goal.returns
 returns c = record {
   placed = λ g home p.
       let place : ℕ = c.args.place in
-      let parts = c.args.parts in
+      let parts = c.args.parts.now in
       let leaving : ℕ = c.where_runs-leaving.result in
       let far : ℕ = c.away_cost-away.result in
       let cap : ℕ = c.where_runs.result in
