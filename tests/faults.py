@@ -13,6 +13,7 @@ memory):
 - The Nth write fails, finds no space, is interrupted or takes nothing, in writes of 1, 4 and 4,096 bytes: status 5,
   `firm: write`, a prefix; with writes of one byte exactly N - 1 bytes.
 - The Nth read of the roster fails: status 3, `firm: cannot read roster`, no output.
+- Workers get no memory as they start: status 0, the whole output.
 - The Nth thread can't be started: the first, which reads ahead: status 0, the whole output; a worker: status 6,
   `firm: memory`, no output.
 - Nothing fails, with these pieces and writes: status 0, the whole output.
@@ -221,6 +222,13 @@ def refuse_memory_of_help(runs: Runs, _: Stream) -> Ends:
     return Ends(ends, f"{counts.memory} requests")
 
 
+def refuse_warm_up(runs: Runs, stream: Stream) -> Ends:
+    """Refuses what workers ask for as they start, and would give back."""
+    found, _counts = runs.run(stream, refuse_warm_up=1)
+    require(found == whole_run(stream), f"no memory at the start: {found}")
+    return Ends(Counter({"status 0": 1}), f"{runs.workers} workers")
+
+
 def refuse_threads(runs: Runs, stream: Stream) -> Ends:
     """Refuses the Nth thread. The first reads ahead, and the service does without it; each other is a worker."""
     ends, whole = Counter[str](), whole_run(stream)
@@ -306,6 +314,7 @@ PARTS: dict[str, Part] = {
     "reads": fail_reads,
     "writes": fail_writes,
     "reads of the roster": fail_files,
+    "memory of workers as they start": refuse_warm_up,
     "threads": refuse_threads,
 }
 

@@ -5,6 +5,7 @@
 //   FAIL_READ, FAIL_WRITE, FAIL_FILE    which read of standard input, write of standard output, or read of another file fails, once
 //   FAIL_WITH                           with which error; 0: a write answers 0
 //   READ_MOST, WRITE_MOST               how many bytes a read of standard input gives, a write of standard output takes, at most
+//   REFUSE_WARM_UP                      1: workers get no memory as they start
 //   REFUSE_THREAD                       which thread can't be started
 //   DELAY_MEMORY                        how many milliseconds each request for memory takes on another thread than the first
 //   HOLD_MEMORY                         no number, but a file: as long as it is there these requests wait
@@ -31,10 +32,13 @@ void *__libc_memalign(size_t alignment, size_t size);
 
 enum { MEMORY, READS, WRITES, FILES, THREADS, COUNTED };
 
+// firm_hall's, in workers.rt.
+enum { WARM_BYTES = 120 * 1024 };
+
 static atomic_ulong unshared[COUNTED];
 static atomic_ulong *counts = unshared;
 static unsigned long refuse_first, refuse_last, fail_read, fail_write, fail_file, fail_with, read_most, write_most;
-static unsigned long refuse_thread, delay_memory;
+static unsigned long refuse_warm_up, refuse_thread, delay_memory;
 static const char *hold_memory;
 static int is_ready;
 
@@ -52,6 +56,7 @@ __attribute__((constructor)) static void begin(void) {
     fail_with = number("FAIL_WITH");
     read_most = number("READ_MOST");
     write_most = number("WRITE_MOST");
+    refuse_warm_up = number("REFUSE_WARM_UP");
     refuse_thread = number("REFUSE_THREAD");
     delay_memory = number("DELAY_MEMORY");
     hold_memory = getenv("HOLD_MEMORY");
@@ -91,7 +96,14 @@ static int is_refused(void) {
     return 1;
 }
 
+// Whether a worker asks for this as it starts. Such a request races with those of the first thread, so it is neither
+// counted nor delayed.
+static int is_warm_up(size_t size) {
+    return size == WARM_BYTES && !is_first_thread();
+}
+
 void *malloc(size_t size) {
+    if (is_warm_up(size)) return refuse_warm_up ? NULL : __libc_malloc(size);
     return is_refused() ? NULL : __libc_malloc(size);
 }
 

@@ -71,7 +71,7 @@ impl Held {
             answers,
             output: Vec::new(alloc),
             bytes: 0,
-            patience: Patience::FULL,
+            patience: Patience::FIRST,
         })
     }
 
@@ -161,12 +161,18 @@ impl Held {
         unreachable!()
     }
 
+    // Notes that a round came back.
+    pub(crate) fn came_back(&mut self)
+        ensures { self.new ≡ self.old }
+    {
+        self.patience = self.patience.after_round();
+    }
+
     // Makes this reply the answer that is the first to wait for the place.
     pub(crate) fn fill(&mut self, at: usize, place: usize, reply: Reply)
         requires { (command : Command) × FirstIsAt place command at self.old.answers }
         ensures { self.new ≡ held_is (filled place reply self.old.answers) self.old.output }
     {
-        self.patience = self.patience.after_round();
         self.bytes += bytes_of_reply(&reply);
         self.answers[at].answer(reply);
     }

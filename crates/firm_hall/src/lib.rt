@@ -37,7 +37,7 @@
 //! of the one function that rests (`Serving::rest`). The writer is flushed at the end alone.
 //!
 //! A worker without a round looks 16 times, the last one awake 512 times, the clerk 1,024 times, or 16 where
-//! rounds come late (`patience.rt`). Then they sleep:
+//! rounds come late or none has come yet (`patience.rt`). Then they sleep:
 //!
 //! - a worker without a round: sleeps until it is called for a round, or the hall is shut; woken by the hall's `Bell`;
 //!   `shut` wakes all

@@ -4,12 +4,15 @@ use firm_tray::LOOKS_BEFORE_SLEEP;
 // How many looks a short wait has.
 const FEW_LOOKS: u32 = 16;
 
-// Once rounds come late, one in this many is waited for long: while several are away, and while one is.
+// While several rounds are away, once one came late, the wait is long again after this many.
 const LONG_WAITS_OF_SEVERAL: u32 = 16;
 
-const LONG_WAITS: u32 = 4;
+// While one is, it is long after this many, then after twice as many each time, up to `RAREST_LONG_WAIT`.
+const FIRST_LONG_WAIT: u32 = 8;
 
-// A round that comes late by itself is no sign yet.
+const RAREST_LONG_WAIT: u32 = 64;
+
+// While one round is away, a single late one changes nothing.
 const FEWEST_LATE: u32 = 2;
 
 /// The looks in vain before one, and how many would come before a sleep.
@@ -24,27 +27,35 @@ pub(crate) struct Looks {
 /// time, and nothing else.
 #[derive(Clone, Copy)]
 pub(crate) struct Patience {
-    last: Looks,
-    // How many rounds came back since a long wait was too short for one; 0 while they come in time.
-    late: u32,
+    // Of the last look; `None` once a round that came back has judged the wait.
+    last: Option<Looks>,
+    // How many rounds came back since one came within a long wait; a new clerk begins with `FEWEST_LATE`.
+    since: u32,
+    // How many there are before the next long wait for a round that is away alone.
+    next: u32,
 }
 
 impl Patience {
-    /// Rounds are expected soon.
-    pub(crate) const FULL: Patience = Patience {
-        last: Looks {
-            in_vain: 0,
-            most: LOOKS_BEFORE_SLEEP,
-        },
-        late: 0,
+    /// A new clerk's: it waits briefly, since a service's first rounds find their rows in no cache and take longest.
+    pub(crate) const FIRST: Patience = Patience {
+        last: None,
+        since: FEWEST_LATE,
+        next: FIRST_LONG_WAIT,
+    };
+
+    // Behind a round that came within a long wait.
+    const SOON: Patience = Patience {
+        last: None,
+        since: 0,
+        next: FIRST_LONG_WAIT,
     };
 
     /// How many looks in vain come before a sleep, while several rounds are away or one is.
     pub(crate) fn most_looks(self, are_several: bool) -> u32 {
         let is_long = if are_several {
-            self.late % LONG_WAITS_OF_SEVERAL == 0
+            self.since % LONG_WAITS_OF_SEVERAL == 0
         } else {
-            self.late < FEWEST_LATE || self.late % LONG_WAITS == 0
+            self.since < FEWEST_LATE || self.next <= self.since
         };
         if is_long {
             LOOKS_BEFORE_SLEEP
@@ -54,20 +65,33 @@ impl Patience {
     }
 
     /// As it is after one more look, behind these.
-    pub(crate) fn after_look(self, last: Looks) -> Patience {
-        Patience { last, ..self }
+    pub(crate) fn after_look(self, looks: Looks) -> Patience {
+        Patience {
+            last: Some(looks),
+            ..self
+        }
     }
 
     /// As it is after a round came back.
     pub(crate) fn after_round(self) -> Patience {
-        let Looks { in_vain, most } = self.last;
-        let is_in_time = most == LOOKS_BEFORE_SLEEP && in_vain < most;
-        let late = if is_in_time {
-            0
-        } else {
-            self.late.wrapping_add(1)
+        // Two at one look: rounds come soon.
+        let Some(Looks { in_vain, most }) = self.last else {
+            return Patience::SOON;
         };
-        let last = Looks { in_vain: 0, most };
-        Patience { last, late }
+        let was_long = most == LOOKS_BEFORE_SLEEP;
+        if was_long && in_vain < most {
+            return Patience::SOON;
+        }
+        let since = self.since.saturating_add(1);
+        let next = if was_long && self.next < since {
+            since.saturating_add(self.next.min(RAREST_LONG_WAIT))
+        } else {
+            self.next
+        };
+        Patience {
+            last: None,
+            since,
+            next,
+        }
     }
 }

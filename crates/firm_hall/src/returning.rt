@@ -90,6 +90,7 @@ impl Serving {
         };
         let at = self.held.first_of(place);
         self.held.fill(at, place, reply);
+        self.held.came_back();
         true
     }
 

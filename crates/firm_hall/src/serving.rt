@@ -345,7 +345,7 @@ impl Serving {
     }
 }
 
-// Whether the command is a round. In line, since each line pays for it.
+// Whether the command is a round. Inlined, since each line pays for it.
 #[inline(always)]
 fn is_round(command: &Command) -> bool
     ensures { MatchBool result (command.now ≡ Round) (command.now ≢ Round) }
