@@ -82,7 +82,7 @@ pub(crate) fn is_at_most(classes: &[Class], one: Offer, other: Offer) -> bool
     is_at_most_parted(classes, parting, one, other)
 }
 
-// Where two classes part; nowhere if they are one. In line, since a round asks it once or more for each task.
+// Where two classes part; nowhere if they are one. Inlined: most calls end at the first comparison.
 #[inline(always)]
 fn parting_of(classes: &[Class], one: u32, other: u32) -> Parting
     requires tree { AreClasses classes.now }
@@ -96,8 +96,8 @@ fn parting_of(classes: &[Class], one: u32, other: u32) -> Parting
     first_parting(classes, one, other)
 }
 
-/// Whether the one offer is at most the other, where their amounts are the same and their classes part so. In line,
-/// since a round asks it once or more for each task.
+/// Whether the one offer is at most the other, where their amounts are the same and their classes part so.
+/// Inlined: most calls end at the first comparison.
 #[inline(always)]
 pub(crate) fn is_at_most_parted(
     classes: &[Class],
@@ -254,7 +254,7 @@ impl Known {
         parting: Parting::NOWHERE,
     };
 
-    /// Where these two part. In line, since a round asks it once or more for each task.
+    /// Where these two part. Inlined: most calls end at the first comparison.
     #[inline(always)]
     pub(crate) fn parting(&mut self, classes: &[Class], one: u32, other: u32) -> Parting
         requires tree { AreClasses classes.now }
@@ -276,8 +276,7 @@ impl Known {
         parting
     }
 
-    /// Whether the one offer is at most the other, level by level. In line, since a round asks it once or more for each
-    /// task.
+    /// Whether the one offer is at most the other, level by level. Inlined, since a round calls it once for each task.
     #[inline(always)]
     pub(crate) fn is_at_most(&mut self, classes: &[Class], one: Offer, other: Offer) -> bool
         requires tree { AreClasses classes.now }

@@ -322,7 +322,7 @@ impl Kept {
 }
 
 // What the choice costs the task with its rent: nothing of its own where the task stays. Most tasks stay or prefer no
-// machine, and are told without a look at what they prefer. In line, since a round asks it for each task.
+// machine, and are told without a look at what they prefer. Inlined, since a round calls it for each task.
 #[inline(always)]
 fn chosen_offer(
     case: &Case,

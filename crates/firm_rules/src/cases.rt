@@ -108,7 +108,7 @@ impl<A: Allocator> Case<A> {
         }
     }
 
-    /// Whether the choice keeps the task of this number on the machine where it runs. In line, since a round asks it
+    /// Whether the choice keeps the task of this number on the machine where it runs. Inlined, since a round calls it
     /// more than once for each task.
     #[inline(always)]
     pub fn stays(&self, task: usize, choice: Choice) -> bool
@@ -178,8 +178,8 @@ impl<A: Allocator> Case<A> {
     }
 
     /// Whether a placement is legal, and how many tasks it has on each machine if it is: one pass over the choices, for
-    /// a caller that wants both. The counts are written into the caller's array, which spares a copy; where the answer
-    /// is false, they are those of the first choices alone.
+    /// a caller that wants both. The counts go into the caller's array, which spares a copy; if the answer is false, it
+    /// holds those up to the first choice that is not legal.
     pub fn counts_loads(&self, placement: &[Choice], loads: &mut [u8; MOST_MACHINES]) -> bool
         requires { (j : ℕ) → slice_index loads.old j ≡ 0 }
         ensures legal { result ≡ is_legal self.now placement.now }
@@ -307,7 +307,7 @@ impl<A: Allocator> Case<A> {
         near
     }
 
-    /// The machines that the task of this number prefers. In line, since a round asks it once or more for each task.
+    /// The machines that the task of this number prefers. Inlined, since a round calls it once or more for each task.
     #[inline(always)]
     pub fn preferred(&self, task: usize) -> &[u32]
         requires { task < length self.now.tasks }

@@ -13,8 +13,7 @@ use crate::rounds::Choice;
 use crate::tables::Rows;
 use std::alloc::Allocator;
 
-/// How many machines an array of loads counts: at least as many as any tenant has, as each is a node of its network,
-/// and its limit of nodes is 4,096 at most.
+/// The length of an array with an entry for each machine: each is a node, and a tenant has at most 4,096 nodes.
 pub const MOST_MACHINES: usize = 4_096;
 
 /// Whether there is one choice for each task, each a machine or to wait, and no machine has more tasks than slots.
