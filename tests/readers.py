@@ -445,7 +445,10 @@ def shown_after_gaps(setup: Setup) -> None:
     """What is shown after random streams is what a plain service has, where the viewer was killed and fell behind."""
     draw = random.Random(setup.seed)
     gaps = 0
-    for _ in range(4 if setup.is_quick else 40):
+    for number in range(40):
+        # On a busy host the viewer may keep up with some streams.
+        if setup.is_quick and number >= 4 and gaps > 0:
+            break
         roster, text = random_stream(draw, 5)
         model = service.Service(service.read_roster(roster))
         told = [(line, service.answer_line(model, line)) for line in service.lines_of(text)]
