@@ -24,15 +24,14 @@ from functools import partial
 from pathlib import Path
 from types import SimpleNamespace
 
-from agent_kit import AGENT, LIMIT_SECONDS, SOON_SECONDS, SSH, WAITS_FOR_GO, Case, is_there
+from agent_kit import AGENT, LIMIT_SECONDS, SOON_SECONDS, WAITS_FOR_GO, Case, children, is_there
 from harness.checks import Check, Missed, Skipped, Suite, print_skipped, require, run_script, run_suites
-from harness.deployed import NotAllowed, agent_events, agent_machines, agent_queue, supervisor, work_of
+from harness.deployed import NotAllowed, agent_machines, agent_queue, supervisor, work_of
 from harness.files import write_program
-from queue_stand_in import QueueStandIn, Row, clock
+from queue_stand_in import LONG_SECONDS, Cluster, Row, clock
 
 AT_A_TIME = 8  # checks, which mostly wait
 LEASE_SECONDS = 10.0  # where it is to end
-LONG_SECONDS = 120.0  # a lease that does not end, on a busy host too
 BUSY_SECONDS = 40  # at most, by which anything is late on a busy host
 TURNS = 16  # of a loop: a lost connection is taken in within fewer
 NOBODY = 65534
@@ -63,89 +62,6 @@ try:
 except supervisor.Over as end:
     print(end.why)
 """
-
-
-class Cluster(Case):
-    """Agents of one tenant, with a state each in a folder of their name, and the queue."""
-
-    def __init__(self, *tasks: str, lease: float = LONG_SECONDS) -> None:
-        super().__init__("", machines="")
-        self.queue = QueueStandIn(self.folder, self.firmd, lease)
-        self.agents: dict[str, subprocess.Popen[str]] = {}
-        for task in tasks:
-            self.submit(task, ["/bin/sh", "-c", WAITS_FOR_GO])
-
-    def __enter__(self) -> Cluster:
-        return self
-
-    def __exit__(self, *_: object) -> None:
-        watching = [child for agent in self.agents.values() if agent.poll() is None for child in followers(agent.pid)]
-        for agent in self.agents.values():
-            agent.send_signal(signal.SIGCONT)
-            agent.kill()
-            agent.wait()
-        self.until(lambda: not any(map(is_there, watching)), "nobody makes a folder any more")
-        super().__exit__()
-        self.queue.close()
-        self.queue.loop.call_soon_threadsafe(self.queue.loop.stop)
-
-    def submit(self, task: str, command: list[str] | str, **more: object) -> None:
-        """A task that the queue has, and firm too."""
-        work = {"task": task, "job": "j", "attempt": 1, "command": command, "dir": str(self.folder), "env": {}}
-        work |= {"output": None, "time": None, "grace": 0.5, "memory": None, "processors": None}
-        self.queue.work[task] = {**work, **more}
-        self.firmd.say(f"task j {task}")
-
-    def start_agent(self, name: str = "a1", machines: str = "m1=4", before: list[str] | None = None) -> None:
-        files = {"queue": "queue", "view": "view", "state": name}
-        options = [f"--{option}={self.folder / file}" for option, file in files.items()]
-        path = {**os.environ, "PATH": f"{self.folder}:{os.environ['PATH']}"}
-        words = [*(before or AGENT), "run", *options, f"--name={name}", f"--machines={machines}"]
-        self.agents[name] = subprocess.Popen(words, stdin=subprocess.DEVNULL, stderr=self.log, env=path, text=True)
-
-    def start_registered(self, name: str = "a1", machines: str = "m1=4") -> None:
-        self.start_agent(name, machines)
-        self.until(lambda: name in self.queue.agents, f"{name} is registered")
-
-    def kill_agent(self, name: str) -> None:
-        self.agents[name].kill()
-        self.agents[name].wait()
-
-    def until_told(self, event: str, task: str) -> Row:
-        """Waits until the queue has heard of an event of a task; the last one."""
-        found: list[Row] = []
-
-        def is_told() -> bool:
-            found[:] = [
-                told
-                for attempt in self.queue.attempts.values()
-                if attempt.task == task
-                for told in attempt.events
-                if told["event"] == event
-            ]
-            return bool(found)
-
-        self.until(is_told, f"{event} of {task} is told")
-        return found[-1]
-
-    def until_silent(self, name: str) -> None:
-        """Waits until the queue takes for lost what ran at an agent."""
-
-        def is_lost() -> bool:
-            self.queue.lose_silent()
-            return name not in self.queue.agents
-
-        self.until(is_lost, f"{name} is silent for too long")
-
-    def until_acknowledged(self, name: str) -> None:
-        """Waits until an agent has written that the queue has heard of all that it is to be told."""
-
-        def is_written() -> bool:
-            events = [json.loads(line)["event"] for line in self.text(f"{name}/events.jsonl").splitlines()]
-            last = max(place for place, event in enumerate(events, 1) if event in agent_events.TOLD)
-            return bool(json.loads(self.text(f"{name}/{agent_events.CURSOR}") or '{"count": 0}')["count"] == last)
-
-        self.until(is_written, f"{name} has written what is acknowledged")
 
 
 def life() -> None:
@@ -403,7 +319,7 @@ def killed_supervisor() -> None:
         case.firmd.round("start a m1")
         case.until_told("running", "a")
         case.until(lambda: case.text("a.log"), "its command runs")
-        watching = followers(case.agents["a1"].pid)
+        watching = children(case.agents["a1"].pid)
         case.kill_agent("a1")
         case.until(lambda: not any(map(is_there, watching)), "nobody looks at it")
         (claim,) = case.folder.glob("a1/runs/*/a.*/process")
@@ -501,17 +417,52 @@ def whose_work() -> None:
     if os.getuid() != 0:
         raise Skipped("it needs root")
     work: Row = {"command": ["true"], "grace": 5, "dir": "/"}
-    asked: list[Row] = [work, {**work, "user": 8}]
-    users = [work_of(row, 7, True).bounds.get("user") for row in asked]
-    require(users == [7, 8], users)
-    require(
-        work_of(work, 0, True).bounds == work_of({**work, "user": 8}, 7, False).bounds == {}, "root's, and over ssh"
-    )
+    nobodys: Row = {**work, "user": None}
+    users = [work_of(row, 7, True).bounds.get("user") for row in (work, nobodys, {**work, "user": 8})]
+    require(users == [7, 7, 8], users)
+    roots = [work_of(row, 0, True).bounds for row in (work, nobodys, {**work, "user": 0})]
+    require(roots == [{}, {}, {}] and work_of({**work, "user": 8}, 7, False).bounds == {}, "root's, and over ssh")
+    others: list[object] = [0, False, True, 0.0, 7.0, -1, 2**32 - 1, 2**32, "0", "7", [0], {}]
+    taken = [user for user in others if is_work({**work, "user": user})]
+    require(not taken, f"taken for users: {taken}")
+
+
+def is_work(row: object) -> bool:
+    """Whether an agent takes what a queue of another user gives it."""
     try:
-        work_of({**work, "user": 0}, 7, True)
+        work_of(row, 7, True)
     except NotAllowed:
-        return
-    raise Missed("work of root's is taken from a queue that is not root's")
+        return False
+    return True
+
+
+def no_work() -> None:
+    """What a queue gives in place of work is refused, and told; what is work is done."""
+    work: Row = {"command": ["true"], "grace": 5, "dir": "/", "env": None, "output": None, "time": None, "memory": None}
+    nan, endless = float("nan"), float("inf")
+    others: dict[str, list[object]] = {
+        "command": [None, [], [5], ["a\0"], ["\ud800"], {"a": 1}, 5],
+        "dir": [None, 5, "", "here", "/\0", True],
+        "env": [[1], 5, {"a": None}, {"a": 1}, {"a": "\0"}, "x"],
+        "output": [5, "here", ["/x"], ""],
+        "time": [0, -1, nan, endless, "5", True],
+        "grace": [None, -1, nan, endless, "5", 1e9],
+        "memory": [0, -1, 1.5, "max", True, 2**70],
+        "processors": [0, nan, endless, 1e308, "1", False],
+    }
+    require(is_work(work), "it is work")
+    taken = [(field, value) for field in others for value in others[field] if is_work({**work, field: value})]
+    require(not taken and not any(map(is_work, (None, [], 5, "work"))), f"taken: {taken}")
+    with Cluster() as case:
+        case.submit("a", ["true"], env=["x"])
+        case.submit("b", ["true"])
+        case.start_registered()
+        case.firmd.round("start a m1 start b m1")
+        told = case.until_told("ended", "a")
+        require(
+            (told["status"], told["fault"]) == (126, "the queue gives what is no work: env: names with values"), told
+        )
+        require(case.until_told("ended", "b")["status"] == 0, case.told())
 
 
 def stopped_as_its_queue_goes() -> None:
@@ -602,10 +553,7 @@ def limits_written() -> None:
 def over_ssh() -> None:
     """Over ssh a run has its lease by the clock there, keeps it while the agent is there, and loses it without."""
     with Cluster("a", lease=LEASE_SECONDS) as case:
-        write_program(case.folder / "ssh", SSH.format(folder=case.folder))
-        (case.folder / "host").mkdir()
-        (case.folder / "machines.toml").write_text('[machines.m1]\nslots = 4\nssh = "host"\n')
-        case.start_registered(machines=str(case.folder / "machines.toml"))
+        case.start_over_ssh()
         case.firmd.round("start a m1")
         running = case.until_told("running", "a")
         require(running["host"] == "host" and running["output"].startswith(f"{case.folder}/host/"), running)
@@ -712,7 +660,7 @@ def measure(agents: int, tasks: int) -> None:
         print(f"{len(names)} tasks told to run after {clock() - began:.1f} s")
         before = {agent: processor_of(case.agents[f"a{agent}"].pid) for agent in numbers}
         supervisors = [json.loads(path.read_text())["pid"] for path in case.folder.glob("a*/runs/*/*/process")]
-        others = [child for agent in numbers for child in followers(case.agents[f"a{agent}"].pid)]
+        others = [child for agent in numbers for child in children(case.agents[f"a{agent}"].pid)]
         runs_before = sum(map(processor_of, supervisors + others))
         time.sleep(60)
         spent = sum(processor_of(case.agents[f"a{agent}"].pid) - before[agent] for agent in numbers)
@@ -726,10 +674,6 @@ def measure(agents: int, tasks: int) -> None:
 
 def has_run(attempt: object) -> bool:
     return any(event["event"] == "running" for event in getattr(attempt, "events"))
-
-
-def followers(pid: int) -> list[int]:
-    return [int(child) for child in Path(f"/proc/{pid}/task/{pid}/children").read_text().split()]
 
 
 def processor_of(pid: int) -> float:
@@ -759,6 +703,7 @@ QUICK = [
     told_by_the_queue,
     other_user,
     whose_work,
+    no_work,
     limits_refused,
     limits_written,
 ]

@@ -4,6 +4,9 @@ from __future__ import annotations
 
 import asyncio
 import json
+import os
+import signal
+import subprocess
 import threading
 import time
 from collections.abc import Coroutine
@@ -11,11 +14,14 @@ from dataclasses import dataclass, field
 from pathlib import Path
 from typing import Any, TypeVar
 
-from agent_kit import LIMIT_SECONDS, StandIn
+from agent_kit import AGENT, LIMIT_SECONDS, SSH, WAITS_FOR_GO, Case, StandIn, children, is_there
+from harness.deployed import agent_events
+from harness.files import write_program
 
 Row = dict[str, Any]
 Result = TypeVar("Result")
 MARGIN_SECONDS = 5.0  # beside the lease and the grace, before what ran is taken for lost, on a busy host
+LONG_SECONDS = 120.0  # a lease that does not end, on a busy host too
 
 
 def clock() -> float:
@@ -176,3 +182,95 @@ class QueueStandIn:
                 self.firmd.say(f"done {attempt.task}")
                 self.work.pop(attempt.task, None)
         return {"told": len(events)}
+
+
+class Cluster(Case):
+    """Agents of one tenant, with a state each in a folder of their name, and the queue."""
+
+    def __init__(self, *tasks: str, lease: float = LONG_SECONDS) -> None:
+        super().__init__("", machines="")
+        self.queue = QueueStandIn(self.folder, self.firmd, lease)
+        self.agents: dict[str, subprocess.Popen[str]] = {}
+        for task in tasks:
+            self.submit(task, ["/bin/sh", "-c", WAITS_FOR_GO])
+
+    def __enter__(self) -> Cluster:
+        return self
+
+    def __exit__(self, *_: object) -> None:
+        watching = [child for agent in self.agents.values() if agent.poll() is None for child in children(agent.pid)]
+        for agent in self.agents.values():
+            agent.send_signal(signal.SIGCONT)
+            agent.kill()
+            agent.wait()
+        self.until(lambda: not any(map(is_there, watching)), "nobody makes a folder any more")
+        super().__exit__()
+        self.queue.close()
+        self.queue.loop.call_soon_threadsafe(self.queue.loop.stop)
+
+    def submit(self, task: str, command: list[str] | str, **more: object) -> None:
+        """A task that the queue has, and firm too."""
+        work = {"task": task, "job": "j", "attempt": 1, "command": command, "dir": str(self.folder), "env": {}}
+        work |= {"output": None, "time": None, "grace": 0.5, "memory": None, "processors": None}
+        self.queue.work[task] = {**work, **more}
+        self.firmd.say(f"task j {task}")
+
+    def start_agent(self, name: str = "a1", machines: str = "m1=4", before: list[str] | None = None) -> None:
+        files = {"queue": "queue", "view": "view", "state": name}
+        options = [f"--{option}={self.folder / file}" for option, file in files.items()]
+        path = {**os.environ, "PATH": f"{self.folder}:{os.environ['PATH']}"}
+        words = [*(before or AGENT), "run", *options, f"--name={name}", f"--machines={machines}"]
+        self.agents[name] = subprocess.Popen(words, stdin=subprocess.DEVNULL, stderr=self.log, env=path, text=True)
+
+    def start_registered(self, name: str = "a1", machines: str = "m1=4") -> None:
+        self.start_agent(name, machines)
+        self.until(lambda: name in self.queue.agents, f"{name} is registered")
+
+    def start_over_ssh(self) -> Path:
+        """Starts an agent whose machine is over ssh; that host's folder."""
+        host = self.folder / "host"
+        host.mkdir(exist_ok=True)
+        write_program(self.folder / "ssh", SSH.format(folder=self.folder))
+        (self.folder / "machines.toml").write_text('[machines.m1]\nslots = 4\nssh = "host"\n')
+        self.start_registered(machines=str(self.folder / "machines.toml"))
+        return host
+
+    def kill_agent(self, name: str) -> None:
+        self.agents[name].kill()
+        self.agents[name].wait()
+
+    def until_told(self, event: str, task: str) -> Row:
+        """Waits until the queue has heard of an event of a task; the last one."""
+        found: list[Row] = []
+
+        def is_told() -> bool:
+            found[:] = [
+                told
+                for attempt in self.queue.attempts.values()
+                if attempt.task == task
+                for told in attempt.events
+                if told["event"] == event
+            ]
+            return bool(found)
+
+        self.until(is_told, f"{event} of {task} is told")
+        return found[-1]
+
+    def until_silent(self, name: str) -> None:
+        """Waits until the queue takes for lost what ran at an agent."""
+
+        def is_lost() -> bool:
+            self.queue.lose_silent()
+            return name not in self.queue.agents
+
+        self.until(is_lost, f"{name} is silent for too long")
+
+    def until_acknowledged(self, name: str) -> None:
+        """Waits until an agent has written that the queue has heard of all that it is to be told."""
+
+        def is_written() -> bool:
+            events = [json.loads(line)["event"] for line in self.text(f"{name}/events.jsonl").splitlines()]
+            last = max(place for place, event in enumerate(events, 1) if event in agent_events.TOLD)
+            return bool(json.loads(self.text(f"{name}/{agent_events.CURSOR}") or '{"count": 0}')["count"] == last)
+
+        self.until(is_written, f"{name} has written what is acknowledged")

@@ -16,6 +16,9 @@ from .agent_state import Event, Key, Run
 from .agent_table import Machine, Work
 from .books import Task
 from .logs import INFO, WARNING, tell
+from .queue.fields import MOST_BYTES, MOST_GRACE, MOST_LETTERS, MOST_PROCESSORS, MOST_SECONDS, MOST_WORDS
+from .queue.fields import Fields, Refused, bad, checked_text
+from .supervisor import short
 
 if TYPE_CHECKING:
     from .agent import Agent
@@ -24,19 +27,59 @@ SHORTEST_PAUSE, LONGEST_PAUSE = 0.1, 2.0  # seconds between two tries to reach t
 REGISTER_SECONDS = 2.0  # between two tries to register
 DONE_SECONDS = 2.0  # for which firm may still have a task that has done its work
 ROOM_SECONDS = 1.0  # between two looks whether the disk has room again
-BOUNDS = {"output": "output", "time": "limit", "memory": "memory", "processors": "processors", "user": "user"}
+MOST_USER = 2**32 - 2  # the next number stands for no user
+WORK_FIELDS = ("command", "dir", "env", "output", "time", "grace", "memory", "processors", "user")
 
 
-def work_of(answer: Event, owner: int, is_here: bool) -> Work:
-    """Work as the queue says it. An agent of root runs it as its user; of a queue that names none, as its owner."""
-    answer = {**answer, "user": answer.get("user", owner) if os.geteuid() == 0 and is_here else None}
-    if answer["user"] == 0:
-        if owner != 0:
-            raise NotAllowed("a queue that is not root's gives no work of root's to an agent of root")
-        answer["user"] = None
-    bounds = {name: answer[field] for field, name in BOUNDS.items() if answer.get(field) is not None}
-    environment = {**(answer.get("env") or {})}
-    return Work(answer["command"], 0, 0.0, answer["grace"], answer["dir"], environment, bounds)
+def work_of(answer: Any, owner: int, is_here: bool) -> Work:
+    """Work as the queue says it; raises NotAllowed where it is none. An agent of root runs it as its user; of a queue
+    that names none, as its owner."""
+    given = answer if isinstance(answer, dict) else {}
+    fields = Fields({name: given.get(name) for name in WORK_FIELDS}, WORK_FIELDS)
+    try:
+        directory, grace = fields.path("dir"), fields.number("grace", MOST_GRACE)
+        if directory is None or grace is None:
+            raise bad("work", "dir and grace are needed")
+        found = {
+            "output": fields.path("output", MOST_LETTERS),
+            "limit": fields.number("time", MOST_SECONDS, is_zero=False),
+            "memory": fields.whole("memory", 1, MOST_BYTES),
+            "processors": fields.number("processors", MOST_PROCESSORS, is_zero=False),
+            "user": user_of(fields, owner) if os.geteuid() == 0 and is_here else None,
+        }
+        bounds = {name: value for name, value in found.items() if value is not None}
+        return Work(command_of(fields), 0, 0.0, grace, directory, environment_of(fields), bounds)
+    except Refused as refusal:
+        raise NotAllowed(f"the queue gives what is no work: {short(str(refusal))}") from None
+
+
+def user_of(fields: Fields, owner: int) -> int | None:
+    """Whose process it is to be; None: this one's, which is root's."""
+    named = fields.whole("user", 0, MOST_USER)
+    user = owner if named is None else named
+    if user == 0 and owner != 0:
+        raise NotAllowed("a queue that is not root's gives no work of root's to an agent of root")
+    return user or None
+
+
+def command_of(fields: Fields) -> str | list[str]:
+    if isinstance(fields.get("command"), str):
+        return checked_text("command", fields.get("command"), MOST_LETTERS)
+    command = list(fields.texts("command", MOST_WORDS))
+    if not command:
+        raise bad("command", "no program")
+    return command
+
+
+def environment_of(fields: Fields) -> dict[str, str]:
+    found = fields.get("env")
+    if found is None:
+        return {}
+    if not isinstance(found, dict):
+        raise bad("env", "names with values")
+    for word in (*found, *found.values()):
+        checked_text("env", word, MOST_LETTERS)
+    return found
 
 
 def first_of(faults: BaseExceptionGroup[BaseException]) -> BaseException:
@@ -282,11 +325,11 @@ class QueueSource:
         while run.ends is None:
             news, seconds = self._news, None
             try:
-                if self._link is not None:
-                    answer = (await self._link.ask("claim", **row))["claim"]
+                if (link := self._link) is not None:
+                    answer = (await link.ask("claim", **row))["claim"]
                     if "work" in answer:
                         machine = self.machine(run.machine)
-                        return work_of(answer["work"], self._link.owner, machine is not None and machine.ssh is None)
+                        return work_of(answer["work"], link.owner, machine is not None and machine.ssh is None)
                     if "void" in answer:
                         self._refused[run.key] = run.machine
                         return None

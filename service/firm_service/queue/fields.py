@@ -11,7 +11,7 @@ from .rows import DEFAULT_GRACE, MOST_INDEX, Spec
 
 MOST_WORDS, MOST_LETTERS, MOST_NAMES, MOST_PATH = 10_000, 128 * 1024, 1_000, 4_096
 MOST_NEAR, MOST_NEEDS, MOST_WEIGHT, MOST_KEY, MOST_LABEL = 4, 10_000, 1_000_000, 128, 128
-MOST_RETRIES, MOST_GRACE, MOST_SECONDS, MOST_BYTES = 100, 3_600.0, 1e9, 2**60
+MOST_RETRIES, MOST_GRACE, MOST_SECONDS, MOST_BYTES, MOST_PROCESSORS = 100, 3_600.0, 1e9, 2**60, 1e6
 NAME = re.compile(r"[a-z0-9-]{1,16}")
 VARIABLE = re.compile(r"[A-Za-z_][A-Za-z0-9_]*")
 Json = dict[str, Any]
@@ -174,7 +174,7 @@ def spec_of(fields: Fields) -> Spec:
         DEFAULT_GRACE if grace is None else grace,
         retries or 0,
         fields.whole("memory", 1, MOST_BYTES),
-        fields.number("processors", 1e6, is_zero=False),
+        fields.number("processors", MOST_PROCESSORS, is_zero=False),
     )
 
 
