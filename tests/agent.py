@@ -389,6 +389,7 @@ def over_ssh() -> None:
         home = case.folder / "host"
         write_program(case.folder / "ssh", SSH.format(folder=case.folder))
         (home / "work").mkdir(parents=True)
+        (home / ".bashrc").write_text("""echo '{"event": "lost"}'""")  # which a supervisor says last
         (home / "down").touch()
         case.start("--until-empty")
         case.firmd.round("start a m1")

@@ -32,13 +32,15 @@ WAITS_FOR_GO = (
     'echo "begin $FIRM_MACHINE" >> $FIRM_TASK.log; '
     "until [ -e $FIRM_TASK.go ]; do sleep 0.05; done; echo end >> $FIRM_TASK.log"
 )
-# Stands in for ssh: a host is a folder that is its home, and is down while `down` is there.
+# Stands in for ssh: a host is a folder that is its home, and is down while `down` is there. Its shell reads `.bashrc`.
 SSH = """#!/bin/sh
 while [ "$1" = -o ]; do shift 2; done
 host=$1; shift
 echo "$host" >> {folder}/asked
 [ ! -e {folder}/$host/down ] || exit 255
-cd {folder}/$host && HOME={folder}/$host exec sh -c "$*"
+cd {folder}/$host || exit 255
+[ ! -e .bashrc ] || . ./.bashrc
+HOME={folder}/$host exec sh -c "$*"
 """
 
 

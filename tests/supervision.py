@@ -1,4 +1,5 @@
-"""Asks what becomes of tasks' processes when the supervisor, the agent or the agent's events are lost.
+"""Asks what becomes of tasks' processes when the supervisor, the agent or the agent's events are lost, and of agents to
+which others say something in a supervisor's place.
 
 usage: tools/run tests/supervision.py [--quick] [--only WORDS]
 Each check has a line; the last line is 'N passed, M failed', and the exit status is 1 where one failed. It needs Python
@@ -24,6 +25,7 @@ from pathlib import Path
 from agent_kit import SOON_SECONDS, SSH, WAITS_FOR_GO, Case, command, is_there
 from harness.checks import Check, Skipped, Suite, print_skipped, require, run_script, run_suites
 from harness.files import write_program
+from queue_stand_in import Cluster
 
 AT_A_TIME = 6  # checks, which mostly wait
 LOOK_SECONDS = 1.0  # in which a hidden process has changed its number, on a busy host too
@@ -412,6 +414,92 @@ def records_of_runs() -> None:
         require(all(told_row.items() >= row.items() for told_row in told), told)
 
 
+# What is said in a supervisor's place.
+
+
+def said_in_its_place() -> None:
+    """What a host's shell says in a supervisor's place ends no agent, is told to no queue, and shortly to people."""
+    lines = [
+        *('{"event": "lost", "run": 1}', '{"event": "ended", "status": 0, "asked": true, "over": [1]}', "[" * 100_000),
+        '{"event": "ended", "status": 99999999, "asked": false}',
+        '{"event": "ended", "status": 0, "asked": true, "over": "night"}',
+        '{"event": "ended", "status": 0, "asked": false, "fault": {}}',
+        '{"event": "ended", "status": 0, "asked": false, "output": "x"}',
+        '{"event": "ended", "status": 0, "asked": false, "seconds": NaN}',
+        *('{"event": "ended", "status": true, "asked": false}', '{"event": ["ended"]}', "5", "[]", "null", "\ud800"),
+        '{"event": "running", "pid": 0}',
+        '{"event": "running", "pid": 1, "unkept": [1]}',
+        '{"event": "running", "pid": 1, "output": {"x": 1}}',
+        *('{"event": "clock", "now": NaN, "asks": true}', '{"event": "clock", "now": 1e999, "asks": true}', "\x1b[2J"),
+        *('{"event": "foreign", "run": "x", "pid": true}', f'{{"event": "{"x" * 100_000}"}}', *["more"] * 1_000),
+    ]
+    with Cluster("a", "b") as case:
+        host = case.folder / "host"
+        host.mkdir()
+        (host / "said").write_text("\n".join(lines), errors="surrogatepass")
+        (host / ".bashrc").write_text("cat said; echo")
+        case.start_over_ssh()
+        case.firmd.round("start a m1 start b m1")
+        running = case.until_told("running", "a")
+        require(running["host"] == "host" and running["output"].startswith(f"{host}/"), running)
+        case.until_begun("a", "b")
+        case.go("a", "b")
+        for task in "ab":
+            ended = case.until_told("ended", task)
+            require((ended["status"], ended["asked"], ended["why"]) == (0, False, None), ended)
+        require(len(case.queue.told) == 4 and case.agents["a1"].poll() is None, case.queue.told)
+        told = case.told().splitlines()
+        require('m1 said \'{"event": ["ended"]}\'' in case.told(), "what was said is not told")
+        require(max(map(len, told)) < 400 and len(told) < 100, "it is told at length")
+
+
+def used_up_memory() -> None:
+    """A run whose memory is used up while it is being ended has ended, and the agent goes on."""
+    with Case(OVER_SSH, a=command(WAITS_FOR_GO), b=command("true")) as case:
+        stand_in_ssh(case)
+        said = {"event": "ended", "status": -9, "asked": True, "fault": None, "over": "memory"}
+        (case.folder / "host/.bashrc").write_text(f"echo '{json.dumps(said)}'; exit")
+        case.start()
+        case.firmd.round("start a m1")
+        case.until(
+            lambda: "a on m1 (run 1) was ended, as its memory was used up, status -9" in case.told(), "it is told"
+        )
+        case.firmd.round("preempt a m1 start b m2")
+        case.until(lambda: case.firmd.asked == ["alpha done b"], "b is done")
+
+
+def standard_error() -> None:
+    """What ssh and a host say on standard error is told line by line, steers no terminal and holds nothing up, though
+    it is without an end, and though a process keeps it."""
+    shell = r"""
+        printf 'red \033[31m\r\nfirm-agent: no\n' >&2
+        head -c 3000000 /dev/zero | tr '\0' x >&2; echo >&2
+        yes noise | head -n 100000 >&2
+        sleep 1000 < /dev/null > /dev/null & echo $! > keeps
+        printf 'no end' >&2
+    """
+    with Case(OVER_SSH, a=command("echo done >&2")) as case:
+        stand_in_ssh(case)
+        (case.folder / "host/.bashrc").write_text(shell)
+        case.start("--until-empty")
+        case.firmd.round("start a m1")
+        require(case.status() == 0, "the agent's status")
+        kept = int(case.text("host/keeps"))
+        require(is_there(kept), "nothing has kept standard error")
+        os.kill(kept, signal.SIGKILL)
+        told = case.told()
+        for words in (
+            r"m1 said 'red \x1b[31m'",
+            "m1 said 'firm-agent: no'",
+            "m1 said 'xxx",
+            "m1 says more, which is not told",
+        ):
+            require(words in told, f"not told: {words}\n{told}")
+        lines = told.splitlines()
+        require(all(line.startswith("firm-agent: ") and line.isprintable() for line in lines), told)
+        require(max(map(len, lines)) < 400 and len(lines) < 60, f"it is told at length: {told}")
+
+
 def name_of(check: Check) -> str:
     return check.__name__.replace("_", " ")
 
@@ -433,6 +521,9 @@ def checks(is_quick: bool) -> dict[str, Check]:
         goes_on,
         noted_twice,
         records_of_runs,
+        said_in_its_place,
+        used_up_memory,
+        standard_error,
     ):
         found[name_of(check)] = check
     for is_moved, how in ((False, "put back"), (True, "moved away")):

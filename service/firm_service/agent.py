@@ -23,6 +23,7 @@ from .agent_queue import QueueSource
 from .agent_source import LONGEST_FIRMD_PAUSE, LONGEST_PAUSE, Source, TableSource
 from .agent_state import EVENTS, Event, Key, Run, State, StateError, Tally
 from .agent_table import Machine, Table, TableError, Work
+from .agent_words import OVER, Teller
 from .books import Book, Books, Task
 from .lines import is_name
 from .logs import ERROR, INFO, WARNING, add_form, begin, tell
@@ -37,8 +38,6 @@ IMPORT = "import sys; sys.path.insert(0, sys.argv[1]); import supervisor; superv
 SSH = ["ssh", "-o", "BatchMode=yes", "-o", "ConnectTimeout=15", "-o", "ServerAliveInterval=15"]
 BEGUN_AT_A_TIME = 8  # supervisors on each machine: sshd takes 10 connections that are not authenticated yet
 LONGEST_ANSWER = 1 << 26  # bytes of a line of the view
-LONGEST_EVENT = 1 << 20  # of a line of a supervisor
-OVER = {None: "", "timeout": ", as its time was over", "lease": ", as the agent's lease was over"}
 EXITS = """\
 exit statuses:
   0  stopped, or --until-empty and the tenant has no tasks
@@ -271,61 +270,39 @@ class Agent:
         else:
             there = shlex.join(["python3", *PYTHON, RUN_FIRST_LINE, run.name])
             words, first = [*SSH, machine.ssh, there], ascii(SUPERVISOR.read_text()).encode() + b"\n"
-        pipe = asyncio.subprocess.PIPE
+        teller = Teller(run)
         async with self.gates[run.machine]:
             try:
-                supervisor = await asyncio.create_subprocess_exec(
-                    *words, stdin=pipe, stdout=pipe, start_new_session=True, limit=LONGEST_EVENT
-                )
+                orders = await teller.begin(words)
             except OSError as error:
                 run.tell(f": {words[0]}: {error}", WARNING)
                 return None
-            if supervisor.stdin is None or supervisor.stdout is None:
-                raise RuntimeError("a process without the pipes that it was given")
             request = self.request(run, machine, None if run.ends else work)
-            supervisor.stdin.write(first + json.dumps(request).encode() + (b"\nend\n" if run.ends else b"\n"))
-            self.controls[run.number] = supervisor.stdin
-            line = await self.next_line(run, supervisor, supervisor.stdout)
+            orders.write(first + json.dumps(request).encode() + (b"\nend\n" if run.ends else b"\n"))
+            self.controls[run.number] = orders
+            event = await teller.next()
         outcome = None
-        while line:
-            outcome = self.heard_of(run, line, work is None) or outcome
-            line = await self.next_line(run, supervisor, supervisor.stdout)
+        while event is not None:
+            outcome = self.heard_of(run, event, work is None)  # an end with more behind it was no supervisor's
+            event = await teller.next()
         del self.controls[run.number]
-        supervisor.stdin.close()
-        await supervisor.wait()
+        await teller.end()
         return outcome
 
-    @staticmethod
-    async def next_line(run: Run, supervisor: asyncio.subprocess.Process, output: asyncio.StreamReader) -> bytes:
-        """What is said of a run next. Where that is no line, it is asked for again, by another process."""
-        try:
-            return await output.readline()
-        except ValueError:
-            run.tell(f": {run.machine} said more than {LONGEST_EVENT:,} bytes without an end", WARNING)
-            with contextlib.suppress(ProcessLookupError):
-                supervisor.kill()
-            return b""
-
-    def heard_of(self, run: Run, line: bytes, is_old: bool) -> Event | None:
-        """Takes in a line of a supervisor; how the run ended, where it says so."""
-        try:
-            event = json.loads(line)
-        except ValueError:
-            event = None
+    def heard_of(self, run: Run, event: Event, is_old: bool) -> Event | None:
+        """Takes in an event of a supervisor; how the run ended, where it says so."""
         match event:
-            case {"event": "running", "pid": int(pid)}:
+            case {"event": "running", "pid": pid}:
                 self.state.record("running", run=run.number, pid=pid, **self.place(run, event))
                 run.tell(f" {'still runs' if is_old else 'runs'}, process {pid}")
                 if event.get("unkept") is not None:
                     self.tell_unkept(self.host(run), event["unkept"])
-            case {"event": "foreign", "run": str(other), "pid": int(pid)}:
+            case {"event": "foreign", "run": other, "pid": pid}:
                 run.tell(f": {other}, process {pid}, runs too and is unknown here: it is ended first", WARNING)
-            case {"event": "clock", "now": float(now), "asks": bool(asks)}:
+            case {"event": "clock", "now": now, "asks": asks}:
                 self.source.clock(run, now, asks)
-            case {"event": "ended", "status": int(), "asked": bool()} | {"event": "lost" | "void"}:
-                return {**event, **self.place(run, event)}
             case _:
-                run.tell(f": {run.machine} said {line!r}", WARNING)
+                return {**event, **self.place(run, event)}
         return None
 
     def host(self, run: Run) -> str | None:
@@ -374,7 +351,7 @@ class Agent:
         if outcome["event"] == "void":
             return run.tell(" was never begun", WARNING)
         if outcome["event"] == "ended" and (outcome["asked"] or outcome["status"] == 0):
-            how = f"was ended{OVER[outcome.get('over')]}" if outcome["asked"] else "is done"
+            how = f"was ended{OVER.get(outcome.get('over'), '')}" if outcome["asked"] else "is done"
             return run.tell(f" {how}, status {outcome['status']}")
         why = (
             outcome.get("fault") or f"status {outcome['status']}"

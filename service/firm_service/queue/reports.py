@@ -13,6 +13,7 @@ from .states import SIGNAL_STATUS, End
 
 MOST_MACHINES, MOST_RUNS, MOST_EVENTS, MOST_SLOTS, MOST_NUMBER = 4_096, 100_000, 1_000, 64, 2**53
 MOST_FAULT = 500  # letters
+LEAST_STATUS, MOST_STATUS = -256, 65_535
 TOKEN = re.compile(r"[0-9a-f]{8,64}")
 RUN_STATES = ("claiming", "starting", "running", "ended")
 
@@ -112,7 +113,7 @@ def event_of(given: Any) -> Told:
     if kind == "running":
         return Told(token, at, None, None, fields.path("output", MOST_LETTERS), fields.text("host", 1_000))
     if kind == "ended":
-        status = fields.whole("status", -256, 65_535)
+        status = fields.whole("status", LEAST_STATUS, MOST_STATUS)
         if status is None:
             raise bad("events", "an end without a status")
         why, fault = fields.text("why", 100), fault_of(given.get("fault"))
