@@ -567,6 +567,41 @@ def over_ssh() -> None:
         require(case.until_told("ended", "a")["why"] == "lease", "why a ended")
 
 
+def told_before() -> None:
+    """Events that an older agent took from a host, or that the queue does not know, hold up none that are behind."""
+    ends: list[Row] = [
+        {"event": "ended", "status": 99_999_999, "asked": False},
+        {"event": "ended", "status": 0, "asked": True, "over": [1]},
+        {"event": "ended", "status": 0, "asked": False, "fault": {}},
+        {"event": "ended", "status": 0, "asked": False, "output": "x", "host": "host"},
+        {"event": "ended", "status": 0, "asked": False, "host": {}},
+        {"event": "lost", "status": "x", "output": [], "host": []},
+        {"event": "ended", "status": 7, "asked": False},
+        {"event": "ended", "status": 8, "asked": False},
+        {"event": "ended", "status": -9, "asked": False, "output": "/x", "seconds": 1.5},
+    ]
+    long: Row = {"event": "ended", "status": 0, "asked": False, "output": "/" + "\U0001f600" * 4_000}
+    rows: list[Row] = [{"event": "state", "name": "a1-1"}]
+    for run, end in enumerate([*ends, *[long] * 200], 1):  # more than a request has room for
+        place = {"task": f"t{run}", "line": run, "state": "first", "job": "j", "weight": 10, "machine": "m1"}
+        rows.append({"event": "start", "run": run, **place, "token": f"{run:08}"})
+        rows.append({"event": "running", "run": run, "pid": run, "output": {"x": run}, "host": "host"})
+        rows.append({**end, "run": run})
+    with Cluster() as case:
+        (case.folder / "a1").mkdir()
+        text = "".join(json.dumps({"time": 1.0, **row}) + "\n" for row in rows)
+        (case.folder / "a1/events.jsonl").write_text(text)
+        case.queue.refuses = lambda event: event.get("status") == 7 or event["token"] == "00000008"
+        case.start_registered()
+        case.until_acknowledged("a1")
+        told = {event["token"]: event for event in case.queue.told if event["event"] != "running"}
+        found = [told[f"{run:08}"]["event"] for run in (1, 2, 3, 4, 5, 6, 7, 9)]
+        require(found == ["lost"] * 7 + ["ended"] and len(told) == 208, found)
+        last = {"status": 137, "output": "/x", "seconds": 1.5, "why": None}
+        require(told["00000009"].items() >= last.items(), told["00000009"])
+        require(case.told().count("the queue does not take the event") == 4, case.told())
+
+
 def faulty_command_lines() -> None:
     """Faulty options and lists of machines are refused, and named."""
     with Cluster() as case:
@@ -704,6 +739,7 @@ QUICK = [
     other_user,
     whose_work,
     no_work,
+    told_before,
     limits_refused,
     limits_written,
 ]

@@ -9,13 +9,13 @@ import signal
 import subprocess
 import threading
 import time
-from collections.abc import Coroutine
+from collections.abc import Callable, Coroutine
 from dataclasses import dataclass, field
 from pathlib import Path
 from typing import Any, TypeVar
 
 from agent_kit import AGENT, LIMIT_SECONDS, SSH, WAITS_FOR_GO, Case, StandIn, children, is_there
-from harness.deployed import agent_events
+from harness.deployed import QueueRefused, agent_events, reports
 from harness.files import write_program
 
 Row = dict[str, Any]
@@ -60,6 +60,7 @@ class QueueStandIn:
         self.kept: list[str] = []
         self.told: list[Row] = []  # all events, those too that came twice
         self.is_deaf = False  # to events
+        self.refuses: Callable[[Row], bool] = lambda event: False  # beside those that are no events, as a later queue
         self.loop = asyncio.new_event_loop()
         self.loop.set_exception_handler(lambda *_: None)  # agents are killed, and so their connections fail
         threading.Thread(target=self.loop.run_forever, daemon=True).start()
@@ -135,7 +136,7 @@ class QueueStandIn:
             case "claim" if name in self.agents:
                 return {"claim": self._claim(request, name)}
             case "told":
-                return None if self.is_deaf else self._told(request["events"])
+                return None if self.is_deaf else self._told(request)
             case "kept":
                 self.kept += request["tokens"]
                 return {"kept": len(request["tokens"])}
@@ -170,7 +171,14 @@ class QueueStandIn:
             self.attempts[token] = Attempt(task, request["machine"], name)
         return {"work": self.work[task]}
 
-    def _told(self, events: list[Row]) -> Row:
+    def _told(self, request: Row) -> Row:
+        events: list[Row] = request["events"]
+        try:
+            reports.told_of(request)
+        except QueueRefused as refusal:
+            return refusal.answer()
+        if any(map(self.refuses, events)):
+            return {"error": "bad-field", "text": "events: one is not taken"}
         for event in events:
             self.told.append(event)
             attempt = self.attempts.get(event["token"])

@@ -10,9 +10,13 @@ from itertools import islice
 from pathlib import Path
 
 from .agent_state import ENDS, Event, Key, Run
+from .agent_words import checked_event
+from .logs import WARNING
+from .queue import reports
+from .queue.fields import Refused
 
 CURSOR = "told"  # a file with the history's name, and how many of its events are acknowledged
-MOST_AT_A_TIME = 500
+MOST_AT_A_TIME, MOST_BYTES = 500, 1 << 22  # of events in a request
 TOLD = ENDS | {"running"}
 
 
@@ -51,8 +55,26 @@ class Events:
         if self._cursor[0] == self._name and self._cursor[1] > self._count:
             self._cursor = (self._name, 0)
 
-    def first(self) -> list[Event]:
-        return [event for _, event, _ in islice(self.untold, MOST_AT_A_TIME)]
+    def first(self, most: int = MOST_AT_A_TIME) -> list[Event]:
+        """At most so many, and no more than a request has room for."""
+        found: list[Event] = []
+        size = 0
+        for _, event, _ in islice(self.untold, most):
+            size += len(json.dumps(event))
+            if found and size > MOST_BYTES:
+                break
+            found.append(event)
+        return found
+
+    def refused(self, why: str) -> None:
+        """The queue does not take the first: it is told in the plainest form, and where it has that, not at all."""
+        count, event, run = self.untold[0]
+        run.tell(f": the queue does not take the event {event['event']}: {why}", WARNING)
+        plain = plain_of(event)
+        if event == plain:
+            self.acknowledged(1)
+        else:
+            self.untold[0] = (count, plain, run)
 
     def acknowledged(self, count: int) -> None:
         """The queue has written that many."""
@@ -75,15 +97,24 @@ class Events:
 
 
 def told_of(event: Event, run: Run) -> Event:
-    """An event as the queue takes it."""
-    kind = event["event"]
-    told: Event = {"token": run.token, "time": event["time"], "event": kind}
-    if kind == "running":
-        told |= {"pid": event["pid"], "output": event.get("output"), "host": event.get("host")}
-    elif kind == "ended":
-        asked = bool(event["asked"])
-        why = event.get("over") or (run.ends if asked else None)
-        told |= {"status": status_of_shell(event["status"]), "asked": asked, "why": why}
-        told |= {"fault": event.get("fault"), "seconds": event.get("seconds")}
-        told |= {"output": event.get("output"), "host": event.get("host")}
+    """An event as the queue takes it: in the plainest form where an older agent recorded what no supervisor says."""
+    told: Event = {"token": run.token, "time": event["time"], "event": event["event"]}
+    try:
+        known = checked_event(event)
+        if known["event"] == "running":
+            told |= {"pid": known["pid"], "output": known.get("output"), "host": event.get("host")}
+        elif known["event"] == "ended":
+            why = known.get("over") or (run.ends if known["asked"] else None)
+            told |= {"status": status_of_shell(known["status"]), "asked": known["asked"], "why": why}
+            told |= {"fault": known.get("fault"), "seconds": known.get("seconds")}
+            told |= {"output": known.get("output"), "host": event.get("host")}
+        reports.event_of(told)
+    except Refused:
+        return plain_of(told)
     return told
+
+
+def plain_of(told: Event) -> Event:
+    """As much of an event as there is no doubt about: of an end, that nothing of the run is left."""
+    kind = "lost" if told["event"] == "ended" else told["event"]
+    return {"token": told["token"], "time": told["time"], "event": kind}

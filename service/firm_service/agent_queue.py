@@ -8,7 +8,7 @@ from collections.abc import Coroutine
 from pathlib import Path
 from typing import TYPE_CHECKING, Any
 
-from .agent_events import Events
+from .agent_events import MOST_AT_A_TIME, Events
 from .agent_lease import Lease, clock
 from .agent_link import Link, Refusal
 from .agent_machines import Machines
@@ -228,11 +228,22 @@ class QueueSource:
             self.agent.control(run, line)
 
     async def _tell_events(self, link: Link) -> None:
+        """Whatever the queue does not take holds up nothing that is behind it."""
+        suspects = 0  # the first events, of which the queue refuses one: half of them are told, until it is found
         while True:
             await self.events.are_there.wait()
-            events = self.events.first()
-            told = (await link.ask("told", events=events))["told"]
-            self.events.acknowledged(min(int(told), len(events)))
+            events = self.events.first((suspects + 1) // 2 or MOST_AT_A_TIME)
+            try:
+                told = int((await link.ask("told", events=events))["told"])
+            except Refusal as refusal:
+                if refusal.name != "bad-field":
+                    raise
+                suspects = len(events)
+                if suspects == 1:
+                    self.events.refused(short(str(refusal)))
+                continue
+            suspects = max(0, suspects - len(events))
+            self.events.acknowledged(min(told, len(events)))
             self.agent.changed.set()
 
     async def _find_room(self) -> None:

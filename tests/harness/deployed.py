@@ -25,7 +25,8 @@ from firm_service.follower import Follower
 from firm_service.kept import found_now, kept_lines
 from firm_service.lines import gets_reply
 from firm_service.observers import Status
-from firm_service.queue import async_client, backlog, client, columns, forms, rows, shares, states
+from firm_service.queue import async_client, backlog, client, columns, forms, reports, rows, shares, states
+from firm_service.queue.fields import Refused as QueueRefused
 from firm_service.queue.firm import Doors, Firm
 from firm_service.refused import Refused
 from firm_service.roster import Limits
@@ -61,6 +62,7 @@ __all__ = [
     "MOST_UNREAD",
     "Name",
     "NotAllowed",
+    "QueueRefused",
     "Refused",
     "SERVICE",
     "Shown",
@@ -93,6 +95,7 @@ __all__ = [
     "past",
     "past_rounds",
     "records",
+    "reports",
     "roster",
     "rows",
     "serve_view",
