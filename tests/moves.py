@@ -126,8 +126,7 @@ class Pair:
         replies = [answered.reply for answered in self.tenants["alpha"].answered]
         last = max(int(reply.split()[1]) for reply in replies if reply.startswith(b"alpha "))
         wait_for(lambda: commands_of(self.here) == last, f"line {last} of alpha is shown")
-        told = [row for row in asked_of_firmctl(self.here, "tasks")["tasks"] if row["tenant"] == "alpha"]
-        return [{key: row[key] for key in ("task", "job", "state", "machine", "waited", "prefers")} for row in told]
+        return known([row for row in asked_of_firmctl(self.here, "tasks")["tasks"] if row["tenant"] == "alpha"])
 
     def turn(self) -> None:
         self.here, self.there = self.there, self.here
@@ -137,6 +136,11 @@ class Pair:
         wait_for(lambda: (has(self.here), has(self.there)) == (True, False), "alpha is at one of them alone")
         for tenant in self.tenants.values():
             check_alone(self.setup, tenant)
+
+
+def known(tasks: list[Json]) -> list[Json]:
+    """Rows of tasks, but for what counts since they came."""
+    return [{key: row[key] for key in ("task", "job", "state", "machine", "waited", "prefers")} for row in tasks]
 
 
 @contextmanager
@@ -196,6 +200,25 @@ def moved_at_once(setup: Options) -> None:
         found.here.start()
         found.speak_all()
         found.judge()
+
+
+def watched(setup: Options) -> None:
+    """Who watches a tenant where it comes, or had been before, is shown it on the same connection, and hears its lines
+    from there on."""
+    watch = b'{"ask": "watch", "tenant": "alpha"}'
+    with pair(setup) as found, Client(found.here.state / "view") as left, Client(found.there.state / "view") as came:
+        require(json.loads(left.ask(watch))["book"]["tenant"] == "alpha", "it is here")
+        require(json.loads(came.ask(watch))["book"] is None, "it is not there")
+        for _ in range(3):
+            found.speak("alpha")
+            replies = [answered.reply.decode() for answered in found.tenants["alpha"].answered]
+            last = [reply for reply in replies if reply.startswith("alpha ")][-1]
+            wait_for(lambda: bool(json.loads(left.reply()).get("reply") == last), "its lines are heard")
+            go(found)
+            require(json.loads(left.reply())["reply"] == "+ ok retired alpha", "it has gone")
+            book = json.loads(came.reply())["book"]
+            require(known(book["tasks"]) == found.rows(), f"other rows are shown: {book}")
+            left, came = came, left
 
 
 def waits(client: Client) -> None:
@@ -517,6 +540,7 @@ def beside_work(setup: Options) -> None:
 QUICK: list[Callable[[Options], None]] = [
     moved,
     moved_at_once,
+    watched,
     rounds,
     held,
     refusals,

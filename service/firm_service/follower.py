@@ -26,7 +26,7 @@ class Follower:
         elif kind == BEGIN:
             self._state, self._coming = begun(text)
         elif kind == TENANT:
-            (self._coming or self._shown.books).put(book_of(text))
+            (self._coming or self._shown).put(book_of(text))
         elif kind == END and self._coming is not None:
             self._shown.replace(self._coming, self._state)
             self._coming = None

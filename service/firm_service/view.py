@@ -11,7 +11,8 @@ A request is one object on a line, and so is its answer:
   its time (`past_rounds.py`);
 - {"ask": "watch", "tenant": "alpha"}: first {"state": ID, "book": ..}, the state's id and the rows or null, then
   {"line": .., "reply": .., "number": ..} for each line of that tenant, and of the operator that admits or retires it.
-  Where no tenant is named, first {"tenants": [..]}, a row for each, then all lines.
+  Where no tenant is named, first {"tenants": [..]}, a row for each, then all lines. The first answer comes again where
+  a tenant that is watched has come by a move, as no line admits it.
 
 A client is shown the tenants that its user may see (`sight.py`), as if there were no others.
 
@@ -39,10 +40,10 @@ from .bounds import MEBIBYTE
 from .past_rounds import PastRounds
 from .refused import Refused
 from .shown import MOST_UNREAD_IN_ALL, Shown
-from .sight import Door, Peer, Sight
+from .sight import EVERYTHING, Door, Peer, Sight
 
 MOST_CLIENTS, MOST_OF_USER = 512, 128  # at a time
-MOST_UNREAD = 4 * MEBIBYTE  # beside the rows at first, that a watcher may leave unread before it is dropped
+MOST_UNREAD = 4 * MEBIBYTE  # beside the rows that it was shown, that a watcher may leave unread before it is dropped
 IDLE_SECONDS = 60.0  # without a request, after which one that does not watch is closed
 PATIENCE_SECONDS = 30.0  # for a client to read
 MOST_REFUSED, REFUSAL_SECONDS = 64, 1.0  # clients that are told why they are refused, and for how long
@@ -143,6 +144,17 @@ def books_of(books: Books, sight: Sight) -> list[Book]:
     return [book for name, book in books.tenants.items() if sight.has(name)]
 
 
+def watched(shown: Shown, sight: Sight, wanted: object) -> bytes:
+    """What one that begins to watch a tenant, or all of them, is told first."""
+    if wanted is None:
+        answer: Json = {"tenants": [summary_of(book) for book in books_of(shown.books, sight)]}
+    else:
+        is_there = isinstance(wanted, str) and sight.has(wanted) and wanted in shown.books.tenants
+        book = rows_of(shown.books.tenants[str(wanted)]) if is_there else None
+        answer = {"state": shown.state, "book": book}
+    return json.dumps(answer).encode() + b"\n"
+
+
 LISTS: Lists = {"tasks": tasks_of, "machines": machines_of, "jobs": jobs_of}  # what may be asked of all tenants too
 NAMED: Named = {"tasks": task_named, "machines": machine_named, "jobs": job_named}  # the row of one name
 
@@ -155,7 +167,7 @@ class View:
         self.connections: set[Connection] = set()
         self.users: Counter[int] = Counter()  # how many each has
         self._refused = 0  # clients that are told why
-        shown.on_told = self.bound_unread
+        shown.on_told, shown.on_joined = self.bound_unread, self.show_joined
 
     async def serve(self, reader: asyncio.StreamReader, writer: asyncio.StreamWriter) -> None:
         """One client, until it leaves."""
@@ -185,6 +197,17 @@ class View:
             most = max(unread, key=unread.__getitem__)
             del unread[most]
             most.end()
+
+    def show_joined(self, book: Book) -> None:
+        """Shows a tenant that has come by a move to those who watch it."""
+        watching = [connection for connection in self.connections if connection.watches(book.limits.tenant)]
+        rows = watched(self.shown, EVERYTHING, book.limits.tenant) if watching else b""  # made once: they may be many
+        for connection in watching:
+            try:
+                connection.show_joined(rows)
+            except Exception as error:
+                connection.drop(error)
+        self.bound_unread()
 
     def _refusal(self, peer: Peer) -> Refused | None:
         if len(self.connections) >= MOST_CLIENTS:
@@ -240,6 +263,15 @@ class Connection:
 
     def wants(self, tenant: str | None) -> bool:
         return self._wanted in (None, tenant) and self._sight.has(tenant)
+
+    def watches(self, tenant: str) -> bool:
+        return self in self._shown.watchers and self.wants(tenant)
+
+    def show_joined(self, rows: bytes) -> None:
+        """Shows it a tenant that has come, by these rows; where it watches all, by a row for each tenant."""
+        text = watched(self._shown, self._sight, None) if self._wanted is None else rows
+        self._most_unread = MOST_UNREAD + len(text)
+        self.tell(text)
 
     def tell(self, text: bytes) -> None:
         if self.unread > self._most_unread:
@@ -361,14 +393,7 @@ class Connection:
         """Sends the tenant's rows as they are, or a row for each tenant, and then each line until the client leaves."""
         self._shown.unwatch(self)
         self._wanted, self._is_watching = wanted, True
-        if wanted is None:
-            books = books_of(self._shown.books, self._sight)
-            answer: Json = {"tenants": [summary_of(book) for book in books]}
-        else:
-            is_there = isinstance(wanted, str) and self._sight.has(wanted) and wanted in self._shown.books.tenants
-            book = rows_of(self._shown.books.tenants[str(wanted)]) if is_there else None
-            answer = {"state": self._shown.state, "book": book}
-        text = json.dumps(answer).encode() + b"\n"
+        text = watched(self._shown, self._sight, wanted)
         self._most_unread = MOST_UNREAD + len(text)
         self._writer.write(text)
         self._shown.watchers.append(self)
