@@ -36,6 +36,8 @@ from harness.ports import free_port
 from harness.program import ROOT
 from harness.small_streams import random_bad_roster, random_stream, with_noise
 
+NOT_LATE_SECONDS = 20.0  # before a connection that is closed, and not read, would be ended
+
 
 def rows_of_model(tenant: service.Tenant) -> object:
     """All that a book must know of a tenant."""
@@ -612,6 +614,25 @@ def watchers_see_who_joins() -> None:
         require(wait_until(lambda: firm.book is not None), firm.reason)
 
 
+def closed_watchers_leave_nothing() -> None:
+    """What would end a watcher that is closed, and does not read, goes with its connection."""
+    with front() as started:
+
+        def timers() -> int:
+            return sum(not timer.cancelled() for timer in getattr(started.loop, "_scheduled"))
+
+        async def lose() -> None:
+            started.shown.replace(started.books, "stand-in")
+
+        before = timers()
+        for _ in range(20):
+            with Viewer(started.state) as viewer:
+                viewer.ask({"ask": "watch"})
+                started.run(lose())
+                require(viewer.next()["error"] == "behind" and viewer.next() is None, "it is closed")
+        require(wait_until(lambda: timers() == before, NOT_LATE_SECONDS), f"{timers()} timers instead of {before}")
+
+
 def watch_prints() -> None:
     """firmctl watch prints each line with its reply at once, and nothing in it can steer a terminal."""
     with front() as started:
@@ -707,6 +728,7 @@ def checks(built: str, streams: range) -> dict[str, Check]:
         "firmctl, watch": watch_prints,
         "view, watchers": watchers_follow,
         "view, tenants that join": watchers_see_who_joins,
+        "view, closed watchers": closed_watchers_leave_nothing,
         "view, refusals and limits": views_refuse,
         "view, slow watchers": slow_watchers_are_closed,
         "firmctl over firmd": partial(firmctl_over_firmd, built),

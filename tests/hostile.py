@@ -462,6 +462,52 @@ def bounded_lines(setup: Setup) -> None:
             ends_well(daemon)
 
 
+def bounded_refusals(setup: Setup) -> None:
+    """Lines that firmd refuses itself count too, while they wait behind others of their client."""
+    text = b"alpha round\n" * 2 + b"A\n+\n" * 500
+    with setup.daemon("--most-unanswered-of-socket", "200000", *PATIENT) as daemon, ThreadPoolExecutor(10) as pool:
+        daemon.start()
+        firm = daemon.firm_process()
+        os.kill(firm, signal.SIGSTOP)
+
+        def ask(client: Client) -> int:
+            client.socket.settimeout(ALL_SECONDS)
+            client.send(text)
+            return client.end().count(b"\n")
+
+        answers = [pool.submit(ask, daemon.client()) for _ in range(10)]
+        try:
+            wait_for(lambda: status_of(daemon)["owed_bytes"] > 150_000, "they count")
+            time.sleep(SOON_SECONDS + TICK_SECONDS)
+            taken = status_of(daemon)["owed_bytes"]
+            require(taken < 1_000_000, f"{taken} bytes are taken")
+        finally:
+            os.kill(firm, signal.SIGCONT)
+        require([answer.result() for answer in answers] == [1_002] * 10, "each line is answered")
+        wait_for(lambda: status_of(daemon)["owed_bytes"] == 0, "none counts any more")
+        ends_well(daemon)
+
+
+def refused_connections(setup: Setup) -> None:
+    """Connections beyond those that a socket may have, however many, leave nothing in memory once they are closed."""
+    with setup.daemon("--most-clients", "2") as daemon, ExitStack() as held:
+        daemon.start()
+        for _ in range(2):
+            held.enter_context(daemon.client())
+
+        def refused(count: int) -> int:
+            """firmd's memory behind so many."""
+            for _ in range(count):
+                with daemon.client() as client:
+                    require(client.rest().startswith(b"? too-many-clients"), client.received)
+            return firmd_kit.memory_kilobytes(daemon.running().pid)
+
+        before = refused(200)
+        grown = refused(3_000) - before
+        require(grown < 1_000, f"{grown} kB more in memory")
+        ends_well(daemon)
+
+
 def read_again(setup: Setup) -> None:
     """A client that fails while none is read, for a shortage of memory, is lost alone: all others are read again."""
     with setup.daemon() as daemon:
@@ -587,6 +633,8 @@ CHECKS = [
     refusals_in_shortages,
     bounded_replies,
     bounded_lines,
+    bounded_refusals,
+    refused_connections,
     read_again,
     repeated_faults,
     failed_waits,

@@ -12,6 +12,7 @@ import subprocess
 import sys
 import tempfile
 import time
+import zlib
 from collections.abc import AsyncIterator
 from pathlib import Path
 from typing import Any
@@ -138,6 +139,40 @@ def connections_are_bounded() -> None:
         ]
         require(http_ask(started.port, "/")[0] == 200, "one connection more gets no answer")
         require(held[0].recv(1) == b"", "that which has waited longest for a request is not closed")
+
+
+def requests_are_bounded() -> None:
+    """Neither a body that is large once it is decompressed fills the memory, nor what follows a request for another
+    protocol before that is answered."""
+    from firm_service.web import PATIENCE_SECONDS
+
+    packer = zlib.compressobj(9, wbits=-zlib.MAX_WBITS)
+    body = 256 * (packer.compress(bytes(2**20)) + packer.flush(zlib.Z_FULL_FLUSH))  # of a mebibyte each
+    start = b"GET / HTTP/1.1\r\nHost: localhost\r\n"
+    with front(has_http=True) as started:
+        with socket.create_connection(("127.0.0.1", started.port), timeout=LIMIT_SECONDS) as client:
+            Path("/proc/self/clear_refs").write_text("5")  # has the most that was in memory begin anew
+            before = most_kilobytes()
+            client.sendall(start + b"Content-Encoding: deflate\r\nContent-Length: %d\r\n\r\n" % len(body) + body)
+            require(client.recv(100).startswith(b"HTTP/1.1 200 "), "it is answered")
+            grown = most_kilobytes() - before
+            require(grown < 65_536, f"{grown} kB more in memory for a body of {len(body)} bytes")
+        started.run(started.shown.turn.acquire())
+        with socket.create_connection(("127.0.0.1", started.port), timeout=LIMIT_SECONDS) as client:
+            client.sendall(start + b"Connection: upgrade\r\nUpgrade: websocket\r\n\r\n")
+            began = time.monotonic()
+            with contextlib.suppress(ConnectionError):
+                client.sendall(bytes(10 * 2**20))
+                require(False, "all that follows is taken")
+            require(time.monotonic() - began < PATIENCE_SECONDS / 2, "it is not closed for what it sends")
+        started.loop.call_soon_threadsafe(started.shown.turn.release)
+        require(http_ask(started.port, "/")[0] == 200, "others are answered")
+
+
+def most_kilobytes() -> int:
+    """The most that this process has had in memory."""
+    found = re.search(r"VmHWM:\s+([0-9]+)", Path("/proc/self/status").read_text())
+    return int(found[1]) if found else 0
 
 
 def page_has_no_external_part() -> None:
@@ -347,6 +382,7 @@ WITH_PACKAGES: dict[str, Check] = {
     "metrics": metrics_are_those_of_the_books,
     "HTTP only reads": http_only_reads,
     "HTTP, connections are bounded": connections_are_bounded,
+    "HTTP, requests are bounded": requests_are_bounded,
     "page without external parts": page_has_no_external_part,
 }
 WITH_CHROMIUM: dict[str, Check] = {

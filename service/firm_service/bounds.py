@@ -7,7 +7,7 @@ from dataclasses import dataclass
 
 MEBIBYTE = 2**20
 # Beside their text, as tracemalloc counts in CPython 3.11, rounded up: of lines that came together, with the stream's
-# share and the client's own record, 475; of a note that waits behind replies, with its text, 180.
+# share and the client's own record, 475; of a note that waits behind replies or lines, with its text, 180.
 SHARE_BYTES, NOTE_BYTES = 512, 192
 UNREAD_PIECE = 65_536  # bytes: small enough for the allocator to use again, a third of what a Unix socket takes
 

@@ -170,6 +170,7 @@ class Client(asyncio.BufferedProtocol):
         self._unread = Unread()  # replies that the transport does not have yet: it has no more than one piece
         self._left = 0  # bytes of replies that are known to be unread, those of the transport too
         self._has_ended = False  # it sends no more, or is sent no more
+        self._lingering: asyncio.TimerHandle | None = None  # its end, once it is closed
         self._is_stopped = self._is_full = self._is_reading = self._waits_turn = False
 
     def connection_made(self, transport: asyncio.BaseTransport) -> None:
@@ -197,6 +198,8 @@ class Client(asyncio.BufferedProtocol):
 
     def connection_lost(self, error: Exception | None) -> None:
         self._has_ended = True
+        if self._lingering is not None:  # it would keep the connection in memory
+            self._lingering.cancel()
         if self in self._clients.connected:
             del self._clients.connected[self]
             self._of_socket.count -= 1
@@ -243,7 +246,10 @@ class Client(asyncio.BufferedProtocol):
         if reply is not None:
             self._settle()
         while self._later and not (self._waiting and self._is_other(self._later[0])):
-            self._enter(self._later.popleft())
+            line = self._later.popleft()
+            if isinstance(line, Said):
+                self._clients.owe(self.socket, -NOTE_BYTES)
+            self._enter(line)
         if not self._is_reading:
             self.choose_reading()
             self._close_at_end()
@@ -271,6 +277,8 @@ class Client(asyncio.BufferedProtocol):
                 self._clients.owe(self.socket, cost)
             if self._later or self._waiting and self._is_other(line):
                 self._later.append(line)
+                if isinstance(line, Said):  # a share is counted already
+                    self._clients.owe(self.socket, NOTE_BYTES)
             else:
                 self._enter(line)
 
@@ -364,7 +372,7 @@ class Client(asyncio.BufferedProtocol):
         self._has_ended = True
         self._unread.add(text)
         self._close()
-        asyncio.get_running_loop().call_later(LINGER_SECONDS, self.transport.abort)
+        self._lingering = asyncio.get_running_loop().call_later(LINGER_SECONDS, self.transport.abort)
 
     def _write(self, text: bytes) -> None:
         if self.transport.is_closing():

@@ -238,7 +238,7 @@ class View:
         finally:
             self.connections.discard(connection)
             self.users[peer.user] -= 1
-            self.shown.unwatch(connection)
+            connection.leave()
 
 
 class Connection:
@@ -250,6 +250,7 @@ class Connection:
         self._is_watching = False
         self._most_unread = MOST_UNREAD
         self._held: bytearray | None = None  # lines that wait for the end of an answer
+        self._lingering: asyncio.TimerHandle | None = None  # its end, once it is closed
 
     @property
     def unread(self) -> int:
@@ -288,7 +289,14 @@ class Connection:
     def finish(self) -> None:
         """Closes it once it has read all, or after some seconds."""
         self._writer.close()
-        asyncio.get_running_loop().call_later(PATIENCE_SECONDS, self._writer.transport.abort)
+        loop = asyncio.get_running_loop()
+        self._lingering = loop.call_later(PATIENCE_SECONDS, self._writer.transport.abort)
+
+    def leave(self) -> None:
+        """It is gone, or has nothing more to ask."""
+        self._shown.unwatch(self)
+        if self._lingering is not None:  # it would keep the connection in memory
+            self._lingering.cancel()
 
     def drop(self, error: Exception) -> None:
         self._shown.faults.note("view", error)

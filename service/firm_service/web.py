@@ -189,7 +189,8 @@ class Gate(asyncio.Protocol):
     def data_received(self, data: bytes) -> None:
         for place in range(0, len(data), PIECE_BYTES):
             self._handler.data_received(data[place : place + PIECE_BYTES])
-            if len(self._handler._messages) > MOST_REQUESTS:  # parsed, and not yet answered
+            # Parsed, and not yet answered; or kept unparsed behind one that asks for another protocol.
+            if len(self._handler._messages) > MOST_REQUESTS or len(self._handler._message_tail) > PIECE_BYTES:
                 self._gates.faults.count("http", "a connection sent many requests without reading: it is closed")
                 return self.abort()
 
@@ -267,7 +268,8 @@ async def serve_http(listening: Sequence[socket.socket], address: Address, shown
 async def serve_pages(listening: Sequence[socket.socket], site: Pages) -> list[asyncio.Server]:
     logger = logging.Logger(site.server)
     logger.addHandler(Noted(site.faults))
-    runner = web.AppRunner(site.application(), access_log=None, logger=logger)
+    # No request's body is read, so it stays as it comes: decompressed, a small one could fill the memory.
+    runner = web.AppRunner(site.application(), access_log=None, logger=logger, auto_decompress=False)
     await runner.setup()
     if runner.server is None:
         raise RuntimeError("the runner has no server")
