@@ -542,6 +542,8 @@ def refuse_and_replay(setup: Setup, library: str, place: int) -> set[bytes]:
         with Client(daemon.operator) as client:
             try:
                 replies = [client.ask(line) for line in MEMORY_LINES]
+                if replies[-1].startswith(b"? stopping"):
+                    raise client.gone()
             except Gone:  # line by line it was another request, which firm can't do without
                 require(daemon.status() == 6 and b"firm: memory" in daemon.said(), daemon.said())
                 return set()
