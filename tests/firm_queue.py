@@ -710,6 +710,8 @@ def checks(setup: Setup) -> dict[str, Check]:
     for check in CHECKS:
         found[check.__name__.replace("_", " ")] = partial(check, setup)
     found["kills"] = partial(queue_kills.kills, setup.case, queue_kills.Plan(setup.seed, 3 if setup.is_quick else 60))
+    failures = queue_kills.Plan(setup.seed, 3 if setup.is_quick else 30)
+    found["disk failures"] = partial(queue_kills.disk_failures, setup.case, failures)
     if not setup.is_quick:
         found |= {check.__name__.replace("_", " "): partial(check, setup) for check in queue_bounds.LONG}
         found["many"] = partial(many, setup)

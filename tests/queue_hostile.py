@@ -16,7 +16,7 @@ from typing import NamedTuple, NoReturn
 
 from firmd_kit import memory_kilobytes
 from harness.checks import Missed, Skipped, require
-from queue_kit import ANN, BOB, FOREVER, Case, Closed, Json, Setup, as_user
+from queue_kit import ANN, BOB, FOREVER, Case, Closed, Json, Setup, as_user, claim_place
 
 SERVED_SECONDS = 20.0  # for another's request, on a busy host; without bounds it takes minutes
 MOST_KILOBYTES = 400_000  # of the queue's memory
@@ -240,4 +240,31 @@ def hung_firmd(setup: Setup) -> None:
         case.world.require_single()
 
 
-CHECKS = (hostile_users, garbage, stops, hung_firmd)
+def unwritten(setup: Setup) -> None:
+    """What the disk has not taken is acknowledged to nobody while memory still has it, neither a run nor a key; and
+    nothing is taken until memory has been read anew."""
+    with setup.case("--lease=300").start_failing() as case, case.client() as client:
+        client.ask("register", agent="a1", id="x", machines={"m1": 1}, runs=[])
+        client.submit(*FOREVER)
+        claim = {"token": "aaaaaaaa", "run": 1, **claim_place(case)}
+        requests: dict[str, Json] = {"claim": claim, "submit": {**without_ask(HELD), "key": "k"}}
+        for ask, request in requests.items():
+            with case.failure():
+                for _ in range(3):
+                    client.refused("not-written", ask, **request)
+            case.until(lambda: client.ask("status")["writes"]["are_good"], "it is written again")
+        require(case.rows("SELECT COUNT(*) FROM attempt") == [(0,)] and client.state("1") == "starting", "an attempt")
+        require(client.ask("claim", **claim)["work"]["attempt"] == 1, "it may begin")
+        require("again" not in client.ask("submit", **without_ask(HELD), key="k"), "the key is free")
+        with case.failure("reads"):
+            with case.failure():
+                client.refused("not-written", "submit", **without_ask(HELD))
+                case.until(lambda: "cannot read" in case.said(), "it is told")
+            client.refused("not-written", "submit", **without_ask(HELD))
+            require(client.state("1") == "starting", "what is read from memory is answered")
+        case.until(lambda: client.ask("status")["writes"]["are_good"], "it is read again")
+        require(client.submit(*FOREVER, hold=True) > 2, "the next number")
+        case.stop()
+
+
+CHECKS = (hostile_users, garbage, stops, hung_firmd, unwritten)

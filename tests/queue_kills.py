@@ -1,4 +1,5 @@
-"""Kills of queue, firmd and agents at random moments, and a judge that asks the database and what really ran alone."""
+"""Kills of queue, firmd and agents, and failures of the disk, at random moments, and a judge that asks the database and
+what really ran alone."""
 
 from __future__ import annotations
 
@@ -18,15 +19,15 @@ class Submitter:
 
     pause = 0.03  # seconds between two submissions
 
-    def __init__(self, case: Case, seed: int) -> None:
-        self.case, self.draw = case, random.Random(seed)
+    def __init__(self, case: Case, seed: int, prefix: str = "k") -> None:
+        self.case, self.draw, self.prefix = case, random.Random(seed), prefix
         self.answers: dict[str, Json] = {}  # by key
         self.asked: dict[str, Json] = {}
         self.is_over = threading.Event()
 
     def serve(self) -> None:
         while not self.is_over.is_set():
-            key = f"k{len(self.answers)}"
+            key = f"{self.prefix}{len(self.answers)}"
             request = self._request(key)
             self.asked[key] = request
             while key not in self.answers:
@@ -79,11 +80,39 @@ def kills(case_of: Callable[..., Case], plan: Plan) -> None:
         finally:
             submitter.is_over.set()
             thread.join(LIMIT_SECONDS)
-        with case.client() as client:
-            case.until(lambda: client.states() == {}, f"all have ended (seed {plan.seed})")
-            case.until(lambda: case.firm_tasks() == [], "firm has none of them")
-        case.until(lambda: not any(agent.disk.runs for agent in agents), "the agents have told all")
-        judge(case, submitter)
+        judge_all(case, submitter, agents)
+
+
+def disk_failures(case_of: Callable[..., Case], plan: Plan) -> None:
+    """The disk fails at random moments: what is acknowledged, while memory is read anew too, is there and goes on."""
+    draw = random.Random(plan.seed)
+    with case_of("--lease=60", size=Size(churn=200)).start_failing() as case:
+        agents = [case.agent("a1", m1=4, m2=3), case.agent("a2", m3=4)]
+        submitters = [Submitter(case, plan.seed + at, f"s{at}-") for at in range(4)]
+        threads = [threading.Thread(target=submitter.serve) for submitter in submitters]
+        for thread in threads:
+            thread.start()
+        try:
+            for _ in range(plan.kills):
+                time.sleep(draw.choice([0.2, 0.5, 1]))
+                with case.failure():
+                    time.sleep(draw.choice([0.02, 0.2, 1.5]))
+        finally:
+            for submitter, thread in zip(submitters, threads):
+                submitter.is_over.set()
+                thread.join(LIMIT_SECONDS)
+        for submitter in submitters[1:]:
+            submitters[0].answers |= submitter.answers
+        judge_all(case, submitters[0], agents)
+
+
+def judge_all(case: Case, submitter: Submitter, agents: list[StandIn]) -> None:
+    """Judges once all has ended."""
+    with case.client() as client:
+        case.until(lambda: client.states() == {}, "all have ended")
+        case.until(lambda: case.firm_tasks() == [], "firm has none of them")
+    case.until(lambda: not any(agent.disk.runs for agent in agents), "the agents have told all")
+    judge(case, submitter)
 
 
 def kill_one(case: Case, agents: list[StandIn], draw: random.Random) -> None:

@@ -15,7 +15,7 @@ import tempfile
 import threading
 import time
 from collections.abc import Callable, Coroutine, Iterator
-from contextlib import closing, suppress
+from contextlib import closing, contextmanager, suppress
 from dataclasses import dataclass, field
 from pathlib import Path
 from typing import Any, TypeVar
@@ -26,6 +26,26 @@ from harness.checks import Missed, require
 from harness.deployed import SERVICE, Doors, Firm
 
 QUEUE = [sys.executable, str(SERVICE / "firm-queue"), "run"]
+# A queue of which commits, or reads of all rows, fail while files of these names are there, and such reads take long.
+FAILING = """\
+import os, sqlite3, sys, time
+from firm_service.queue import daemon, queries
+from firm_service.queue.store import Store
+commit, load, folder = Store._commit, queries.load, sys.argv.pop(1)
+def require_no(sign):
+    if os.path.exists(os.path.join(folder, sign)):
+        raise sqlite3.OperationalError("disk I/O error")
+def failing_commit(store, changes):
+    require_no("commits")
+    commit(store, changes)
+def failing_load(connection):
+    require_no("reads")
+    found = load(connection)
+    time.sleep(0.3)
+    return found
+Store._commit, queries.load = failing_commit, failing_load
+sys.exit(daemon.main(sys.argv[1:]))
+"""
 ANN, BOB = 61_101, 61_102  # users without names
 FOREVER = ["forever"]  # the command of a task that never ends by itself
 ROSTER = b"tenant,nodes,arcs,life,spread,churn\nalpha,%d,%d,1000000000,0,%d\n"
@@ -456,6 +476,20 @@ class Case:
         return agent
 
     # The queue
+
+    def start_failing(self) -> Case:
+        """Starts one whose disk fails within `failure`."""
+        self.words = [sys.executable, "-c", FAILING, str(self.folder), "run"]
+        return self.start()
+
+    @contextmanager
+    def failure(self, what: str = "commits") -> Iterator[None]:
+        sign = self.folder / what
+        sign.touch()
+        try:
+            yield
+        finally:
+            sign.unlink()
 
     def spawn(self) -> subprocess.Popen[bytes]:
         places = {"state": self.state, "socket": self.socket, "firm": self.doors.lines, "view": self.doors.view}

@@ -202,16 +202,16 @@ class Agents:
         """The agent with these machines, as it is written."""
         agent = self.agents.get(name)
         if agent is None or agent.id != agent_id:
+            self.core.store.save_agent(name, agent_id, machines)
             if agent is not None and agent.session is not None:
                 agent.session.end()
             dropped = set(agent.machines) - machines.keys() if agent is not None else set()
             agent = self.agents[name] = Agent(name, agent_id, machines, boot_time())
-            self.core.store.save_agent(name, agent_id, machines)
         else:
             dropped = agent.machines.keys() - machines.keys()
             if agent.machines != machines:
-                agent.machines = machines
                 self.core.store.save_agent(name, agent_id, machines)
+                agent.machines = machines
         for machine in dropped:
             self._mark(machine, GONE)
         for machine in machines:
@@ -223,8 +223,9 @@ class Agents:
     def _take_from_others(self, agent: Agent, machine: str) -> None:
         for other in list(self.agents.values()):
             if other is not agent and machine in other.machines:
-                other.machines = {name: slots for name, slots in other.machines.items() if name != machine}
-                self.core.store.save_agent(other.name, other.id, other.machines)
+                left = {name: slots for name, slots in other.machines.items() if name != machine}
+                self.core.store.save_agent(other.name, other.id, left)
+                other.machines = left
                 if not other.machines and other.session is None:
                     del self.agents[other.name]
                     self.core.store.forget_agent(other.name)
@@ -397,6 +398,7 @@ class Agents:
         for token in tokens_of(given, "tokens"):
             attempt = self.core.rows.open.get(token)
             if attempt is not None and attempt.agent_id == agent.id and self._is_to_keep(attempt):
+                self.core.store.require_good()
                 attempt.is_kept = True
                 self.core.store.save_attempt(attempt)
                 self.core.look_at([attempt.name])

@@ -70,6 +70,7 @@ class Core:
         kept = await self.store.read(queries.load)
         last = self.rows.last_number
         self.rows, self.marks = kept.rows, kept.marks
+        self.store.read_anew()
         self.rows.last_number = max(self.rows.last_number, last)
         self.spending.load(kept.spent)
         self.answers.clear()

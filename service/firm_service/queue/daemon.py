@@ -148,21 +148,29 @@ class Queue:
         """After a write that failed: reads the rows as they are on the disk, and tries until it takes writes again."""
         while True:
             await self._failed.wait()
-            self._failed.clear()
             logs.tell(logs.ERROR, f"{self._store.why_bad}: what changes something is refused until it can be written")
             await self._reload()
             while not await self._store.try_again():
                 await asyncio.sleep(TRY_SECONDS)
-            self._failed.clear()
             await self._reload()
+            self._failed.clear()
+            self._store.go_on()
             logs.tell(logs.INFO, f"{self._store.path}: it is written again")
 
     async def _reload(self) -> None:
-        try:
-            kept = await self._core.load()
-        except sqlite3.Error as error:
-            raise Fault(Exit.STATE, f"cannot read {self._store.path}: {error}") from error
-        self._agents.load(kept.agents)
+        """Has memory say what the database says, once that can be read."""
+        told = ""
+        while True:
+            try:
+                kept = await self._core.load()
+            except sqlite3.Error as error:
+                if str(error) != told:
+                    told = str(error)
+                    logs.tell(logs.ERROR, f"cannot read {self._store.path}: {told}")
+                await asyncio.sleep(TRY_SECONDS)
+            else:
+                self._agents.load(kept.agents)
+                return
 
     async def _know_jobs_for_ever(self) -> None:
         """Keeps track of which jobs in firm are the queue's own, as of an earlier run of it."""

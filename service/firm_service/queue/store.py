@@ -1,7 +1,8 @@
 """The database: what the queue has acknowledged. Each change is written by a thread of the store's own.
 
 Changes that are made while the thread waits for the disk share its next commit, and `settled` says when a commit has
-all that was changed before. Where a commit fails, so does all that was changed since: memory is to be read anew.
+all that was changed before. Where a commit fails, so does all that was changed since: memory is to be read anew, and
+again once the disk takes writes. Until then nothing is changed.
 """
 
 from __future__ import annotations
@@ -77,6 +78,7 @@ class Store:
         self.folder, self.path, self._tenant = folder, folder / DATABASE, tenant
         self._log, self._next_look = folder / f"{DATABASE}-wal", 0.0
         self.why_bad = ""  # why nothing can be written
+        self._is_ahead = False  # memory has what a commit that failed has lost
         self.on_failure: Callable[[], None] = lambda: None
         self._writer = ThreadPoolExecutor(1, "store")
         self._reader = ThreadPoolExecutor(1, "reader")
@@ -103,11 +105,20 @@ class Store:
         self._writer.shutdown()
 
     async def read(self, query: Callable[[sqlite3.Connection], Result]) -> Result:
-        """What a query gives of all that has been committed."""
-        return await asyncio.get_running_loop().run_in_executor(self._reader, lambda: query(self._reading))
+        """What a query, of one statement or many, gives of all that has been committed by one moment."""
+        return await asyncio.get_running_loop().run_in_executor(self._reader, self._read, query)
+
+    def _read(self, query: Callable[[sqlite3.Connection], Result]) -> Result:
+        self._reading.execute("BEGIN")
+        try:
+            return query(self._reading)
+        finally:
+            self._reading.rollback()
 
     async def settled(self) -> None:
         """Returns once all changes so far are on the disk; raises `NotWritten`."""
+        if self._is_ahead:
+            raise NotWritten(self.why_bad)
         pending = self._next or self._current
         if pending is not None:
             await asyncio.shield(pending)
@@ -117,6 +128,10 @@ class Store:
         if self.why_bad:
             raise NotWritten(self.why_bad)
 
+    def read_anew(self) -> None:
+        """Takes in that memory has been read: it has what is on the disk, and nothing else."""
+        self._is_ahead = False
+
     async def try_again(self) -> bool:
         """Whether the disk takes changes again, after a failure."""
         self._put("INSERT OR REPLACE INTO meta VALUES ('tried', ?)", [(secrets.token_hex(4),)])
@@ -124,8 +139,12 @@ class Store:
             await self.settled()
         except NotWritten:
             return False
-        self.why_bad = ""
         return True
+
+    def go_on(self) -> None:
+        """Takes changes again, in the turn of the loop in which memory has been read: one that is made while the rows
+        are on their way would be on the disk alone."""
+        self.why_bad = ""
 
     # Changes
 
@@ -223,6 +242,7 @@ class Store:
             current.set_result(None)
             self._hand_over()
             return
+        self._is_ahead |= not self.why_bad  # otherwise it was a try, and nothing else was changed
         self.why_bad = f"{self.path}: {error}"
         last, self._next = self._next, None
         self._open.clear()
