@@ -267,4 +267,17 @@ def unwritten(setup: Setup) -> None:
         case.stop()
 
 
-CHECKS = (hostile_users, garbage, stops, hung_firmd, unwritten)
+def unmade_room(setup: Setup) -> None:
+    """Tasks that were to make room for a heavier one, which the disk has not taken, run as ever."""
+    with setup.case("--most-in-firm=3").start_failing() as case, case.client() as client:
+        client.submit("0.05", job="light", weight=1, array=[1, 3])
+        case.until(lambda: len(case.firm_tasks()) == 3, "three are in firm")
+        with case.failure():
+            client.refused("not-written", "submit", command=FOREVER, dir="/tmp", job="heavy", weight=1_000)
+        case.until(lambda: client.ask("status")["writes"]["are_good"], "it is written again")
+        case.agent("a1", m1=3)
+        ends = client.ask("wait", tasks=["1"], seconds=SERVED_SECONDS)
+        require([end["state"] for end in ends.values()] == ["done"] * 3, f"{ends} {client.ask('tasks')}")
+
+
+CHECKS = (hostile_users, garbage, stops, hung_firmd, unwritten, unmade_room)

@@ -76,11 +76,15 @@ class Giver:
         if not lines:
             return
         rows = core.rows
-        core.leaving.update(line.words for line in lines if line.kind == Kind.DONE)
+        leaving = {line.words for line in lines if line.kind == Kind.DONE}
+        core.leaving |= leaving  # before the disk is waited for: a claim may come meanwhile
         try:
             await core.store.settled()
             began = time.monotonic()
             replies = await core.firm.say([str(line) for line in lines])
+        except NotWritten:
+            core.leaving -= leaving  # nothing was said, and perhaps none of it ever is
+            raise
         finally:
             if core.rows is rows:
                 core.look_at(line.task.name for line in lines if line.task is not None)
