@@ -20,6 +20,7 @@ from harness.checks import Skipped, require
 from queue_kit import ANN, BOB, FOREVER, Case, Disk, Json, Setup, as_user, claim_place
 
 HELD: Json = {"ask": "submit", "command": FOREVER, "dir": "/tmp", "hold": True}
+CANCEL: Json = {"ask": "cancel"}
 BUSY_SECONDS = 8.0  # of the queue's processor time, for what takes a minute where each end is judged by all needs
 WORDS = 60_000  # letters of a command
 
@@ -137,6 +138,49 @@ def names_of_the_past(setup: Setup) -> None:
             require(len(found) == count and found["1_7"]["state"] == "cancelled", "all")
             took = processor_seconds(case) - before
             require(took < BUSY_SECONDS, f"it took {took:.1f} s of a processor")
+
+
+def forgotten(setup: Setup) -> None:
+    """What memory has forgotten is waited for, and cancelled, without its words, and another's is not looked at; lists
+    have so many words. What is forgotten as it ends has ended for all who ask."""
+    if os.geteuid():
+        raise Skipped("it needs root, to be other users")
+    with setup.case("--socket-mode=666").start() as case:
+        case.folder.chmod(0o755)
+        large: list[Json] = [{"command": ["xy"] * 6_000, "dir": "/", "hold": True}] * 50
+        for _ in range(2):
+            made: Json = {"ask": "submit-all", "submissions": large}
+            require(
+                "changed" in as_user(ANN, case.socket, [made, {**CANCEL, "jobs": [f"u{ANN}"]}])[1]["cancel"], "made"
+            )
+        names = [str(number) for number in range(1, 101)]
+        case.kill()
+        case.start()
+        before = memory(case)
+        waits: list[Json] = [{**HELD, "after": names}, {**HELD, "after_any": names}]
+        found = as_user(BOB, case.socket, waits)
+        require([answer.get("error") for answer in found] == ["no-such-task"] * 2, found)
+        found = as_user(ANN, case.socket, [{**CANCEL, "tasks": names}, {"ask": "wait", "tasks": names}, *waits])
+        require(found[0]["cancel"]["unchanged"] == dict.fromkeys(names, "has ended: cancelled"), found[0])
+        require(found[1]["wait"] == dict.fromkeys(names, {"state": "cancelled", "status": None}), found[1])
+        require([answer["submit"]["number"] for answer in found[2:]] == [101, 102], found[2:])
+        grown = memory(case) - before
+        require(grown < 20_000, f"the queue has grown by {grown:,} kB")
+        with case.client() as client, case.client() as waiting:
+            client.refused("bad-field", "tasks", tasks=names, states=["cancelled"])
+            found = as_user(ANN, case.socket, [{"ask": "tasks", "states": ["cancelled"]}])
+            rows = [row["task"] for row in found[0]["tasks"]]
+            require(rows == names[-len(rows) :] and 0 < found[0]["more"] == 100 - len(rows), (rows, found[0]["more"]))
+            row = client.ask("task", task="101")
+            require((row["state"], row["reason"]) == ("unmet", "1 did not end with done"), row)
+            require(client.state("102") == "held" and len(client.ask("task", task="7")["command"]) == 6_000, "others")
+            number = client.submit(*FOREVER, hold=True, array=[1, 25_000])  # more than memory keeps
+            waiting.send({"ask": "wait", "tasks": [str(number)]})
+            client.ask("cancel", tasks=[str(number)])
+            ends = waiting.answer()["wait"].values()
+            require(len(ends) == 25_000 and all(end["state"] == "cancelled" for end in ends), "they have ended")
+            client.refused("no-such-task", "submit", command=FOREVER, dir="/", after=[f"{number}_0"])
+            client.submit(*FOREVER, hold=True, after_any=[f"{number}_1"])
 
 
 @contextmanager
@@ -316,6 +360,18 @@ def modes(setup: Setup) -> None:
 
 
 CHECKS: tuple[Callable[[Setup], None], ...] = (
-    *(needs, words, budget, names_of_the_past, terminals, twins, unknown_runs, numbers, jumping_clock, modes),
+    *(
+        needs,
+        words,
+        budget,
+        names_of_the_past,
+        forgotten,
+        terminals,
+        twins,
+        unknown_runs,
+        numbers,
+        jumping_clock,
+        modes,
+    ),
 )
 LONG: tuple[Callable[[Setup], None], ...] = (waiting_requests, write_ahead_log)

@@ -9,8 +9,9 @@ from __future__ import annotations
 import asyncio
 import time
 from collections import Counter
-from collections.abc import Iterable, Sequence
+from collections.abc import Iterable, Mapping, Sequence
 from dataclasses import dataclass
+from types import MappingProxyType
 
 from . import queries, states
 from .backlog import Backlog
@@ -38,6 +39,19 @@ class Bounds:
     in_all: int
     array: int  # tasks of one array
     budget: int = 2**30  # bytes of the disk that a user, operators excepted, may take, and again in each week
+
+
+Forgotten = Mapping[int, Submission]  # such as have ended and are not in memory any more
+NONE: Forgotten = MappingProxyType({})
+
+
+@dataclass(frozen=True, slots=True)
+class Named:
+    """For whom, and where beside memory, the names of what is waited for are looked up."""
+
+    user: User
+    labels: Mapping[str, int]  # numbers of submissions of the same list
+    forgotten: Forgotten
 
 
 def boot_time() -> float:
@@ -114,17 +128,17 @@ class Core:
 
     # Submissions
 
-    def submit(self, user: User, asked: Sequence[Submit], key: str | None) -> list[Submission]:
-        """Makes submissions, all or none; those that they wait for are in memory."""
+    def submit(self, user: User, asked: Sequence[Submit], key: str | None, forgotten: Forgotten) -> list[Submission]:
+        """Makes submissions, all or none; those that they wait for are in memory, or forgotten there."""
         self.store.require_good()
         texts = [text_of(one.spec) for one in asked]
         size = self._require_room(user, asked, texts) + len(key or "")
         jobs: dict[str, Job] = {}
-        numbers = {one.label: self.rows.last_number + 1 + at for at, one in enumerate(asked) if one.label is not None}
-        made = []
+        labels = {one.label: self.rows.last_number + 1 + at for at, one in enumerate(asked) if one.label is not None}
+        named, made = Named(user, labels, forgotten), []
         for at, one in enumerate(asked):
             try:
-                made.append(self._made(user, one, jobs, numbers))
+                made.append(self._made(one, jobs, named))
             except Refused as refusal:
                 refusal.more["at"] = at
                 raise
@@ -135,7 +149,7 @@ class Core:
             self.rows.add(submission)
             self.store.add(submission, text)
             self._dirty.update(task.name for task in submission.tasks.values())
-        self._begin_needs(made)
+        self._begin_needs(made, forgotten)
         self._spend(user.number, size)
         self.rows.forget(MOST_ENDED, MOST_ENDED_BYTES)
         if key is not None:
@@ -190,14 +204,15 @@ class Core:
             what = f"the words of all tasks that have not ended take {self.rows.bytes:,} bytes"
             raise Refused("queue-full", f"{what}, {told} {MOST_BYTES:,}")
 
-    def _made(self, user: User, one: Submit, jobs: dict[str, Job], numbers: dict[str, int]) -> Submission:
-        """A submission without number; `jobs` are those of the same request, `numbers` those of its labels."""
-        name, job = self._job(user, one, jobs)
+    def _made(self, one: Submit, jobs: dict[str, Job], named: Named) -> Submission:
+        """A submission without number; `jobs` are those of the same request."""
+        name, job = self._job(named.user, one, jobs)
         jobs[name] = job
         first, last = one.array if one.array is not None else (None, None)
-        needs = [self._need(user, text, numbers, True) for text in one.after]
-        needs += [self._need(user, text, numbers, False) for text in one.after_any]
-        made = Submission(0, user.number, name, job.weight, one.spec, first, last, 0.0, tuple(dict.fromkeys(needs)))
+        needs = [self._need(text, True, named) for text in one.after]
+        needs += [self._need(text, False, named) for text in one.after_any]
+        place = (name, job.weight, one.spec, first, last)
+        made = Submission(0, named.user.number, *place, 0.0, tuple(dict.fromkeys(needs)))
         made.add_tasks(one.is_held)
         return made
 
@@ -216,14 +231,14 @@ class Core:
             raise Refused("job-has-weight", f"the job {name} has the weight {found.weight}")
         return name, found
 
-    def _need(self, user: User, text: str, numbers: dict[str, int], is_ok: bool) -> Need:
+    def _need(self, text: str, is_ok: bool, named: Named) -> Need:
         if text.startswith("@"):
-            if text[1:] not in numbers:
+            if text[1:] not in named.labels:
                 raise Refused("no-such-label", f"{text}: no submission of the list has this label")
-            return Need(numbers[text[1:]], None, is_ok)
+            return Need(named.labels[text[1:]], None, is_ok)
         name = Name.read(text)
-        submission = self.rows.submissions.get(name.number) if name is not None else None
-        if name is None or submission is None or not user.may_see(submission.user):
+        submission = self._submission(name.number, named.forgotten) if name is not None else None
+        if name is None or submission is None or not named.user.may_see(submission.user):
             raise Refused("no-such-task", f"{text}: no such task")
         if name.index == SINGLE:
             return Need(name.number, None, is_ok)
@@ -231,25 +246,28 @@ class Core:
             raise Refused("no-such-task", f"{text}: no such task")
         return Need(name.number, name.index, is_ok)
 
-    def _begin_needs(self, submissions: Sequence[Submission]) -> None:
+    def _submission(self, number: int, forgotten: Forgotten) -> Submission | None:
+        return self.rows.submissions.get(number) or forgotten.get(number)
+
+    def _begin_needs(self, submissions: Sequence[Submission], forgotten: Forgotten = NONE) -> None:
         """Looks what these wait for; from then on each end is counted once. Ends what never may begin."""
         for submission in submissions:
             submission.open_needs = sum(self.needed(need).live > 0 for need in submission.needs)
         for submission in submissions:
-            judgement = states.judge(self.needed(need) for need in submission.needs)
+            judgement = states.judge(self.needed(need, forgotten) for need in submission.needs)
             if judgement == Judgement.UNMET and submission.live:
-                self._follow(self._end_unmet(submission))
+                self._follow(self._end_unmet(submission, forgotten))
 
-    def _end_unmet(self, submission: Submission) -> list[Task]:
+    def _end_unmet(self, submission: Submission, forgotten: Forgotten = NONE) -> list[Task]:
         """Ends what never may begin."""
-        unmet = next(need for need in submission.needs if need.is_ok and self.needed(need).failed)
+        unmet = next(need for need in submission.needs if need.is_ok and self.needed(need, forgotten).failed)
         idle = [task for task in self.rows.live_of([submission]) if task.open_attempt is None]
         for task in idle:
             self._finish(task, State.UNMET, f"{unmet} did not end with done")
         return idle
 
-    def needed(self, need: Need) -> Needed:
-        submission = self.rows.submissions.get(need.number)
+    def needed(self, need: Need, forgotten: Forgotten = NONE) -> Needed:
+        submission = self._submission(need.number, forgotten)
         if submission is None:  # it ended long ago, as it should: what waited for it would have ended otherwise
             return Needed(need.is_ok, 0, 0)
         if need.index is None:

@@ -4,7 +4,8 @@ from __future__ import annotations
 
 import json
 import sqlite3
-from collections.abc import Iterable, Sequence
+import sys
+from collections.abc import Callable, Collection, Iterable, Sequence
 from contextlib import closing
 from dataclasses import dataclass
 from typing import Any
@@ -12,6 +13,9 @@ from typing import Any
 from .rows import SINGLE, Attempt, Name, Need, Rows, Spec, Submission, Task
 
 AT_ONCE = 500  # numbers in one query
+IS_OWN = "(? IS NULL OR user = ?)"  # a submission is this user's, where one is named
+WORDLESS = Spec((), "/")
+Finder = Callable[[sqlite3.Connection, Sequence[int], int | None, int], list[Submission]]
 # The last attempt of a task, beside it.
 LAST = "LEFT JOIN attempt a ON (a.number, a.idx, a.attempt) = (t.number, t.idx, t.attempts)"
 TASK = "t.idx, is_held, is_cancelled, failures, lost, t.outcome, t.status, t.reason, t.ended, t.attempts"
@@ -58,16 +62,19 @@ def load(connection: sqlite3.Connection) -> Kept:
     return Kept(rows, agents, dict(fetched(connection, "SELECT machine, mark FROM mark")), spent)
 
 
-def submissions(connection: sqlite3.Connection, numbers: Iterable[int]) -> list[Submission]:
-    """Submissions with all their tasks and the last attempt of each."""
+def submissions(
+    connection: sqlite3.Connection, numbers: Iterable[int], owner: int | None = None, most: int = -1
+) -> list[Submission]:
+    """Submissions, of a user or of all, with their tasks, up to a number or all, and the last attempt of each."""
     wanted, found = sorted(numbers), list[Submission]()
     for at in range(0, len(wanted), AT_ONCE):
-        some = wanted[at : at + AT_ONCE]
-        marks = ", ".join("?" * len(some))
         by_number, texts = dict[int, Submission](), dict[int, str]()
+        marks, values = marks_of(wanted[at : at + AT_ONCE]), [*wanted[at : at + AT_ONCE], owner, owner]
         words = f"SELECT number, user, job, weight, spec, first, last, sent FROM submission WHERE number IN ({marks})"
-        for number, user, job, weight, spec, *rest in fetched(connection, words, some):
+        for number, user, job, weight, spec, *rest in fetched(connection, f"{words} AND {IS_OWN}", values):
             by_number[number], texts[number] = Submission(number, user, job, weight, spec_of(spec), *rest), spec
+        some = list(by_number)
+        marks = marks_of(some)
         words = f"SELECT number, needs, idx, is_ok FROM need WHERE number IN ({marks}) ORDER BY number, place"
         needed: dict[int, list[Need]] = {}
         for number, needs, index, is_ok in fetched(connection, words, some):
@@ -75,11 +82,31 @@ def submissions(connection: sqlite3.Connection, numbers: Iterable[int]) -> list[
         for number, submission in by_number.items():
             submission.needs = tuple(needed.get(number, ()))
             submission.measure(texts[number])
-        words = f"SELECT t.number, {TASK}, {ATTEMPT} FROM task t {LAST} WHERE t.number IN ({marks}) ORDER BY 1, 2"
-        for number, *row in fetched(connection, words, some):
+        words = f"SELECT t.number, {TASK}, {ATTEMPT} FROM task t {LAST} WHERE t.number IN ({marks})"
+        for number, *row in fetched(connection, f"{words} ORDER BY 1, 2 LIMIT ?", [*some, most]):
             add_task(by_number[number], row)
         found += by_number.values()
     return found
+
+
+def forgotten(connection: sqlite3.Connection, numbers: Sequence[int], owner: int | None, most: int) -> list[Submission]:
+    """The same of such as have ended, without what may take much: words, needs and attempts."""
+    words = f"SELECT number, user, job, weight, first, last, sent FROM submission WHERE number IN ({marks_of(numbers)})"
+    found = {
+        number: Submission(number, user, job, weight, WORDLESS, *rest)
+        for number, user, job, weight, *rest in fetched(connection, f"{words} AND {IS_OWN}", [*numbers, owner, owner])
+    }
+    words = f"SELECT number, idx, outcome, status FROM task WHERE number IN ({marks_of(found)}) LIMIT ?"
+    with closing(connection.execute(words, [*found, most])) as rows:
+        for number, index, outcome, status in rows:
+            submission = found[number]
+            submission.tasks[index] = Task(submission, index, outcome=sys.intern(outcome), status=status)
+            submission.failed += outcome != "done"
+    return list(found.values())
+
+
+def marks_of(values: Collection[int]) -> str:
+    return ", ".join("?" * len(values))
 
 
 def add_task(submission: Submission, row: Sequence[Any]) -> None:
@@ -115,28 +142,36 @@ def answer_to(connection: sqlite3.Connection, user: int, key: str) -> Any:
     return json.loads(found[0][0]) if found else None
 
 
-def ended(connection: sqlite3.Connection, asked: Asked) -> list[Submission]:
-    """Submissions with those of their tasks that ended so, the newest first."""
+def ended(connection: sqlite3.Connection, asked: Asked, most_bytes: int) -> tuple[list[Submission], int]:
+    """Submissions with those of their tasks that ended so, the newest, as far as their words take so many bytes; and
+    how many tasks are left out."""
     conditions, values = conditions_of(asked, "t.ended")
     marks = ", ".join("?" * len(asked.outcomes))
     words = f"SELECT t.number, {TASK}, {ATTEMPT} FROM task t JOIN submission s ON s.number = t.number {LAST}"
     words += f" WHERE t.outcome IN ({marks}){conditions} ORDER BY t.number DESC, t.idx DESC LIMIT ?"
     rows = fetched(connection, words, [*asked.outcomes, *values, asked.limit])
-    found = {submission.number: submission for submission in bare(connection, {row[0] for row in rows})}
-    for number, *row in reversed(rows):
+    found = bare(connection, {row[0] for row in rows}, most_bytes)
+    shown = [row for row in rows if row[0] in found]
+    for number, *row in reversed(shown):
         add_task(found[number], row)
-    return list(found.values())
+    return list(found.values()), len(rows) - len(shown)
 
 
-def bare(connection: sqlite3.Connection, numbers: Iterable[int]) -> list[Submission]:
-    """Submissions without tasks."""
-    wanted, found = sorted(numbers), []
+def bare(connection: sqlite3.Connection, numbers: Iterable[int], most_bytes: int) -> dict[int, Submission]:
+    """Submissions without tasks, the newest, as far as their words take so many bytes; one at least."""
+    wanted, found, size = sorted(numbers, reverse=True), dict[int, Submission](), 0
     for at in range(0, len(wanted), AT_ONCE):
         some = wanted[at : at + AT_ONCE]
         words = "SELECT number, user, job, weight, spec, first, last, sent FROM submission"
-        words += f" WHERE number IN ({', '.join('?' * len(some))})"
-        for number, user, job, weight, spec, *rest in fetched(connection, words, some):
-            found.append(Submission(number, user, job, weight, spec_of(spec), *rest))
+        words += f" WHERE number IN ({marks_of(some)}) ORDER BY number DESC"
+        with closing(connection.execute(words, some)) as rows:
+            for number, user, job, weight, spec, *rest in rows:
+                submission = Submission(number, user, job, weight, spec_of(spec), *rest)
+                submission.measure(spec)
+                size += submission.size
+                if found and size > most_bytes:
+                    return found
+                found[number] = submission
     return found
 
 

@@ -204,7 +204,9 @@ from .states import ENDED, Change, State
 from .users import User, name_of, number_of
 
 MOST_SUBMISSIONS, MOST_ASKED, MOST_ROWS, DEFAULT_ROWS = 10_000, 100_000, 100_000, 10_000
-MOST_READ = 200_000  # tasks that have ended long ago, for one request
+# Of what has ended long ago, for one request: tasks, and bytes that the words take, where they are read.
+MOST_READ, MOST_READ_BYTES = 200_000, 2**26
+READ_AT_ONCE = 100  # submissions
 ROWS_AT_ONCE = 100  # that are made in a turn of the loop
 GONE_SECONDS = 5.0  # between two looks whether a client that waits is still there
 OPERATORS_ALONE = {"cordon", "uncordon", "drain", "register", "beat", "claim", "told", "kept"}
@@ -325,15 +327,20 @@ class Requests:
     async def _made(self, user: User, asked: list[Submit], key: str | None) -> Answers:
         if key is not None and not key:
             raise bad("key", f"1 to {MOST_KEY} letters")
-        named = (Name.read(text) for one in asked for text in (*one.after, *one.after_any))
-        found = await self._found(user, {name.number for name in named if name is not None})
-        if key is not None and (again := await self._known(user, key)) is not None:
-            return Answers(again, is_again=True)
-        for submission in found.values():  # what is not in memory any more is needed there to judge what waits for it
-            if submission.number not in self._core.rows.submissions:
-                self._core.rows.add(submission)
-        made = self._core.submit(user, asked, key)
+        answers = await self._begun(user, asked, key)
         await self._core.store.settled()
+        return answers
+
+    async def _begun(self, user: User, asked: list[Submit], key: str | None) -> Answers:
+        """What is answered to a submit once it is written."""
+        names = (Name.read(text) for one in asked for text in (*one.after, *one.after_any))
+        numbers, rows = {name.number for name in names if name is not None}, None
+        while rows is not self._core.rows:  # they may be read anew meanwhile
+            rows = self._core.rows
+            found = await self._found(user, numbers)
+            if key is not None and (again := await self._known(user, key)) is not None:
+                return Answers(again, is_again=True)
+        made = self._core.submit(user, asked, key, found)
         return Answers([submission.answer() for submission in made])
 
     async def _known(self, user: User, key: str) -> Any:
@@ -354,31 +361,31 @@ class Requests:
     async def _tasks(self, caller: Caller, given: Json) -> Any:
         fields = Fields(given, ["ask", "user", "job", "states", "tasks", "limit"])
         chosen = self._chosen(fields)
-        tasks = await self._chosen_tasks(caller.user, chosen)
+        tasks, more = await self._chosen_tasks(caller.user, chosen)
         rows: list[Json] = []
         async for some in in_turns(tasks[: chosen.limit]):
             rows += map(self._lists.row, some)
         rows += self._foreign(caller.user, chosen)
-        return Listed(rows[: chosen.limit], max(0, len(tasks) - chosen.limit))
+        return Listed(rows[: chosen.limit], max(0, len(tasks) - chosen.limit) + more)
 
     async def _ps(self, caller: Caller, given: Json) -> Any:
         Fields(given, ["ask"])
         chosen = Chosen(None, None, None, None, MOST_ROWS)
-        tasks = await self._chosen_tasks(caller.user, chosen)
+        tasks, more = await self._chosen_tasks(caller.user, chosen)
         lines: list[Line] = []
         async for some in in_turns(tasks[:MOST_ROWS]):
             lines += self._lists.lines(some)
         lines += map(line_of, self._foreign(caller.user, chosen))
-        return Shown(text_of(lines[:MOST_ROWS]), max(0, len(tasks) - MOST_ROWS))
+        return Shown(text_of(lines[:MOST_ROWS]), max(0, len(tasks) - MOST_ROWS) + more)
 
-    async def _chosen_tasks(self, user: User, chosen: Chosen) -> list[Task]:
-        """The tasks of a list, by number and index."""
-        tasks = [task for task in self._visible(user) if chosen.has(task)]
+    async def _chosen_tasks(self, user: User, chosen: Chosen) -> tuple[list[Task], int]:
+        """The tasks of a list, by number and index, and how many were left out as their words take too much."""
+        tasks, more = [task for task in self._visible(user) if chosen.has(task)], 0
         if chosen.states is not None:
-            tasks = [task for task in tasks if self._lists.state_of(task) in chosen.states]
-            tasks += await self._ended(user, chosen)
+            ended, more = await self._ended(user, chosen)
+            tasks = [task for task in tasks if self._lists.state_of(task) in chosen.states] + ended
         tasks.sort(key=lambda task: (task.submission.number, task.index))
-        return tasks
+        return tasks, more
 
     def _foreign(self, user: User, chosen: Chosen) -> list[Json]:
         """Tasks in firm that are of a list, and that the queue has not submitted."""
@@ -406,22 +413,18 @@ class Requests:
         rows = self._core.rows
         return rows.live_of(one for one in rows.submissions.values() if one.live and user.may_see(one.user))
 
-    async def _ended(self, user: User, chosen: Chosen) -> list[Task]:
+    async def _ended(self, user: User, chosen: Chosen) -> tuple[list[Task], int]:
         outcomes = frozenset(map(str, ENDED)) & (chosen.states or frozenset())
         if not outcomes or not user.may_see(user.number if chosen.user is None else chosen.user):
-            return []
+            return [], 0
         if chosen.names is not None:
-            found = await self._found(user, {name.number for name in chosen.names})
+            found = await self._found(user, {name.number for name in chosen.names}, are_whole=True)
             tasks = [task for one in found.values() for task in one.tasks.values()]
-            return [
-                task
-                for task in tasks
-                if task.outcome in outcomes and chosen.has(task) and user.may_see(task.submission.user)
-            ]
+            return [task for task in tasks if task.outcome in outcomes and chosen.has(task)], 0
         owner = chosen.user if user.is_operator else user.number
         asked = Asked(user=owner, job=chosen.job, outcomes=outcomes, limit=chosen.limit)
-        read = await self._core.store.read(lambda connection: queries.ended(connection, asked))
-        return [task for submission in read for task in submission.tasks.values()]
+        read, more = await self._core.store.read(lambda connection: queries.ended(connection, asked, MOST_READ_BYTES))
+        return [task for submission in read for task in submission.tasks.values()], more
 
     async def _task(self, caller: Caller, given: Json) -> Json:
         fields = Fields(given, ["ask", "task"])
@@ -482,8 +485,7 @@ class Requests:
             for job in jobs.keys() - {task.submission.job for task in of_jobs}:
                 raise Refused("no-such-job", f"{job}: no such job with tasks that have not ended")
             tasks.update((task.name, task) for task in of_jobs)
-        current = [self._core.rows.task(name) or task for name, task in tasks.items()]
-        changed, unchanged = self._core.change(Change(given["ask"]), current)
+        changed, unchanged = self._core.change(Change(given["ask"]), tasks.values())
         await self._core.store.settled()
         self._agents.end_kept(changed)
         return {
@@ -579,37 +581,54 @@ class Requests:
 
     # Names
 
-    async def _found(self, user: User, numbers: set[int]) -> dict[int, Submission]:
-        """Submissions by their numbers, as far as they are there. What memory has not is read, of a user's requests one
-        at a time, so that others have their turns between."""
-        rows = self._core.rows.submissions
-        found = {number: rows[number] for number in numbers if number in rows}
-        read = 0
-        for number in numbers - found.keys():
+    async def _found(self, user: User, numbers: set[int], are_whole: bool = False) -> dict[int, Submission]:
+        """Submissions by their numbers, as far as they are there, and the user may see them. What memory has forgotten
+        is read, for one request of a user at a time, and has no words unless it is to be whole."""
+        forgotten: dict[int, Submission] = {}
+        if not all(number in self._core.rows.submissions for number in numbers):
             async with self._reads[user.number]:
-                submission = await self._core.find(number)
-            if submission is not None:
-                found[number] = submission
-                read += len(submission.tasks)
-            if read > MOST_READ:
-                raise bad("tasks", f"what has ended has more than {MOST_READ:,} tasks here; name less at a time")
+                forgotten = await self._forgotten(user, numbers, are_whole)
+        rows = self._core.rows.submissions  # as they are now: they may have been read anew
+        found = (rows.get(number) or forgotten.get(number) for number in numbers)
+        return {one.number: one for one in found if one is not None and user.may_see(one.user)}
+
+    async def _forgotten(self, user: User, numbers: set[int], are_whole: bool) -> dict[int, Submission]:
+        """Those of these that memory has not, read some at a time, so that others have their turns between."""
+        query: queries.Finder = queries.forgotten
+        at_once = READ_AT_ONCE
+        if are_whole:
+            query, at_once = queries.submissions, 1
+        found, asked, tasks, size = dict[int, Submission](), set[int](), 0, 0
+        while missing := [one for one in numbers - asked if one not in self._core.rows.submissions]:
+            await self._core.store.settled()  # what memory has just forgotten has ended on the disk too then
+            for at in range(0, len(missing), at_once):
+                some, left = missing[at : at + at_once], MOST_READ + 1 - tasks
+                read = await self._core.store.read(lambda connection: query(connection, some, user.sees, left))
+                found.update((one.number, one) for one in read)
+                tasks += sum(len(one.tasks) for one in read)
+                size += sum(one.size for one in read)
+                if tasks > MOST_READ or size > MOST_READ_BYTES:
+                    most = f"{MOST_READ:,} tasks, or {MOST_READ_BYTES:,} bytes of words"
+                    raise bad("tasks", f"what has ended has more than {most} here; name less at a time")
+            asked.update(missing)
         return found
 
-    async def _submissions_of(self, user: User, texts: Sequence[str]) -> dict[Name, Submission]:
+    async def _submissions_of(
+        self, user: User, texts: Sequence[str], are_whole: bool = False
+    ) -> dict[Name, Submission]:
         """These names with their submissions, where the user may see all that is named."""
         names = {text: name_from(text) for text in texts}
-        submissions = await self._found(user, {name.number for name in names.values()})
+        submissions = await self._found(user, {name.number for name in names.values()}, are_whole)
         for text, name in names.items():
             submission = submissions.get(name.number)
-            is_there = submission is not None and (name.index == SINGLE or name.index in submission.tasks)
-            if submission is None or not is_there or not user.may_see(submission.user):
+            if submission is None or name.index != SINGLE and name.index not in submission.tasks:
                 raise Refused("no-such-task", f"{text}: no such task")
         return {name: submissions[name.number] for name in names.values()}
 
-    async def _named(self, user: User, texts: Sequence[str]) -> dict[Name, Task]:
+    async def _named(self, user: User, texts: Sequence[str], are_whole: bool = False) -> dict[Name, Task]:
         """The tasks of these names, or all of submissions."""
         found: dict[Name, Task] = {}
-        for name, submission in (await self._submissions_of(user, texts)).items():
+        for name, submission in (await self._submissions_of(user, texts, are_whole)).items():
             if name.index == SINGLE:
                 found.update((task.name, task) for task in submission.tasks.values())
             else:
@@ -619,7 +638,7 @@ class Requests:
     async def _one(self, user: User, text: str | None) -> Task:
         if text is None:
             raise bad("task", "it is needed")
-        found = await self._named(user, [text])
+        found = await self._named(user, [text], are_whole=True)
         first = next(iter(found.values()))
         if len(found) != 1:
             raise Refused("no-such-task", f"{text} is an array; name a task of it, as {first.name}")

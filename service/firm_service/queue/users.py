@@ -23,6 +23,11 @@ class User:
     def name(self) -> str:
         return name_of(self.number)
 
+    @property
+    def sees(self) -> int | None:
+        """The user whose rows this one is shown; None: those of all."""
+        return None if self.is_operator else self.number
+
     def may_see(self, other: int) -> bool:
         """Whether this user is shown what is another's, and may change it."""
         return self.is_operator or self.number == other
