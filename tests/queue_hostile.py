@@ -2,13 +2,16 @@
 
 from __future__ import annotations
 
+import fcntl
 import json
 import os
 import random
 import selectors
 import signal
 import socket
+import sys
 import time
+from base64 import b64decode
 from collections.abc import Iterator, Sequence
 from contextlib import ExitStack, contextmanager, suppress
 from pathlib import Path
@@ -280,4 +283,64 @@ def unmade_room(setup: Setup) -> None:
         require([end["state"] for end in ends.values()] == ["done"] * 3, f"{ends} {client.ask('tasks')}")
 
 
-CHECKS = (hostile_users, garbage, stops, hung_firmd, unwritten, unmade_room)
+# A queue that waits a moment for what hangs, as the look-up of the user `hung` does.
+IMPATIENT = """\
+import pwd, sys, time
+from firm_service.queue import daemon, threads
+known, threads.PATIENCE_SECONDS = pwd.getpwnam, 1.0
+def hanging(name):
+    if name == "hung":
+        time.sleep(40)
+    return known(name)
+pwd.getpwnam = hanging
+sys.exit(daemon.main(sys.argv[1:]))
+"""
+
+
+@contextmanager
+def leased(path: Path) -> Iterator[None]:
+    """Nobody else can open a file: each who tries waits, until the system takes the lease back, in 45 s as it comes."""
+    file = os.open(path, os.O_RDWR)
+    try:
+        fcntl.fcntl(file, fcntl.F_SETSIG, signal.SIGURG)  # by which the holder is asked for it, and which is ignored
+        fcntl.fcntl(file, fcntl.F_SETLEASE, fcntl.F_WRLCK)
+        yield
+    finally:
+        os.close(file)
+
+
+def hung_files(setup: Setup) -> None:
+    """A user whose outputs hang takes few of the queue's threads: others' are read, what hangs is refused, also where
+    the name of a user is looked up, and SIGTERM ends the queue."""
+    if os.geteuid():
+        raise Skipped("it needs root, to be other users")
+    with setup.case("--socket-mode=666", "--lease=300") as case, ExitStack() as stack:
+        case.words = [sys.executable, "-c", IMPATIENT, "run"]
+        case.start()
+        case.folder.chmod(0o755)
+        client = stack.enter_context(case.client())
+        client.ask("register", agent="a1", id="x", machines={"m1": 2}, runs=[])
+        outputs = {"1": (ANN, case.folder / "hung"), "2": (BOB, case.folder / "good")}
+        for task, (user, path) in outputs.items():
+            path.write_text(path.name)
+            os.chown(path, user, user)
+            as_user(user, case.socket, [{**without_ask(HELD), "ask": "submit", "hold": False, "output": str(path)}])
+            client.ask("claim", token=f"{task:a>8}", run=1, **claim_place(case, task))
+            client.ask("told", events=[{"token": f"{task:a>8}", "event": "running", "output": str(path)}])
+        with leased(outputs["1"][1]):
+            hung = [stack.enter_context(case.client()) for _ in range(41)]
+            hung[0].send({"ask": "tasks", "user": "hung"})
+            for one in hung[1:]:
+                one.send({"ask": "log", "task": "1"})
+            began = time.monotonic()
+            found = as_user(BOB, case.socket, [{"ask": "log", "task": "2"}])
+            require(b64decode(found[0].get("log", "")) == b"good", found)
+            answers = [one.answer() for one in hung]
+            told = {(answer.get("error"), "nothing has come for 1 s" in answer.get("text", "")) for answer in answers}
+            require(told == {("bad-field", True), ("no-output", True)}, answers)
+            case.stop()
+            took = time.monotonic() - began
+            require(took < SERVED_SECONDS, f"it took {took:.1f} s")
+
+
+CHECKS = (hostile_users, garbage, stops, hung_firmd, unwritten, unmade_room, hung_files)

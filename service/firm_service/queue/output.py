@@ -5,8 +5,9 @@ from __future__ import annotations
 import asyncio
 import os
 import stat
-from collections.abc import AsyncIterator
+from collections.abc import AsyncIterator, Callable
 from dataclasses import dataclass
+from functools import partial
 from typing import Protocol
 
 from ..faults import reason
@@ -73,6 +74,9 @@ class Reading(Protocol):
     def goes_on(self) -> bool:
         """Whether more may be written that is wanted."""
 
+    async def read(self, work: Callable[[], bytes]) -> bytes:
+        """What some work with the file gives, which may hang; raises TimeoutError then."""
+
 
 async def pieces(output: Output, start: int, reading: Reading) -> AsyncIterator[tuple[int, bytes]]:
     """A file from an offset on, in pieces with their offsets; once it is read, what is added, while it goes on."""
@@ -81,12 +85,11 @@ async def pieces(output: Output, start: int, reading: Reading) -> AsyncIterator[
         await reading.turn()
         is_last = not reading.goes_on()  # asked before the file is read, so that all which was written till then is
         try:
-            piece = await asyncio.to_thread(piece_of, output, at)
+            piece = await reading.read(partial(piece_of, output, at))
         except OSError as error:
-            if at > start or not is_last:
-                piece = b""
-            else:
+            if isinstance(error, TimeoutError) or at == start and is_last:  # what hangs is not tried again
                 raise output.refusal(error) from error
+            piece = b""
         if piece:
             yield at, piece
             at += len(piece)

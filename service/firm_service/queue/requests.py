@@ -88,8 +88,8 @@ history: {"ask": "history", "since": null|t, "until": null|t, "user": null, "job
 log: {"ask": "log", "task": "12_4", "attempt": null, "from": 0, "follow": false}
   -> {"log": BASE64, "at": OFFSET}, .. and then {"end": {"at": OFFSET, "state": "done", "status": 0}}. attempt null: the
   last. follow: until that attempt has ended. Errors: `no-such-task`, `no-such-attempt`, `no-output` (it has not begun,
-  the file is gone, or is of another than the task's user and the one whose process it was), `elsewhere` (with "host"
-  and "path").
+  the file is gone, or can't be read within 30 seconds, or is of another than the task's user and the one whose process
+  it was), `elsewhere` (with "host" and "path").
 
 machines: {"ask": "machines"} -> {"machines": [{"machine": "m1", "slots": 4|null, "agent": "a1"|null, "state": "up"|
   "silent"|"cordoned"|"drained"|"no-agent"|"adding", "reason": "", "tasks": ["12_4", ..], "open": 1}, ..]}; "tasks" only
@@ -188,9 +188,11 @@ from base64 import b64encode
 from collections import Counter, defaultdict
 from collections.abc import AsyncIterator, Awaitable, Callable, Iterable, Mapping, Sequence
 from dataclasses import dataclass, replace
+from functools import partial
 from graphlib import CycleError, TopologicalSorter
 from typing import Any, Protocol
 
+from ..faults import reason
 from . import queries
 from .agents import CORDONED, DRAINED, Agents, Session
 from .columns import Line, line_of, text_of
@@ -201,6 +203,7 @@ from .output import Output, pieces, tail_of
 from .queries import Asked
 from .rows import SINGLE, Attempt, Name, Submission, Task
 from .states import ENDED, Change, State
+from .threads import Threads
 from .users import User, name_of, number_of
 
 MOST_SUBMISSIONS, MOST_ASKED, MOST_ROWS, DEFAULT_ROWS = 10_000, 100_000, 100_000, 10_000
@@ -229,9 +232,14 @@ class Follower:
     caller: Caller
     core: Core
     token: str
+    threads: Threads
+    user: int  # whose file it is, which may hang
 
     async def turn(self) -> None:
         await self.caller.turn()
+
+    async def read(self, work: Callable[[], bytes]) -> bytes:
+        return await self.threads.do(self.user, work)
 
     def goes_on(self) -> bool:
         return self.token in self.core.rows.open and not self.caller.is_gone()
@@ -262,6 +270,7 @@ class Requests:
         self._lists = Lists(core, agents)
         self._started = time.time()
         self._reads: defaultdict[int, asyncio.Lock] = defaultdict(asyncio.Lock)  # by user
+        self._threads = Threads()
         self._asks: Mapping[str, Callable[[Caller, Json], Awaitable[Any]]] = {
             "submit": self._submit,
             "submit-all": self._submit_all,
@@ -360,7 +369,7 @@ class Requests:
 
     async def _tasks(self, caller: Caller, given: Json) -> Any:
         fields = Fields(given, ["ask", "user", "job", "states", "tasks", "limit"])
-        chosen = self._chosen(fields)
+        chosen = await self._chosen(caller.user, fields)
         tasks, more = await self._chosen_tasks(caller.user, chosen)
         rows: list[Json] = []
         async for some in in_turns(tasks[: chosen.limit]):
@@ -394,7 +403,7 @@ class Requests:
             return []
         return [row for row in self._lists.foreign() if chosen.job in (None, row["job"])]
 
-    def _chosen(self, fields: Fields) -> Chosen:
+    async def _chosen(self, user: User, fields: Fields) -> Chosen:
         wanted = fields.get("states")
         if wanted is not None:
             wanted = frozenset(fields.texts("states", 100, 100))
@@ -405,8 +414,21 @@ class Requests:
         if fields.get("tasks") is not None:
             names = frozenset(name_from(text) for text in fields.texts("tasks", MOST_ASKED, 32))
         limit = fields.whole("limit", 0, MOST_ROWS)
-        user = user_from(fields)
-        return Chosen(user, fields.name("job"), wanted, names, DEFAULT_ROWS if limit is None else limit)
+        job, owner = fields.name("job"), await self._user(user, fields)
+        return Chosen(owner, job, wanted, names, DEFAULT_ROWS if limit is None else limit)
+
+    async def _user(self, user: User, fields: Fields) -> int | None:
+        """The user that a request of this one names; None where it names none."""
+        text = fields.text("user", 100)
+        if text is None:
+            return None
+        try:
+            number = await self._threads.do(user.number, partial(number_of, text))
+        except TimeoutError as error:
+            raise bad("user", f"{text!r} can't be looked up: {reason(error)}") from error
+        if number is None:
+            raise bad("user", f"{text!r}: no such user")
+        return number
 
     def _visible(self, user: User) -> Iterable[Task]:
         """The tasks that have not ended and that the user may see."""
@@ -434,7 +456,7 @@ class Requests:
 
     async def _history(self, caller: Caller, given: Json) -> Any:
         fields = Fields(given, ["ask", "since", "until", "user", "job", "task", "limit"])
-        user, name = user_from(fields), None
+        user, name = await self._user(caller.user, fields), None
         if not caller.user.is_operator:
             if user not in (None, caller.user.number):
                 return Listed([], 0)
@@ -549,7 +571,8 @@ class Requests:
             task = await self._current(task.name)
             attempt = await self._attempt(task, wanted)
         at, name, output = start, task.name, output_of(task, attempt)
-        reading = Follower(caller, self._core, attempt.token if follows else "")
+        token = attempt.token if follows else ""
+        reading = Follower(caller, self._core, token, self._threads, task.submission.user)
         async for at, piece in pieces(output, start, reading):
             yield {"log": b64encode(piece).decode(), "at": at}
             at += len(piece)
@@ -563,7 +586,7 @@ class Requests:
             raise Refused("no-output", f"{task.name} has not begun")
         output = output_of(task, task.attempt)
         try:
-            return await asyncio.to_thread(tail_of, output, most)
+            return await self._threads.do(task.submission.user, partial(tail_of, output, most))
         except OSError as error:
             raise output.refusal(error) from error
 
@@ -703,17 +726,6 @@ def name_from(text: str) -> Name:
     if name is None:
         raise Refused("no-such-task", f"{text}: no such task")
     return name
-
-
-def user_from(fields: Fields) -> int | None:
-    """The user that a request names; None where it names none."""
-    text = fields.text("user", 100)
-    if text is None:
-        return None
-    number = number_of(text)
-    if number is None:
-        raise bad("user", f"{text!r}: no such user")
-    return number
 
 
 def time_from(fields: Fields, field: str) -> float | None:
