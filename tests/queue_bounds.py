@@ -120,6 +120,23 @@ def waiting_requests(setup: Setup) -> None:
         require(grown < 160_000, f"the queue has grown by {grown:,} kB")
 
 
+def repeated_command(setup: Setup) -> None:
+    """A list has so many bytes of commands, however many rows have one; how many rows are left out is told."""
+    count = 3_000
+    with setup.case().start() as case, case.client() as client:
+        client.submit("echo", "x" * WORDS, hold=True, array=[1, count])
+        client.submit(*FOREVER, hold=True)
+        before = memory(case)
+        client.send({"ask": "tasks"})
+        answer = client.answer()
+        rows = answer["tasks"]
+        require(0 < len(rows) < count and len(rows) + answer["more"] == count + 1, (len(rows), answer["more"]))
+        require(sum(len(row["command"][1]) for row in rows) <= 2**24, len(rows))
+        grown = memory(case) - before
+        require(grown < 80_000, f"the queue has grown by {grown:,} kB")
+        require(len(client.ask("tasks", tasks=["2"])) == 1, "the other submission is shown alone")
+
+
 def names_of_the_past(setup: Setup) -> None:
     """However many tasks of an array that ended long ago are named, it is read once."""
     count = 5_000
@@ -364,6 +381,7 @@ CHECKS: tuple[Callable[[Setup], None], ...] = (
         needs,
         words,
         budget,
+        repeated_command,
         names_of_the_past,
         forgotten,
         terminals,

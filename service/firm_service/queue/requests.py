@@ -58,7 +58,7 @@ submit-all: {"ask": "submit-all", "key": null, "submissions": [S, ..]}, at most 
 
 tasks: {"ask": "tasks", "user": null|NAME, "job": null, "states": null|[..], "tasks": null|["12", ..], "limit": 10000}
   -> {"tasks": [ROW, ..], "more": 0}, by number and index. states null: those that have not ended. "more": how many were
-  left out. user null: of all that one may see. ROW:
+  left out, past the limit or 16 MiB of commands. user null: of all that one may see. ROW:
   {"task": "12_4", "firm": "12-4", "number": 12, "index": 4|null, "user": "ann", "job": "web", "weight": 10,
    "state": "running", "reason": ""|WORDS, "machine": "m1"|null, "agent": "a1"|null, "attempt": 1|0, "submitted": t,
    "began": t|null (of the last attempt), "ended": t|null (of the task), "seconds": s|null (that the last attempt has
@@ -182,6 +182,7 @@ changed), `not-registered`, `stopping`.
 from __future__ import annotations
 
 import asyncio
+import json
 import os
 import time
 from base64 import b64encode
@@ -210,6 +211,7 @@ MOST_SUBMISSIONS, MOST_ASKED, MOST_ROWS, DEFAULT_ROWS = 10_000, 100_000, 100_000
 # Of what has ended long ago, for one request: tasks, and bytes that the words take, where they are read.
 MOST_READ, MOST_READ_BYTES = 200_000, 2**26
 READ_AT_ONCE = 100  # submissions
+MOST_COMMAND_BYTES = 2**24  # of an answer: each row of an array has its command
 ROWS_AT_ONCE = 100  # that are made in a turn of the loop
 GONE_SECONDS = 5.0  # between two looks whether a client that waits is still there
 OPERATORS_ALONE = {"cordon", "uncordon", "drain", "register", "beat", "claim", "told", "kept"}
@@ -371,11 +373,25 @@ class Requests:
         fields = Fields(given, ["ask", "user", "job", "states", "tasks", "limit"])
         chosen = await self._chosen(caller.user, fields)
         tasks, more = await self._chosen_tasks(caller.user, chosen)
-        rows: list[Json] = []
-        async for some in in_turns(tasks[: chosen.limit]):
-            rows += map(self._lists.row, some)
+        rows = await self._rows(tasks[: chosen.limit])
+        more += len(tasks) - len(rows)
         rows += self._foreign(caller.user, chosen)
-        return Listed(rows[: chosen.limit], max(0, len(tasks) - chosen.limit) + more)
+        return Listed(rows[: chosen.limit], more)
+
+    async def _rows(self, tasks: Sequence[Task]) -> list[Json]:
+        """Rows of the first of these tasks, as far as their commands take so many bytes."""
+        rows: list[Json] = []
+        submission, size, left = None, 0, MOST_COMMAND_BYTES
+        async for some in in_turns(tasks):
+            for task in some:
+                if task.submission is not submission:
+                    submission = task.submission
+                    size = len(json.dumps(submission.spec.command))
+                left -= size
+                if left < 0:
+                    return rows
+                rows.append(self._lists.row(task))
+        return rows
 
     async def _ps(self, caller: Caller, given: Json) -> Any:
         Fields(given, ["ask"])
