@@ -2,6 +2,7 @@
 
 from __future__ import annotations
 
+import asyncio
 import os
 import pty
 import socket
@@ -17,6 +18,7 @@ from typing import Any
 
 from firmd_kit import memory_kilobytes
 from harness.checks import Skipped, require
+from firm_service.queue.shares import BOUNDS, Share, Shares
 from queue_kit import ANN, BOB, FOREVER, Case, Disk, Json, Setup, as_user, claim_place
 
 HELD: Json = {"ask": "submit", "command": FOREVER, "dir": "/tmp", "hold": True}
@@ -135,6 +137,28 @@ def repeated_command(setup: Setup) -> None:
         grown = memory(case) - before
         require(grown < 80_000, f"the queue has grown by {grown:,} kB")
         require(len(client.ask("tasks", tasks=["2"])) == 1, "the other submission is shown alone")
+
+
+def answers_alone(setup: Setup) -> None:
+    """However many connections a user has, and however often they ask, one long answer is made at a time."""
+
+    async def most_at_once() -> int:
+        shares, share = Shares(BOUNDS, lambda key: None), Share(b"ann", True)
+        running: list[int] = [0, 0]  # now, and at most
+
+        async def ask() -> None:
+            for _ in range(5):
+                async with shares.alone(share):
+                    running[0] += 1
+                    running[1] = max(running)
+                    await asyncio.sleep(0)
+                    running[0] -= 1
+
+        await asyncio.gather(*(ask() for _ in range(50)))
+        return running[1]
+
+    most = asyncio.run(most_at_once())
+    require(most == 1, f"{most} at a time")
 
 
 def names_of_the_past(setup: Setup) -> None:
@@ -382,6 +406,7 @@ CHECKS: tuple[Callable[[Setup], None], ...] = (
         words,
         budget,
         repeated_command,
+        answers_alone,
         names_of_the_past,
         forgotten,
         terminals,

@@ -4,7 +4,7 @@ from __future__ import annotations
 
 import asyncio
 import time
-from collections import deque
+from collections import Counter, deque
 from collections.abc import AsyncIterator, Callable
 from contextlib import asynccontextmanager
 from dataclasses import dataclass
@@ -37,6 +37,7 @@ class Shares:
         self._at: float | None = None  # when the last turn began; None where nobody has one
         self._used = 0.0  # of a processor, by the loop's thread, until then
         self._locks: dict[bytes, asyncio.Lock] = {}
+        self._answers: Counter[bytes] = Counter()  # of a user, that hold its lock or wait for it
         self._freed = asyncio.Event()  # another one after each time that bytes are given back
 
     def add(self, share: Share, size: int) -> None:
@@ -66,13 +67,15 @@ class Shares:
     async def alone(self, share: Share) -> AsyncIterator[None]:
         """No other answer that takes some time is made for this user meanwhile."""
         lock = self._locks.setdefault(share.key, asyncio.Lock())
+        self._answers[share.key] += 1
         try:
             async with lock:
                 await self._room(share)
                 yield
         finally:
-            if not lock.locked() and self._locks.get(share.key) is lock:
-                del self._locks[share.key]
+            self._answers[share.key] -= 1
+            if not self._answers[share.key]:
+                del self._answers[share.key], self._locks[share.key]
 
     async def _room(self, share: Share) -> None:
         """Returns once the user has no more than half of what it may."""
