@@ -16,7 +16,7 @@ from .queue import reports
 from .queue.fields import Refused
 
 CURSOR = "told"  # a file with the history's name, and how many of its events are acknowledged
-MOST_AT_A_TIME, MOST_BYTES = 500, 1 << 22  # of events in a request
+MOST_AT_A_TIME, MOST_EVENT_BYTES = 500, 1 << 22  # of events in a request
 TOLD = ENDS | {"running"}
 
 
@@ -61,7 +61,7 @@ class Events:
         size = 0
         for _, event, _ in islice(self.untold, most):
             size += len(json.dumps(event))
-            if found and size > MOST_BYTES:
+            if found and size > MOST_EVENT_BYTES:
                 break
             found.append(event)
         return found
