@@ -98,7 +98,9 @@ OF_AN_ADMISSION = {b"+ admit b,6,20,5,0,0": 68}
 
 STREAMS = {
     "one round": Stream(b"alpha,9,24,100,1,2\n", for_tenant("alpha", SPREAD)),
-    "a round after a refused one": Stream(b"alpha,9,24,100,1,2\n", for_tenant("alpha", SPREAD + "; round; costs")),
+    "a round after a refused one": Stream(
+        b"alpha,9,24,100,1,2\n", for_tenant("alpha", SPREAD + "; round; costs"), requests={b"alpha round": 1}
+    ),
     "a drain": Stream(b"a,8,30,100,1,1\n", for_tenant("a", DRAIN)),
     "two tenants": Stream(b"alpha,9,24,100,1,2\nbeta,8,30,100,0,3\n", commands(TWO)),
     "many rows": Stream(b"a,300,4000,1000,1,1\n", for_tenant("a", MANY), is_long=True),

@@ -1,8 +1,9 @@
 """Cuts services off between two lines, and asks that they go on from their states as if nothing had happened.
 
 usage: tools/run tests/states.py [--quick] [--program FILE] [--state FILE] [--explain FILE] [WORD..]
-With words only the checks whose names have one of them. Each check has a line; the exit status is 1 where one failed.
-Without --quick random streams are 10,000, in some fifteen minutes. It needs a C compiler for refuse.c.
+It also plays the services of state_services.py to their states, and asks for the faults of state_texts.py. With words
+only the checks whose names have one of them. Each check has a line; the exit status is 1 where one failed. Without
+--quick random streams are 10,000, in some fifteen minutes. It needs a C compiler for refuse.c.
 """
 
 from __future__ import annotations
@@ -20,13 +21,17 @@ from random import Random
 from typing import Iterator, NamedTuple, Sequence
 
 import faults
+import worked
 from harness import kinds, program
 from harness.checks import Check, Missed, Suite, require, run_script, run_suites
 from harness.small_streams import random_stream, with_noise
+from state_services import SERVED
+from state_texts import STATE, TEXTS, StateFault
 
-STATE = program.built("firm_state")
+FIRM_STATE = program.built("firm_state")
 WORKERS = ("1", "2", "8")
 MOST_PLACES = 64
+CUT_AT_EACH_LINE = ("evicted_as_others_come_and_go", "comes_back_between_rounds")  # by quick runs, of tests/services
 FAULT = re.compile(rb"firm_state: state fault (\d+) ([a-z-]+) in line (\d+)\n")
 NAMES = {
     1: "version",
@@ -62,13 +67,6 @@ class Cut(NamedTuple):
     more: bytes
 
 
-class StateFault(NamedTuple):
-    """The first fault of a state: its number, and that of its line."""
-
-    number: int
-    line: int
-
-
 class Folder:
     """A folder for a check's files, for as long as the `with` block lasts."""
 
@@ -94,18 +92,17 @@ def output_of(words: Sequence[str], text: bytes) -> bytes:
     return done.output
 
 
-def cuts_of(draw: Random, roster: bytes, text: bytes) -> Cut:
-    """A cut of the stream before any of its lines, the first among them, or behind the last."""
+def cuts_of(roster: bytes, text: bytes) -> list[Cut]:
+    """The cuts of a stream before each of its lines, the first among them, and behind the last if it has an end."""
     ends = [0] + [place + 1 for place, byte in enumerate(text) if byte == ord("\n")]
-    place = draw.choice(ends)
-    return Cut(roster, text[:place], text[place:])
+    return [Cut(roster, text[:place], text[place:]) for place in ends]
 
 
 def state_after(options: Options, words: list[str], lines: bytes) -> bytes:
     return output_of([options.state, *words], lines)
 
 
-def goes_on(options: Options, cut: Cut, workers: Sequence[str], is_explained: bool) -> None:
+def goes_on(options: Options, cut: Cut, workers: Sequence[str]) -> None:
     """The replies from the state are the rest of those of the whole, and so are the reasons of the rounds."""
     with Folder() as folder:
         roster = ["--roster", folder.file("roster.csv", cut.roster)]
@@ -117,25 +114,28 @@ def goes_on(options: Options, cut: Cut, workers: Sequence[str], is_explained: bo
         for count in workers:
             rest = output_of([options.firm, *state, "--workers", count], cut.more)
             require(first + rest == whole, f"{count} workers: other replies from the state")
+        rest = output_of([*program.measuring(options.explain), *state], cut.more)
+        require(first + rest == whole, "one thread: other replies from the state")
         last = state_after(options, state, cut.more)
         require(last == state_after(options, roster, cut.lines + cut.more), "another state in the end")
-        if is_explained:
-            before = output_of([options.explain, *roster], cut.lines)
-            behind = output_of([options.explain, *state], cut.more)
-            require(before + behind == output_of([options.explain, *roster], cut.lines + cut.more), "other reasons")
+        before = output_of([options.explain, *roster], cut.lines)
+        behind = output_of([options.explain, *state], cut.more)
+        require(before + behind == output_of([options.explain, *roster], cut.lines + cut.more), "other reasons")
+        require(first + worked.without_reasons(behind) == whole, "other replies beside reasons")
+        require(behind.count(b"\n# least: ") == behind.count(b" ok round "), "a round without reasons")
 
 
 def random_cut(seed: int) -> Cut:
     draw = Random(seed)
     roster, text = random_stream(draw)
-    return cuts_of(draw, roster, with_noise(draw, text) if seed % 5 == 0 else text)
+    return draw.choice(cuts_of(roster, with_noise(draw, text) if seed % 5 == 0 else text))
 
 
 def random_streams(options: Options, count: int) -> None:
     """Random streams of tenants that come and go, with bad lines, each cut at a random line."""
     for seed in range(count):
         try:
-            goes_on(options, random_cut(seed), WORKERS, is_explained=True)
+            goes_on(options, random_cut(seed), WORKERS)
         except Missed as missed:
             raise Missed(f"seed {seed}: {missed}") from None
 
@@ -152,7 +152,18 @@ def kind_goes_on(options: Options, kind: str) -> None:
     roster, parts = lines_of_kind(kind, *((60, 20) if options.quick else (600, 200)))
     for count in range(len(parts) + 1):
         cut = Cut(roster, b"".join(parts[:count]), b"".join(parts[count:]))
-        goes_on(options, cut, WORKERS[1:2] if options.quick else WORKERS, is_explained=True)
+        goes_on(options, cut, WORKERS[1:2] if options.quick else WORKERS)
+
+
+def cut_at_each_line(options: Options, names: Sequence[str]) -> None:
+    """Services of tests/services that are cut before each of their lines; the last line has no end."""
+    for name in names:
+        service = worked.read_service(worked.SERVICES / f"{name}.txt")
+        for cut in cuts_of(service.roster, service.text().removesuffix(b"\n")):
+            try:
+                goes_on(options, cut, WORKERS)
+            except Missed as missed:
+                raise Missed(f"{name}, before {cut.more.splitlines()[0]!r}: {missed}") from None
 
 
 def replies_of(output: bytes, name: bytes) -> bytes:
@@ -282,32 +293,15 @@ FAULTY = [
     (b"", StateFault(1, 1)),
     (b"\n", StateFault(1, 1)),
     (b"tenant,nodes,arcs,life,spread,churn\na,2,0,1,0,0\n", StateFault(1, 1)),
-    (changed(b"state 1", b"state 2"), StateFault(1, 1)),
     (b"firm state 1", StateFault(13, 2)),
     (b"firm state 1\n", StateFault(13, 2)),
     (b"firm state 1\nrows 0", StateFault(13, 2)),
     (b"firm state 1\nrows 1\n", StateFault(13, 2)),
-    (WORKED[:-1], StateFault(13, 10)),
-    (WORKED + b"\n", StateFault(13, 11)),
     (WORKED + WORKED, StateFault(13, 11)),
-    (changed(b"rows 8", b"rows 7"), StateFault(13, 10)),
     (changed(b"rows 8", b"rows 08"), StateFault(2, 10)),
-    (changed(b"admissions 2\n", b"admissions 2 \n"), StateFault(2, 9)),
     (changed(b"job web 10", b"job  web 10"), StateFault(3, 6)),
     (changed(b"job web 10", b"Job web 10"), StateFault(2, 6)),
-    (changed(b"costs 0 13\n", b""), StateFault(2, 4)),
-    (changed(b"costs 0 13", b"costs 0 13\ncosts"), StateFault(2, 5)),
     (with_rows([*ROWS[:3], ROWS[4], ROWS[3], *ROWS[5:]]), StateFault(2, 6)),
-    (with_rows(ROWS[1:]), StateFault(2, 2)),
-    (changed(b"tenant alpha", b"tenant Alpha"), StateFault(3, 3)),
-    (changed(b"machine m1", b"machine M1"), StateFault(3, 5)),
-    (changed(b"nodes 9", b"nodes 1"), StateFault(4, 3)),
-    (changed(b"machine m1 2", b"machine m1 65"), StateFault(4, 5)),
-    (changed(b"waits 1", b"waits 1000001"), StateFault(4, 8)),
-    (changed(b"remote 0", b"remote 0 patience 0"), StateFault(4, 8)),
-    (changed(b"remote 0", b"remote 0 patience 1000001"), StateFault(4, 3)),
-    (changed(b"remote 0", b"remote 0 patience 1000000"), StateFault(2, 3)),
-    (changed(b"costs 0 13", b"costs 0 12288000001"), StateFault(4, 4)),
     (changed(b"admissions 2", b"admissions 32769"), StateFault(4, 9)),
     (with_rows([*ROWS[:7], b"place admissions 1", *ROWS[1:3]]), StateFault(5, 10)),
     (changed(b"job web 10", b"job web 10\njob web 10"), StateFault(5, 7)),
@@ -331,17 +325,15 @@ FAULTY = [
     (FAR.replace(b"waits 1", b"waits 1 prefers m1"), StateFault(16, 10)),
     (with_rows([*ROWS[:7], b"place admissions 0"]), StateFault(4, 9)),
     (changed(b"admissions 1", b"admissions 0"), StateFault(4, 2)),
-    (with_rows([]), StateFault(12, 2)),
-    (with_rows([b"place admissions 1"] * (MOST_PLACES + 1)), StateFault(12, MOST_PLACES + 2)),
 ]
 
 
-def fault_of(options: Options, text: bytes) -> StateFault | None:
-    """The fault of a text as all three programs tell it, or None where it is a state, which is written as it stands."""
+def fault_of(options: Options, text: bytes, by_firm_state_alone: bool = False) -> StateFault | None:
+    """The fault of a text as the programs tell it, or None where it is a state, which is written as it stands."""
     with Folder() as folder:
         path = folder.file("state", text)
         told = program.run_words([options.state, "--state", path], b"")
-        for name in (options.firm, options.explain):
+        for name in () if by_firm_state_alone else (options.firm, options.explain):
             served = program.run_words([name, "--state", path], b"")
             require(served.status == told.status and not served.output, f"{name}: {served}")
             behind = served.faults.partition(b": ")[2] == told.faults.partition(b": ")[2]
@@ -358,12 +350,34 @@ def fault_of(options: Options, text: bytes) -> StateFault | None:
 
 def hostile_states(options: Options) -> None:
     """Each fault has its number, its name and its line, and nothing is served."""
-    for text in (WORKED, LONG_WAIT, CROWD, LIGHT.replace(b"spread 4", b"spread 3"), HEAVY, FAR):
-        require(fault_of(options, text) is None, f"{text!r} is no state")
-    for text, fault in FAULTY:
+    states = (WORKED, LONG_WAIT, CROWD, LIGHT.replace(b"spread 4", b"spread 3"), HEAVY, FAR)
+    texts = [*TEXTS, *FAULTY, *((state, None) for state in states)]
+    for text, fault in texts:
         found = fault_of(options, text)
         require(found == fault, f"{text!r}: {found}, and not {fault}")
-    require({fault.number for _, fault in FAULTY} == set(NAMES), "a fault that no text has")
+        if fault is None:
+            is_cut_to_all(options, text)
+    require({fault.number for _, fault in texts if fault} == set(NAMES), "a fault that no text has")
+
+
+def is_cut_to_all(options: Options, state: bytes) -> None:
+    """A state that is cut to all of its tenants stays as it is."""
+    names = tenants_in(state)
+    if names:
+        with Folder() as folder:
+            require(part_of(options, folder.file("state", state), names) == state, f"{state!r} is cut")
+
+
+def served_states(options: Options) -> None:
+    """Services write the replies of the table, and leave its states, which are read and written as they stand."""
+    for name, served in SERVED.items():
+        with Folder() as folder:
+            opening = "--state" if served.opening.startswith(b"firm state") else "--roster"
+            words = [opening, folder.file("opening", served.opening)]
+            written, state = output_of([options.firm, *words], served.lines), state_after(options, words, served.lines)
+        require(written == served.replies, f"{name}: {written[-400:]!r}")
+        require(state == served.state, f"{name}: {state!r}")
+        require(fault_of(options, state) is None, f"{name}: it leaves no state")
 
 
 class Given(NamedTuple):
@@ -406,11 +420,13 @@ def reached_places(options: Options, most: int) -> None:
 
 
 def cut_states(options: Options, count: int) -> None:
-    """A state cut at any byte is a fault of the line there."""
-    places = range(len(WORKED)) if not options.quick else Random(1).sample(range(len(WORKED)), count)
-    for place in places:
-        found = fault_of(options, WORKED[:place])
-        require(found is not None and found.line >= min(2, 1 + WORKED[:place].count(b"\n")), f"{place}: {found}")
+    """A state cut at any byte behind its version lacks its last row, in the line behind those that are whole."""
+    told_alike = Random(1).sample(range(len(STATE)), count) if options.quick else range(len(STATE))
+    for place in range(len(STATE)):
+        front = STATE[:place]
+        wanted = StateFault(13, 1 + max(1, front.count(b"\n"))) if b"firm state 1" in front else StateFault(1, 1)
+        found = fault_of(options, front, by_firm_state_alone=place not in told_alike)
+        require(found == wanted, f"{place}: {found}, and not {wanted}")
 
 
 def changed_states(options: Options, count: int) -> None:
@@ -444,6 +460,7 @@ def joins_are_refused(options: Options) -> None:
         (WORKED, ["--merge", "worked"], b"tenant fault 25 tenant-exists of alpha"),
         (full, ["--merge", "worked"], b"tenant fault 27 operator-full of alpha"),
         (WORKED, ["--tenant", "alpha", "beta"], b"tenant fault 26 no-such-tenant of beta"),
+        (with_rows([b"place admissions 1"]), ["--tenant", "alpha"], b"tenant fault 26 no-such-tenant of alpha"),
         (WORKED, ["--merge", "none"], b"cannot read state"),
         (WORKED, ["--merge", "faulty"], b"state fault 13 rows in line 10"),
     ]
@@ -495,12 +512,13 @@ def statuses(options: Options) -> None:
 
 
 def devices(options: Options, state: str) -> None:
-    """A read that fails, and a write."""
+    """A read that fails, an input without an end, and a write that fails."""
     words = [options.state, "--state", state]
-    folder = os.open("/", os.O_RDONLY)
-    read = subprocess.run(words, stdin=folder, capture_output=True)
-    os.close(folder)
-    require((read.returncode, read.stdout, read.stderr) == (4, b"", b"firm_state: read\n"), read)
+    for path, fault in (("/", b"read"), ("/dev/zero", b"input too long")):
+        given = os.open(path, os.O_RDONLY)
+        read = subprocess.run(words, stdin=given, capture_output=True)
+        os.close(given)
+        require((read.returncode, read.stdout, read.stderr) == (4, b"", b"firm_state: " + fault + b"\n"), read)
     with open("/dev/full", "wb") as full:
         failed = subprocess.run(words, stdin=subprocess.DEVNULL, stdout=full, stderr=subprocess.PIPE)
     require((failed.returncode, failed.stderr) == (5, b"firm_state: write\n"), failed)
@@ -512,17 +530,18 @@ def refused_memory(options: Options, step: int) -> None:
     text = b"".join(line + b"\n" for line in lines)
     with Folder() as folder:
         roster = folder.file("roster.csv", b"tenant,nodes,arcs,life,spread,churn\na,60,400,100,3,5\nb,9,9,9,0,0\n")
-        words = ["--roster", roster, "--merge", folder.file("worked", WORKED), "--tenant", "a", "alpha"]
-        whole = state_after(options, words, text)
+        joined = ["--roster", roster, "--merge", folder.file("worked", WORKED), "--tenant", "a", "alpha"]
         runs = faults.Runs(faults.Options(options.state, "", "", None, 0), folder.folder.name)
-        requests, ends = runs.run_words(words, text)[1].memory, Counter[int]()
-        for number in range(1, requests + 1, step):
-            done, _ = runs.run_words(words, text, refuse_memory=number)
-            wanted = (6, b"", b"firm_state: memory\n") if done.status else (0, whole, b"")
-            require(done == wanted, f"request {number}: {done}")
-            ends[done.status] += 1
-    print(f"{requests} requests: {dict(ends)}", flush=True)
-    require(ends[6] > 10, ends)
+        for words, given in ((joined, text), (["--state", folder.file("state", SERVED["two rounds"].state)], b"")):
+            whole = state_after(options, words, given)
+            requests, ends = runs.run_words(words, given)[1].memory, Counter[int]()
+            for number in range(1, requests + 1, step):
+                done, _ = runs.run_words(words, given, refuse_memory=number)
+                wanted = (6, b"", b"firm_state: memory\n") if done.status else (0, whole, b"")
+                require(done == wanted, f"{words[0]}, request {number}: {done}")
+                ends[done.status] += 1
+            print(f"{words[0]}: {requests} requests: {dict(ends)}", flush=True)
+            require(ends[6] > 10, ends)
 
 
 def checks(options: Options) -> dict[str, Check]:
@@ -531,6 +550,8 @@ def checks(options: Options) -> dict[str, Check]:
     return {
         "statuses": partial(statuses, options),
         "hostile states": partial(hostile_states, options),
+        "served states": partial(served_states, options),
+        "each line": partial(cut_at_each_line, options, [*services_of(quick)]),
         "reached places": partial(reached_places, options, 2 if quick else 3),
         "cut states": partial(cut_states, options, 20),
         "changed states": partial(changed_states, options, 40 if quick else 2000),
@@ -542,6 +563,10 @@ def checks(options: Options) -> dict[str, Check]:
     }
 
 
+def services_of(quick: bool) -> Iterator[str]:
+    yield from CUT_AT_EACH_LINE if quick else sorted(path.stem for path in worked.SERVICES.glob("*.txt"))
+
+
 def kinds_of(quick: bool) -> Iterator[str]:
     yield from ("steady", "overload", "local") if quick else kinds.KINDS
 
@@ -551,7 +576,7 @@ def main() -> int:
     parser.add_argument("words", nargs="*", metavar="WORD", help="only checks whose names have one of these words")
     parser.add_argument("--quick", action="store_true", help="few and small streams, in some seconds")
     program.add_program(parser)
-    parser.add_argument("--state", type=program.program_file, default=str(STATE), metavar="FILE")
+    parser.add_argument("--state", type=program.program_file, default=str(FIRM_STATE), metavar="FILE")
     parser.add_argument("--explain", type=program.program_file, default=str(program.EXPLAIN), metavar="FILE")
     given = parser.parse_args()
     options = Options(given.quick, given.program, given.state, given.explain)

@@ -13,14 +13,18 @@ import subprocess
 import tempfile
 from functools import partial
 from pathlib import Path
-from typing import NamedTuple, Sequence
+from typing import Iterator, NamedTuple, Sequence
 
 from harness import program
 from harness.checks import Check, Suite, require, run_script, run_suites
 from harness.program import Run
 
 HEADING = b"tenant,nodes,arcs,life,spread,churn\n"
+HEADING_OF_SEVEN = HEADING.replace(b"\n", b",remote\n")
+HEADING_OF_EIGHT = HEADING_OF_SEVEN.replace(b"\n", b",patience\n")
 ROW = b"a,2,0,1,0,0\n"
+ROSTER_OF_64 = HEADING + b"".join(b"t%d,2,%d,1,0,0\n" % (number, number) for number in range(64))
+GREATEST = HEADING + b"a,4096,65536,1099511627776,1000,1000000\n"
 MOST_ROSTER = 65_536
 LIMIT_SECONDS = 60
 SHOWN = b"a 1 ok machines 0 jobs 0 tasks 0 running 0 nodes 2 of 2 arcs 0 of 0\n"
@@ -111,25 +115,80 @@ NOT_ONE: dict[str, list[list[str]]] = {
 }
 
 
-class FaultyRoster(NamedTuple):
-    """The text of a roster, and the fault that it has."""
-
-    text: bytes
-    fault: str
-
-
-FAULTY_ROSTERS = [
-    FaultyRoster(b"", "1 header"),
-    FaultyRoster(b"tenant,nodes,arcs,life,spread\n", "1 header"),
-    FaultyRoster(HEADING + b"a,2,0,1,0\n", "2 row"),
-    FaultyRoster(HEADING + ROW + b"\n" * (MOST_ROSTER + 1 - len(HEADING + ROW)), "2 row"),
-    FaultyRoster(HEADING + b"A,2,0,1,0,0\n", "3 name"),
-    FaultyRoster(HEADING + b"a,1,0,1,0,0\n", "4 number"),
-    FaultyRoster(HEADING + b"a,2,0,00000000000001,0,0\n", "4 number"),
-    FaultyRoster(HEADING + ROW + ROW, "5 repeated-name"),
-    FaultyRoster(HEADING, "6 count"),
-    FaultyRoster(HEADING + b"".join(b"t%d,2,0,1,0,0\n" % number for number in range(65)), "6 count"),
-]
+# What stands at the beginning of a roster, and by their first fault what may follow.
+FAULTY_ROSTERS: dict[bytes, dict[str, list[bytes]]] = {
+    b"": {
+        "1 header": [
+            b"",
+            b"\n\n",
+            b"a,2,0,1,0,0\n",
+            b"tenant,nodes,arcs,life,spread\n",
+            b"tenant,nodes,arcs,life,spread,churn,remotes\n",
+            b"tenant,nodes,arcs,life,spread,remote\n",
+            b"tenant,nodes,arcs,life,spread,churn,remote,remote\n",
+            b"tenant,nodes,arcs,life,spread,churn,patience\n",
+            b"tenant,nodes,arcs,life,spread,churn,patience,remote\n",
+            b"tenant,nodes,arcs,life,spread,churn,remote,patience,patience\n",
+            b"tenant,arcs,nodes,life,spread,churn\n",
+            b"Tenant,nodes,arcs,life,spread,churn\n",
+            b"tenant, nodes,arcs,life,spread,churn\n",
+            b"tenants,nodes,arcs,life,spread,churn\nA,1,0\n",
+        ],
+        "2 row": [b"x" * (MOST_ROSTER + 1), GREATEST.ljust(MOST_ROSTER + 1, b"\n")],
+    },
+    HEADING: {
+        "2 row": [
+            b"a,2,0,1,0\n",
+            b"A,1,0,1,0\n",
+            b"a,2,0,1,0,0,0\n",
+            b"a\n",
+            ROW + b"a,2,0,1,0\n",
+            ROW + b"B,1\n",
+        ],
+        "3 name": [
+            b"A,2,0,1,0,0\n",
+            b"A,1,0,1,0,0\n",
+            b'" a",2,0,1,0,0\n',
+            b'"a""b",2,0,1,0,0\n',
+            b"abcdefghijklmnopq,2,0,1,0,0\n",
+            b",2,0,1,0,0\n",
+            ROW + b"B,1,0,1,0,0\n",
+            b"A,2,0,1,0,0\nb,2,0,1,0,0\n",
+        ],
+        "4 number": [
+            b"a,1,0,1,0,0\n",
+            b"a,4097,0,1,0,0\n",
+            b"a,2,65537,1,0,0\n",
+            b"a,2,0,0,0,0\n",
+            b"a,2,0,1099511627777,0,0\n",
+            b"a,2,0,1,1001,0\n",
+            b"a,2,0,1,0,1000001\n",
+            b"a,2,0,1,0,\n",
+            b"a,2,0,1,0,-1\n",
+            b"a,2,0,1,0, 0\n",
+            b"a,00000000000002,0,1,0,0\n",
+            b"a,2,0,00000000000001,0,0\n",
+            ROW + b"a,1,0,1,0,0\n",
+        ],
+        "5 repeated-name": [ROW + ROW, ROW + b"b,2,0,1,0,0\na,3,1,9,1,1\n"],
+        "6 count": [b"", b"\n\r\n"],
+    },
+    HEADING_OF_SEVEN: {
+        "2 row": [ROW, b"A,1,0,1,0,0\n", b"a,2,0,1,0,0,0,0\n"],
+        "3 name": [b"A,2,0,1,0,0,1000001\n"],
+        "4 number": [b"a,2,0,1,0,0,1000001\n", b"a,2,0,1,0,0,\n"],
+        "5 repeated-name": [b"a,2,0,1,0,0,0\na,2,0,1,0,0,1\n"],
+        "6 count": [b""],
+    },
+    HEADING_OF_EIGHT: {
+        "2 row": [b"a,2,0,1,0,0,0\n", b"A,1,0,1,0,0,0\n", b"a,2,0,1,0,0,0,0,0\n"],
+        "3 name": [b"A,2,0,1,0,0,0,1000001\n"],
+        "4 number": [b"a,2,0,1,0,0,0,1000001\n", b"a,2,0,1,0,0,0,\n"],
+        "5 repeated-name": [b"a,2,0,1,0,0,0,0\na,2,0,1,0,0,0,1\n"],
+        "6 count": [b""],
+    },
+    ROSTER_OF_64: {"6 count": [b"z,2,0,1,0,0\n", b"t0,2,0,1,0,0\n", b"Z,1,0,1,0,0\n", b"z,2,0\n"]},
+}
 
 
 # A state that opens as a roster of one tenant does, and one behind a command and a retirement.
@@ -175,10 +234,33 @@ class Served(NamedTuple):
     output: bytes
 
 
+def filled(machines: int, slots: int, exchanges: Sequence[tuple[bytes, bytes]]) -> Served:
+    """A tenant of the largest arena that adds machines of so many slots, and then gives these commands."""
+    asked = [(b"machine m%d %d" % (number, slots), b"ok") for number in range(machines)] + [*exchanges]
+    return Served(
+        HEADING + b"a,4096,65536,10000,0,0\n",
+        b"".join(b"a %b\n" % command for command, _ in asked),
+        b"".join(b"a %d %b\n" % (number, reply) for number, (_, reply) in enumerate(asked, 1)),
+    )
+
+
+EVERY_NODE = [
+    (b"job j 1", b"no 12 arena-nodes"),
+    (b"show", b"ok machines 4094 jobs 0 tasks 0 running 0 nodes 4096 of 4096 arcs 8188 of 65536"),
+]
+EVERY_ARC = [
+    (b"job j 1", b"ok"),
+    *((b"task j %c" % name, b"ok") for name in b"abcde"),
+    (b"job k 1", b"no 13 arena-arcs"),
+    (b"show", b"ok machines 1008 jobs 1 tasks 5 running 0 nodes 1016 of 4096 arcs 65536 of 65536"),
+]
+
 SERVED = [
     Served(HEADING + ROW, b"", b""),
     Served(HEADING + ROW, b"a show\n", SHOWN),
-    Served(HEADING + ROW + b"\n" * (MOST_ROSTER - len(HEADING + ROW)), b"a show", SHOWN),
+    Served(GREATEST.ljust(MOST_ROSTER, b"\n"), b"a show", SHOWN.replace(b"2 arcs 0 of 0", b"4096 arcs 0 of 65536")),
+    filled(4094, 1, EVERY_NODE),
+    filled(1008, 64, EVERY_ARC),
     Served(
         HEADING + b"a,2,0,1000000,0,0\n",
         b"a fly\n" * 200_000,
@@ -247,13 +329,20 @@ def faults_that_nobody_reads(built: str, folder: Path) -> None:
             require(done.returncode == status, f"{words}: closed")
 
 
+def faulty_rosters() -> Iterator[tuple[bytes, str]]:
+    """The text of each faulty roster, and its first fault."""
+    for front, faulty in FAULTY_ROSTERS.items():
+        for fault, ends in faulty.items():
+            yield from ((front + end, fault) for end in ends)
+
+
 def rosters(built: str, folder: Path) -> None:
     """A faulty roster gives status 3, and nothing is read or written; others are served, even the longest."""
     path = folder / "roster.csv"
-    for text, fault in FAULTY_ROSTERS:
+    for text, fault in faulty_rosters():
         path.write_bytes(text)
         found = run(built, ["--roster", str(path)], b"a show\n")
-        require(found == (3, b"", f"firm: roster fault {fault}\n".encode()), f"{text[-40:]!r}: {found}")
+        require(found == (3, b"", f"firm: roster fault {fault}\n".encode()), f"{text[-60:]!r}: {found}")
     for text, commands, output in SERVED:
         path.write_bytes(text)
         for words in (["--roster", str(path)], [f"--roster={path}", "--workers=8", "--"]):

@@ -50,6 +50,17 @@ class Worked(NamedTuple):
         return b"".join(exchange.answer for exchange in self.exchanges)
 
 
+LINES_OF_NO_TENANT = [
+    *(Exchange(line + b"\n", b"") for line in (b"", b" ", b"\t \t", b" " * 256, b"#", b"# a show", b"#\xff\0")),
+    *(Exchange(line + b"\n", b"! line-too-long\n") for line in (b" " * 257, b"A".ljust(257))),
+    *(
+        Exchange(line + b"\n", b"! unknown-tenant\n")
+        for line in (b" # a", b"A show", b"\xff", b"\0", b"a\0 show", b"a_b", b"a\r\r", b"abcdefghijklmnopq show")
+    ),
+    Exchange(b"a costs\n", b"a 1 ok costs\n"),
+    Exchange(b"abcdefghijklmnop costs\n", b"abcdefghijklmnop 1 ok costs\n"),
+]
+
 LINES_OF_EACH_FORM = [
     Exchange(b"a fly\n", b"a 1 no 2 bad-command\n"),
     Exchange(b"a machine M1 2\n", b"a 2 no 3 bad-name\n"),
@@ -86,6 +97,9 @@ NAMES_AND_NUMBERS_AT_THEIR_EDGES = [
     Exchange(b"A show\n", b"! unknown-tenant\n"),
     Exchange(b"a show\r\r\n", b"a 11 no 2 bad-command\n"),
     Exchange(b"a machine m\0 1\n", b"a 12 no 3 bad-name\n"),
+    Exchange(b"a show \0\n", b"a 13 no 2 bad-command\n"),
+    Exchange(b"a task j t a b c \xff\n", b"a 14 no 3 bad-name\n"),
+    Exchange(b"a done \xff\n", b"a 15 no 3 bad-name\n"),
 ]
 
 OPERATORS_LINES_OF_EACH_FORM = [
@@ -99,8 +113,19 @@ OPERATORS_LINES_OF_EACH_FORM = [
     Exchange(b"+ retire \xff\n", b"+ no 23 operator-name\n"),
     Exchange(b"a + retire b\n", b"a 1 no 2 bad-command\n"),
     Exchange(b"+ admit c, 2,0,5,0,0\n", b"+ no 21 operator-command\n"),
+    Exchange(b" + \t\n", b"+ no 21 operator-command\n"),
+    Exchange(b"+ \xff\n", b"+ no 21 operator-command\n"),
+    Exchange(b"\xff+ retire b\n", b"! unknown-tenant\n"),
+    Exchange(b"+ retire b\r\r\n", b"+ no 23 operator-name\n"),
+    Exchange(b"+ retire b".ljust(257) + b"\n", b"! line-too-long\n"),
     Exchange(b" + retire b\n", b"+ ok retired b\n"),
     Exchange(b"b show\n", b"! unknown-tenant\n"),
+    Exchange(b"+ admit b,2,0,5,0,0\n", b"+ ok admitted b\n"),
+    Exchange(b" +\tretire  b\t\n", b"+ ok retired b\n"),
+    Exchange(b"+ admit b,2,0,5,0,0\n", b"+ ok admitted b\n"),
+    Exchange(b"+ retire b".ljust(256) + b"\r\n", b"+ ok retired b\n"),
+    Exchange(b"+ admit abcdefghijklmnop,2,0,5,0,0\n", b"+ ok admitted abcdefghijklmnop\n"),
+    Exchange(b"+ retire abcdefghijklmnop\n", b"+ ok retired abcdefghijklmnop\n"),
 ]
 
 ONCE_64_ARE_THERE = [
@@ -159,6 +184,7 @@ def services() -> list[Worked]:
         raise CannotRun(f"there is no text in {SERVICES}")
     return [
         *texts,
+        Worked("lines of no tenant", HEADING + b"a,2,0,1,0,0\nabcdefghijklmnop,2,0,1,0,0\n", LINES_OF_NO_TENANT),
         Worked("lines of each form", HEADING + b"a,8,30,100,0,0\n", LINES_OF_EACH_FORM),
         Worked("names and numbers at their edges", HEADING + b"a,3,3,100,0,0\n", NAMES_AND_NUMBERS_AT_THEIR_EDGES),
         Worked("the operator's lines of each form", HEADING + b"a,8,30,100,0,0\n", OPERATORS_LINES_OF_EACH_FORM),
