@@ -32,7 +32,7 @@ from typing import NamedTuple
 
 from harness.program import ROOT
 
-CRATES = ("test_rounds", "test_worker", "test_hall")
+CRATES = ("test_rounds", "test_hall")
 # What `rt try` says of a test that it ended at the limit of seconds.
 HANGS = "did not end within the time limit"
 CONTROL_SECONDS = 60
@@ -71,10 +71,10 @@ NO_LOOKS = [
 HAND_OVERS = "callers::rounds_of_four_callers_go_to_two_workers_and_come_back"
 COUNTS = [
     Count(
-        "test_worker",
+        "test_hall",
         HAND_OVERS,
         "1,000,000 rounds, handed over and back",
-        constant("test_worker/src/tests/callers.rt", "ROUNDS: u64", "250", "250_000"),
+        constant("test_hall/src/tests/callers.rt", "ROUNDS: u64", "250", "250_000"),
     ),
     Count(
         "test_rounds",
@@ -83,16 +83,16 @@ COUNTS = [
         constant("test_rounds/src/tests/queues.rt", "EACH: u64", "2_500", "250_000"),
     ),
     Count(
-        "test_worker",
+        "test_hall",
         "wakes::no_worker_sleeps_while_rounds_wait",
         "10,000 times two rounds in one go, one worker held",
-        constant("test_worker/src/tests/wakes.rt", "TURNS: u64", "1_000", "10_000"),
+        constant("test_hall/src/tests/wakes.rt", "TURNS: u64", "1_000", "10_000"),
     ),
     Count(
-        "test_worker",
+        "test_hall",
         "wakes::a_round_that_was_asked_before_the_hall_was_shut_is_solved",
         "10,000 halls shut behind a round",
-        constant("test_worker/src/tests/wakes.rt", "HALLS: u64", "2_000", "10_000"),
+        constant("test_hall/src/tests/wakes.rt", "HALLS: u64", "2_000", "10_000"),
     ),
     Count(
         "test_hall",
@@ -173,7 +173,7 @@ def hammer_crate(crate: str, seconds: int) -> bool:
 
 def is_found() -> bool:
     """Whether a test hangs where no worker is notified of a round that is put."""
-    ended = run_tests("test_worker", [*NO_LOOKS, NO_NOTIFICATION], CONTROL_SECONDS, HAND_OVERS)
+    ended = run_tests("test_hall", [*NO_LOOKS, NO_NOTIFICATION], CONTROL_SECONDS, HAND_OVERS)
     hangs = not ended.is_well and HANGS in ended.said
     verdict = "passed" if hangs else "FAILED"
     print(f"{verdict}   {HAND_OVERS} hangs without the notification of a put ({ended.seconds:.0f} s)")

@@ -11,6 +11,6 @@ mod rows;
 mod values;
 
 pub use crate::counts::{Count, LOOKS, rest_awhile};
-pub use crate::rosters::{EIGHT, HEADING, TWO, roster_of};
+pub use crate::rosters::{EIGHT, TWO, roster_of};
 pub use crate::rows::{NotAdded, with_job, with_machine, with_restored, with_task};
 pub use crate::values::{limits, patient, preferring};

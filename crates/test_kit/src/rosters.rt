@@ -4,7 +4,7 @@ use firm_text::{Roster, roster};
 use std::alloc::Global;
 
 /// A roster's first line where its records have six fields.
-pub const HEADING: &str = "tenant,nodes,arcs,life,spread,churn\n";
+const HEADING: &str = "tenant,nodes,arcs,life,spread,churn\n";
 
 /// The records of `alpha` and `beta`.
 pub const TWO: &str = "alpha,9,24,100,1,2\nbeta,8,30,100,0,3";

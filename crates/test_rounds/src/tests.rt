@@ -1,7 +1,11 @@
-//! The queue of rounds and the trays under a hall; the source that reads ahead.
+//! What reads, writes, cuts lines and gives places; the queue of rounds and the trays under a hall; the source that
+//! reads ahead.
 
+mod devices;
 mod inputs;
+mod pieces;
 mod queues;
+mod registers;
 mod trays;
 
 use std::process::Abort;

@@ -1,111 +1,18 @@
-//! Gates that hold rounds, sources that are ready late, and sinks that count lines or fail.
+//! Sources that are ready late or measure their reads, and sinks that count lines or fail.
 
 ghost use Rattle.std.specs.Prelude.{◌≡◌, ◌≤◌, length, false};
 
+use super::gates::HoldsUntilRead;
 use crossbeam_utils::sync::EventCount;
-use firm_hall::Gate;
-use firm_rules::Ticket;
 use firm_text::{Failed, Sink, Source};
 use std::alloc::Global;
-use std::hint::spin_loop;
-use std::sync::atomic::{AtomicU64, Ordering};
-use std::sync::{Arc, OnceLock};
-use std::thread;
-use test_kit::{Count, LOOKS, rest_awhile};
-
-/// Holds each round until eight have come.
-#[derive(Drop)]
-pub struct HoldsEight {
-    pub come: Count,
-}
-
-impl Gate for HoldsEight {
-    fn pass(&self, _ticket: Ticket) {
-        self.come.add_one();
-        self.come.wait_for(8);
-    }
-}
-
-/// Holds the first tenant's round for a while, with no yield, which takes a busy machine milliseconds.
-pub struct HoldsAWhile;
-
-impl Gate for HoldsAWhile {
-    fn pass(&self, ticket: Ticket) {
-        if ticket.place == 0 {
-            for _ in 0..2_000_000 {
-                spin_loop();
-            }
-        }
-    }
-}
-
-/// Holds the first tenant's round until `others` of the second's have come and the input was read on. Where no input is
-/// there meanwhile, it brings it once the service waits for it.
-#[derive(Drop)]
-pub struct HoldsUntilRead {
-    others: u64,
-    pub others_come: Count,
-    is_there: AtomicU64,
-    waker: OnceLock<Arc<EventCount, Global>>,
-    pub waits: Count,
-    pub read_on: Count,
-}
-
-impl Gate for HoldsUntilRead {
-    fn pass(&self, ticket: Ticket) {
-        if ticket.place == 0 {
-            self.bring();
-            self.others_come.wait_for(self.others);
-            self.read_on.wait_for(1);
-        } else if ticket.place == 1 {
-            self.others_come.add_one();
-        }
-    }
-}
-
-impl HoldsUntilRead {
-    pub fn new(others: u64, is_there: bool, looks: u32) -> HoldsUntilRead {
-        HoldsUntilRead {
-            others,
-            others_come: Count::new(LOOKS),
-            is_there: AtomicU64::new(is_there as u64),
-            waker: OnceLock::new(),
-            waits: Count::new(LOOKS),
-            read_on: Count::new(looks),
-        }
-    }
-
-    fn is_there(&self) -> bool {
-        self.is_there.load(Ordering::SeqCst) == 1
-    }
-
-    /// Keeps the waker of a service that begins to wait for the input.
-    fn begin_wait(&self, waker: &Arc<EventCount, Global>) {
-        if let Ok(waker) = Arc::try_clone(waker) {
-            let _ = self.waker.try_set(waker);
-            self.waits.add_one();
-        }
-    }
-
-    /// Brings the input, a while after the service began to wait for it.
-    fn bring(&self) {
-        if self.is_there() {
-            return;
-        }
-        self.waits.wait_for(1);
-        for _ in 0..1_000 {
-            thread::yield_now();
-        }
-        self.is_there.store(1, Ordering::SeqCst);
-        if let Some(waker) = self.waker.get() {
-            waker.notify_one();
-        }
-    }
-}
+use std::sync::Arc;
+use test_kit::Count;
 
 /// Copies the front of the piece, as far as the buffer has room, and gives the count.
 fn fill(buffer: &mut [u8], piece: &[u8]) -> usize
-    ensures { result ≤ length buffer.old }
+    ensures buffer { result ≤ length buffer.old }
+    ensures piece { result ≤ length piece.now }
 {
     let count = piece.len().min(buffer.len());
     buffer[..count].copy_from_slice(&piece[..count]);
@@ -146,19 +53,6 @@ impl Source for TwoPieces<'_> {
     }
 }
 
-/// Holds each round until the service announces a sleep, and for another while.
-#[derive(Drop)]
-pub struct HoldsUntilAsleep<'a> {
-    pub sleeps: &'a Count,
-}
-
-impl Gate for HoldsUntilAsleep<'_> {
-    fn pass(&self, ticket: Ticket) {
-        self.sleeps.wait_for(ticket.number);
-        rest_awhile(ticket.number);
-    }
-}
-
 /// Gives the same lines at each read, until they have asked for `answers` answers. It is ready once all lines given
 /// are answered: only the writer makes it so, and it notifies nobody.
 #[derive(Drop)]
@@ -189,6 +83,24 @@ impl Source for GivesAnswered<'_> {
             self.sleeps.add_one();
         }
         is_ready
+    }
+}
+
+/// A text, and the room of the largest buffer into which it was read.
+#[derive(Drop)]
+pub struct Measured<'a> {
+    pub text: &'a [u8],
+    pub largest: usize,
+}
+
+impl Source for Measured<'_> {
+    ghost read_failed = { λ _. false };
+
+    fn read(&mut self, buffer: &mut [u8]) -> Result<usize, Failed> {
+        self.largest = self.largest.max(buffer.len());
+        let count = fill(buffer, self.text);
+        self.text = &self.text[count..];
+        Ok(count)
     }
 }
 
@@ -235,20 +147,6 @@ impl Sink for CountsLines<'_> {
 
     fn flush(&mut self) -> Result<(), Failed> {
         Ok(())
-    }
-}
-
-/// Holds the second tenant's rounds until a line is written.
-#[derive(Drop)]
-pub struct HoldsSecond<'a> {
-    pub written: &'a Count,
-}
-
-impl Gate for HoldsSecond<'_> {
-    fn pass(&self, ticket: Ticket) {
-        if ticket.place == 1 {
-            self.written.wait_for(1);
-        }
     }
 }
 

@@ -2,13 +2,11 @@
 
 ghost use Rattle.std.specs.Prelude.{◌≡◌, ◌≤◌, false};
 
-use super::devices::{
-    CountsLines, Expects, GivesAnswered, HoldsAWhile, HoldsEight, HoldsSecond, HoldsUntilAsleep,
-    HoldsUntilRead, TwoPieces, Unflushed,
-};
-use super::{MOST, check};
+use super::check;
+use super::devices::{CountsLines, Expects, GivesAnswered, TwoPieces, Unflushed};
+use super::gates::{HoldsAWhile, HoldsEight, HoldsSecond, HoldsUntilAsleep, HoldsUntilRead};
 use firm_hall::{Gate, Open, serve};
-use firm_table::{ServeFault, serve_one};
+use firm_table::{MOST_INPUT, ServeFault, serve_one};
 use firm_text::{Bytes, Sink, Source};
 use std::alloc::Global;
 use std::process::Abort;
@@ -30,15 +28,18 @@ fn fault_of<
     let (records, workers) = service;
     let alloc = rt.alloc();
     let roster = roster_of(alloc, records).expect(rt, "a roster");
-    serve(rt, alloc, reader, writer, &roster, workers, gate, MOST).err()
+    serve(
+        rt, alloc, reader, writer, &roster, workers, gate, MOST_INPUT,
+    )
+    .err()
 }
 
-pub fn expect_fault(rt: &impl Abort, fault: Option<ServeFault>, wanted: Option<ServeFault>) {
+fn expect_fault(rt: &impl Abort, fault: Option<ServeFault>, wanted: Option<ServeFault>) {
     check(rt, fault == wanted, "the fault of the service");
 }
 
 /// Expects that the count is this, and that each thread saw the one that it waited for.
-fn expect_count(rt: &impl Abort, count: &Count, wanted: u64) {
+fn expect_reached(rt: &impl Abort, count: &Count, wanted: u64) {
     check(rt, count.reached() == wanted, "the count");
     check(rt, count.was_reached(), "what a thread waited for");
 }
@@ -85,7 +86,7 @@ fn eight_workers_hold_eight_rounds_at_once(rt: HostRuntime) {
     };
     let reader = &mut Bytes::new(ROUNDS);
     expect_answers(&rt, (EIGHT, 8), &gate, reader, ANSWERS);
-    expect_count(&rt, &gate.come, 8);
+    expect_reached(&rt, &gate.come, 8);
 }
 
 /// Twelve tenants of one command each, their rounds, and the answers to them.
@@ -165,10 +166,10 @@ fn expect_held<R: Alloc<A = Global> + Abort + Threads + Wait + Sync>(rt: &R, hel
     };
     let service = ("a,2,0,1,0,0\nb,2,0,2000,0,0", 2);
     expect_answers(rt, service, &gate, &mut reader, held.answers);
-    expect_reached(rt, &gate, held.reads_on);
+    expect_read_on(rt, &gate, held.reads_on);
 }
 
-fn expect_reached(rt: &impl Abort, gate: &HoldsUntilRead, reads_on: bool) {
+fn expect_read_on(rt: &impl Abort, gate: &HoldsUntilRead, reads_on: bool) {
     check(rt, gate.others_come.was_reached(), "the others come");
     check(rt, gate.waits.was_reached(), "the input is waited for");
     check(rt, gate.read_on.was_reached() == reads_on, "reading on");
@@ -296,7 +297,7 @@ pub fn expect_first_written<S: Source, R: Alloc<A = Global> + Abort + Threads + 
     let gate = HoldsSecond { written };
     let fault = fault_of(rt, service, &gate, reader, &mut CountsLines { written });
     expect_fault(rt, fault, None);
-    expect_count(rt, written, answers);
+    expect_reached(rt, written, answers);
 }
 
 #[test]
@@ -336,12 +337,12 @@ fn each_reply_is_written_before_the_next_line_comes(rt: HostRuntime) {
         &mut CountsLines { written },
     );
     expect_fault(&rt, fault, None);
-    expect_count(&rt, written, LINES_ASKED);
-    expect_count(&rt, sleeps, LINES_ASKED);
+    expect_reached(&rt, written, LINES_ASKED);
+    expect_reached(&rt, sleeps, LINES_ASKED);
 }
 
 /// The fault of a service on one thread for the tenants of these records, if it has one.
-pub fn fault_of_one<S: Source, W: Sink>(
+fn fault_of_one<S: Source, W: Sink>(
     rt: &impl Abort,
     alloc: Global,
     records: &str,
@@ -352,7 +353,7 @@ pub fn fault_of_one<S: Source, W: Sink>(
     requires writer { W.write_failed writer.old ≡ false }
 {
     let roster = roster_of(alloc, records).expect(rt, "a roster");
-    serve_one(alloc, reader, writer, &roster, MOST).err()
+    serve_one(alloc, reader, writer, &roster, MOST_INPUT).err()
 }
 
 // Standard output has no flush that can fail, so nothing outside shows it.
