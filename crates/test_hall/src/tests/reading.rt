@@ -1,29 +1,35 @@
-//! How much of its input a service reads at once.
+//! How much of its input a service on one thread reads, at once and in all.
+ghost use Rattle.std.specs.Prelude.{◌≤◌, ◌^◌};
+
 use super::check;
 use super::devices::Measured;
-use firm_table::serve_one;
-use firm_text::{Bytes, Roster};
+use firm_table::{ServeFault, serve_one};
+use firm_text::Bytes;
 use std::alloc::Global;
 use std::process::Abort;
 use test_kit::roster_of;
 
-fn expect_reads(rt: &impl Abort, alloc: Global, roster: &Roster) {
+/// Expects that a service ends so that may read this number of bytes, where 5,000 line feeds come.
+fn expect_end(rt: &impl Abort, alloc: Global, most: u64, wanted: Result<(), ServeFault>)
+    requires { (1 ≤ most) × (most ≤ 2 ^ 32) }
+{
+    let roster = roster_of(alloc, "a,2,0,1,0,0").expect(rt, "a roster");
     let mut reader = Measured {
         text: &[b'\n'; 5_000],
         largest: 0,
     };
     let mut writer = Bytes::new(Vec::new(alloc));
-    let ended = serve_one(alloc, &mut reader, &mut writer, roster, 5_000);
-    check(rt, ended == Ok(()), "5,000 lines are read");
-    check(
-        rt,
-        reader.largest == 4_096,
-        "the bytes that a read asks for",
-    );
+    let ended = serve_one(alloc, &mut reader, &mut writer, &roster, most);
+    check(rt, ended == wanted, "the end of the service");
+    check(rt, reader.largest == 4_096, "what a read asks for");
 }
 
 #[test]
 fn a_read_asks_for_4_096_bytes(rt: HostRuntime) {
-    let roster = roster_of(rt.alloc(), "a,2,0,1,0,0").expect(&rt, "a roster");
-    expect_reads(&rt, rt.alloc(), &roster);
+    expect_end(&rt, rt.alloc(), 5_000, Ok(()));
+}
+
+#[test]
+fn an_input_of_one_byte_more_is_too_long(rt: HostRuntime) {
+    expect_end(&rt, rt.alloc(), 4_999, Err(ServeFault::TooLong));
 }

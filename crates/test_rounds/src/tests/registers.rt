@@ -61,6 +61,8 @@ fn take(rt: &impl Abort, register: &mut Register, row: &Row) {
 /// The register of a roster of alpha and beta.
 fn two_tenants(rt: &impl Abort, alloc: Global) -> Register {
     let roster = roster_of(alloc, TWO).expect(rt, "a roster");
+    let beta = Name::read(b"beta").expect(rt, "a name");
+    check(rt, roster.place_of(beta) == Some(1), "beta's row");
     Register::of(&roster)
 }
 
