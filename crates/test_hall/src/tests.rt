@@ -3,6 +3,7 @@
 
 mod callers;
 mod closing;
+mod counts;
 mod devices;
 mod events;
 mod gates;
@@ -11,6 +12,7 @@ mod held;
 mod lives;
 mod neighbours;
 mod reading;
+mod rosters;
 mod scenes;
 mod services;
 mod solving;

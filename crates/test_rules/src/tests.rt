@@ -3,10 +3,12 @@
 //! Rows that a function owns end by a call of `drop`, so that the proof follows the drop of all they hold only once.
 ghost use Rattle.std.specs.Prelude.{IsTrue};
 
+mod additions;
 mod names;
 mod rents;
 mod rounds;
 mod rows;
+mod values;
 
 use firm_rules::Name;
 use std::process::Abort;

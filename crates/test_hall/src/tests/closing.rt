@@ -4,12 +4,12 @@ ghost use Rattle.std.specs.Prelude.{◌≡◌, ◌≤◌, All};
 
 use super::expect_count;
 use super::halls::{Over, expect_closes, expect_empty_desk_missed, expect_report_missed, opened};
+use super::rosters::TWO;
 use super::turns::last_pass;
 use firm_hall::{Hall, Open, Report, WorkerPass, worker};
 use std::alloc::Global;
 use std::process::Abort;
 use std::sync::Wait;
-use test_kit::TWO;
 
 /// What is missing at first where a hall is closed.
 #[derive(Clone, Copy)]

@@ -2,12 +2,12 @@
 
 ghost use Rattle.std.specs.Prelude.{◌≡◌, ◌≤◌, length, false};
 
+use super::counts::Count;
 use super::gates::HoldsUntilRead;
 use crossbeam_utils::sync::EventCount;
 use firm_text::{Failed, Sink, Source};
 use std::alloc::Global;
 use std::sync::Arc;
-use test_kit::Count;
 
 /// Copies the front of the piece, as far as the buffer has room, and gives the count.
 fn fill(buffer: &mut [u8], piece: &[u8]) -> usize

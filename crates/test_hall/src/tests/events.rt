@@ -1,6 +1,7 @@
 //! Events of a table, one at a time: where they fit, and where they don't.
 ghost use Rattle.std.specs.Prelude.{◌≤◌};
 
+use super::rosters::{TWO, roster_of};
 use Given::{Admit, Answer, Ask, Collect, Costs, Job, Retire, Round, Show, Take};
 use Wanted::{Admitted, Done, Idle, NotNow, Queued, Retired, Shows, Solved, Took, Worn};
 use firm_rules::{Changes, Command, Limits, Name, Outcome, Refusal, Reply, Ticket, Weight};
@@ -9,7 +10,6 @@ use firm_text::{MOST_ADMISSIONS, PLACES};
 use std::alloc::Global;
 use std::ops::Range;
 use std::process::Abort;
-use test_kit::{TWO, limits, roster_of};
 
 const ONE: &str = "t,2,0,1,0,0";
 
@@ -54,7 +54,7 @@ fn add_job(rt: &impl Abort) -> Command {
 }
 
 fn limits_of(rt: &impl Abort, nodes: u64, arcs: u64) -> Limits {
-    limits(&[nodes, arcs, 9, 0, 0, 0]).expect(rt, "limits")
+    Limits::check(nodes, arcs, 9, 0, 0, 0).expect(rt, "limits")
 }
 
 fn event(rt: &impl Abort, given: &Given) -> Event {
@@ -133,7 +133,7 @@ fn expect_rows(rt: &impl Abort, alloc: Global, table: &mut Table, rows: &[Row]) 
 fn opened(rt: &impl Abort, alloc: Global, records: &str, workers: usize) -> Table
     requires { (1 ≤ workers) × (workers ≤ 8) }
 {
-    let roster = roster_of(alloc, records).expect(rt, "a roster");
+    let roster = roster_of(rt, alloc, records);
     let table = Table::open(alloc, &roster, workers);
     drop(roster);
     table.expect(rt, "memory")

@@ -1,6 +1,7 @@
 //! Gates that hold rounds.
 
 use super::check;
+use super::counts::{Count, LOOKS, rest_awhile};
 use crossbeam_utils::sync::EventCount;
 use firm_hall::Gate;
 use firm_rules::Ticket;
@@ -10,7 +11,6 @@ use std::process::Abort;
 use std::sync::atomic::{AtomicU64, Ordering};
 use std::sync::{Arc, OnceLock};
 use std::thread;
-use test_kit::{Count, LOOKS, rest_awhile};
 
 /// Holds rounds of the first places: the first of each until the gate was opened once, the second until it was opened
 /// twice, and so on. It also counts the workers that begin and end.

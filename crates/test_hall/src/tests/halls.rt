@@ -3,12 +3,12 @@
 ghost use Rattle.std.specs.Prelude.{◌≡◌, ◌≤◌, All};
 
 use super::expect_count;
+use super::rosters::roster_of;
 use firm_hall::{CloseFault, Desk, EmptyDesk, Hall, Report, WorkerPass};
 use firm_rounds::finish_all;
 use std::alloc::Global;
 use std::process::Abort;
 use std::sync::Wait;
-use test_kit::roster_of;
 
 /// A hall for these records, its desks, the passes of its workers, and its empty desks.
 pub fn opened(
@@ -22,7 +22,7 @@ pub fn opened(
     ensures passes { All (λ p. p.queue ≡ result.0.id) result.2.items }
     ensures empty { All (λ e. e.queue ≡ result.0.id) result.3.items }
 {
-    let roster = roster_of(alloc, records).expect(rt, "a roster");
+    let roster = roster_of(rt, alloc, records);
     Hall::open(alloc, &roster, workers).expect(rt, "memory")
 }
 

@@ -2,7 +2,9 @@
 
 ghost use Rattle.std.specs.Prelude.{◌≡◌, All};
 
+use super::counts::LOOKS;
 use super::gates::Holds;
+use super::rosters::{EIGHT, TWO};
 use super::scenes::{Play, Scene, perform};
 use super::turns::ask_first;
 use super::{check, expect_idle_round};
@@ -12,7 +14,6 @@ use std::alloc::Global;
 use std::process::Abort;
 use std::sync::Wait;
 use std::thread;
-use test_kit::{EIGHT, LOOKS, TWO};
 
 /// When a round comes back.
 #[derive(Clone, Copy)]

@@ -1,13 +1,13 @@
 //! Replies that are written while the service waits in the middle of its input or at its end: the second tenant's round
 //! is held until one is written.
 
+use super::counts::{Count, LOOKS};
 use super::services::{TWELVE, TWELVE_ROUNDS, expect_first_written};
 use firm_text::Bytes;
 use std::alloc::Global;
 use std::process::Abort;
 use std::sync::Wait;
 use std::thread::Threads;
-use test_kit::{Count, LOOKS};
 
 const PAIR: &str = "a,2,0,9,0,0\nb,2,0,9,0,0";
 

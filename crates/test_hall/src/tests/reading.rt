@@ -3,17 +3,17 @@ ghost use Rattle.std.specs.Prelude.{◌≤◌, ◌^◌};
 
 use super::check;
 use super::devices::Measured;
+use super::rosters::roster_of;
 use firm_table::{ServeFault, serve_one};
 use firm_text::Bytes;
 use std::alloc::Global;
 use std::process::Abort;
-use test_kit::roster_of;
 
 /// Expects that a service ends so that may read this number of bytes, where 5,000 line feeds come.
 fn expect_end(rt: &impl Abort, alloc: Global, most: u64, wanted: Result<(), ServeFault>)
     requires { (1 ≤ most) × (most ≤ 2 ^ 32) }
 {
-    let roster = roster_of(alloc, "a,2,0,1,0,0").expect(rt, "a roster");
+    let roster = roster_of(rt, alloc, "a,2,0,1,0,0");
     let mut reader = Measured {
         text: &[b'\n'; 5_000],
         largest: 0,

@@ -3,8 +3,10 @@
 ghost use Rattle.std.specs.Prelude.{◌≡◌, ◌≤◌, false};
 
 use super::check;
+use super::counts::{Count, LOOKS};
 use super::devices::{CountsLines, Expects, GivesAnswered, TwoPieces, Unflushed};
 use super::gates::{HoldsAWhile, HoldsEight, HoldsSecond, HoldsUntilAsleep, HoldsUntilRead};
+use super::rosters::{EIGHT, roster_of};
 use firm_hall::{Gate, Open, serve};
 use firm_table::{MOST_INPUT, ServeFault, serve_one};
 use firm_text::{Bytes, Sink, Source};
@@ -12,7 +14,6 @@ use std::alloc::Global;
 use std::process::Abort;
 use std::sync::Wait;
 use std::thread::Threads;
-use test_kit::{Count, EIGHT, LOOKS, roster_of};
 
 /// The fault of a service for the tenants of these records, with this number of workers, if it has one.
 fn fault_of<
@@ -27,7 +28,7 @@ fn fault_of<
 {
     let (records, workers) = service;
     let alloc = rt.alloc();
-    let roster = roster_of(alloc, records).expect(rt, "a roster");
+    let roster = roster_of(rt, alloc, records);
     serve(
         rt, alloc, reader, writer, &roster, workers, gate, MOST_INPUT,
     )
@@ -352,7 +353,7 @@ fn fault_of_one<S: Source, W: Sink>(
     requires reader { S.read_failed reader.old ≡ false }
     requires writer { W.write_failed writer.old ≡ false }
 {
-    let roster = roster_of(alloc, records).expect(rt, "a roster");
+    let roster = roster_of(rt, alloc, records);
     serve_one(alloc, reader, writer, &roster, MOST_INPUT).err()
 }
 

@@ -2,6 +2,7 @@
 
 ghost use Rattle.std.specs.Prelude.{◌≡◌, All};
 
+use super::counts::rest_awhile;
 use super::expect_idle_round;
 use super::gates::Holds;
 use super::scenes::{Play, Scene, perform};
@@ -11,7 +12,6 @@ use std::alloc::Global;
 use std::hint::spin_loop;
 use std::process::Abort;
 use std::sync::Wait;
-use test_kit::rest_awhile;
 
 const THREE: &str = "a,2,0,20000,0,0\nb,2,0,20000,0,0\nc,2,0,20000,0,0";
 

@@ -4,10 +4,9 @@ ghost use Rattle.std.specs.Prelude.{◌≡◌};
 use super::check;
 use Step::{Admit, ComeAndGo, ComeInVain, Find, Retire};
 use firm_rules::Name;
-use firm_text::Register;
+use firm_text::{Register, roster};
 use std::alloc::Global;
 use std::process::Abort;
-use test_kit::{TWO, roster_of};
 
 /// What a register is asked of a tenant, and the place that it answers.
 enum Step {
@@ -58,9 +57,15 @@ fn take(rt: &impl Abort, register: &mut Register, row: &Row) {
     }
 }
 
-/// The register of a roster of alpha and beta.
+static ALPHA_AND_BETA: &[u8] = b"\
+tenant,nodes,arcs,life,spread,churn
+alpha,9,24,100,1,2
+beta,8,30,100,0,3
+";
+
+/// The register of their roster.
 fn two_tenants(rt: &impl Abort, alloc: Global) -> Register {
-    let roster = roster_of(alloc, TWO).expect(rt, "a roster");
+    let roster = roster(alloc, ALPHA_AND_BETA).ok().expect(rt, "a roster");
     let beta = Name::read(b"beta").expect(rt, "a name");
     check(rt, roster.place_of(beta) == Some(1), "beta's row");
     Register::of(&roster)

@@ -1,9 +1,9 @@
 //! Names, limits, slots, weights, and what refusals are called.
+use super::values::{limits, patient};
 use super::{check, name};
 use firm_rules::{Limits, LineFault, Name, Refusal, Slots, Weight};
 use std::alloc::Global;
 use std::process::Abort;
-use test_kit::{limits, patient};
 
 static NAMES: [&[u8]; 7] = [
     b"a",

@@ -13,7 +13,6 @@ use firm_rents::{
 use firm_rules::{Case, Choice, Rows, Slots};
 use std::alloc::Global;
 use std::process::Abort;
-use test_kit::limits;
 
 const M1: Choice = Choice::On(0);
 

@@ -1,4 +1,6 @@
 //! Rounds worked by hand.
+use super::additions::{with_job, with_machine, with_task};
+use super::values::{limits, patient};
 use super::{check, name};
 use Changed::{Moved, Preempted, Started};
 use Choice::{On, Wait};
@@ -9,7 +11,6 @@ use firm_rules::{
 };
 use std::alloc::Global;
 use std::process::Abort;
-use test_kit::{limits, patient, with_job, with_machine, with_task};
 
 /// A placement of two tasks, and what it costs.
 pub type Priced = (&'static [Choice], i64);

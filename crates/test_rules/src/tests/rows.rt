@@ -1,10 +1,11 @@
 //! Rows that are added and go, and the growth of each table, which may be refused.
+use super::additions::{NotAdded, with_job, with_machine, with_restored, with_task};
+use super::values::{limits, preferring};
 use super::{check, name};
 use firm_rules::{Job, Limits, Machine, Preferred, Rows, Slots, Task, Use, Weight, use_of};
 use linked_list_allocator::LocalHeap;
 use std::alloc::Allocator;
 use std::process::Abort;
-use test_kit::{NotAdded, limits, preferring, with_job, with_machine, with_restored, with_task};
 
 // Two machines of two slots, a job, and a task of the job.
 #[derive(Drop)]

@@ -3,7 +3,7 @@
 ghost use Rattle.std.specs.Prelude.{◌+◌, ◌^◌, ◌<◌, ◌≤◌, OnOk};
 ghost use Rattle.firm_rules.specs.ArenaUse.{arena_nodes, arena_arcs};
 
-use crate::values::preferring;
+use super::values::preferring;
 use NotAdded::{Memory, Unfit};
 use firm_rules::{Name, Rows, Slots, Task, Weight, use_of};
 use std::alloc::Allocator;

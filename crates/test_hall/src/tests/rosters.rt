@@ -2,6 +2,7 @@
 
 use firm_text::{Roster, roster};
 use std::alloc::Global;
+use std::process::Abort;
 
 /// A roster's first line where its records have six fields.
 const HEADING: &str = "tenant,nodes,arcs,life,spread,churn\n";
@@ -20,8 +21,8 @@ f,2,0,1,0,0
 g,2,0,1,0,0
 h,2,0,1,0,0";
 
-/// The roster of these records, each on a line; `None` where they make none, or memory is refused.
-pub fn roster_of(alloc: Global, records: &str) -> Option<Roster> {
-    let text = format!(in alloc; "{HEADING}{records}").ok()?;
-    roster(alloc, text.as_bytes()).ok()
+/// The roster of these records, each on a line.
+pub fn roster_of(rt: &impl Abort, alloc: Global, records: &str) -> Roster {
+    let text = format!(in alloc; "{HEADING}{records}").expect(rt, "memory");
+    roster(alloc, text.as_bytes()).ok().expect(rt, "a roster")
 }

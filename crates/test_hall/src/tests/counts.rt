@@ -1,4 +1,6 @@
 //! Counts that threads wait for, and short rests.
+//!
+//! A waiting test looks 10,000,000 times and then gives up. A lost wake-up may hang it, up to its time limit.
 
 use std::hint::spin_loop;
 use std::sync::atomic::{AtomicU64, Ordering};
