@@ -112,7 +112,7 @@ pub(crate) fn push_reserved<T: Drop>(list: &mut Vec<T>, value: T)
 }
 
 /// The arcs of a machine's slots: the machine's node, the sink, the tenant's spread, and the number of slots.
-#[derive(Clone, Copy, PartialEq, Eq, Debug)]
+#[derive(Clone, Copy)]
 pub(crate) struct SlotArcs {
     pub(crate) node: NodeId,
     pub(crate) sink: NodeId,

@@ -18,7 +18,7 @@ pub enum GraphRefusal {
 }
 
 /// The arcs out of a task's node.
-#[derive(Clone, Copy, PartialEq, Eq, Debug)]
+#[derive(Clone, Copy)]
 pub struct TaskArcs {
     /// To the hub.
     pub wide: ArcId,
@@ -31,14 +31,14 @@ pub struct TaskArcs {
 }
 
 /// The node of a task and its arcs.
-#[derive(Clone, Copy, PartialEq, Eq, Debug)]
+#[derive(Clone, Copy)]
 pub(crate) struct TaskParts {
     pub(crate) node: NodeId,
     pub(crate) arcs: TaskArcs,
 }
 
 /// How a task stands: the head of its stay arc, whether it runs there, and how many rounds left it waiting.
-#[derive(Clone, Copy, PartialEq, Eq, Debug)]
+#[derive(Clone, Copy)]
 pub(crate) struct Stand {
     pub(crate) node: NodeId,
     pub(crate) runs: bool,
@@ -46,7 +46,7 @@ pub(crate) struct Stand {
 }
 
 /// The node of a job and its arc to the sink.
-#[derive(Clone, Copy, PartialEq, Eq, Debug)]
+#[derive(Clone, Copy)]
 pub(crate) struct JobParts {
     pub(crate) node: NodeId,
     pub(crate) exit: ArcId,

@@ -98,7 +98,7 @@ pub(crate) fn evict_tasks(net: &mut Net, rows: &Rows, tasks: &[TaskParts], hub: 
 }
 
 // The machine that tasks have to leave, and where their stay arcs lead then.
-#[derive(Clone, Copy, PartialEq, Eq, Debug)]
+#[derive(Clone, Copy)]
 struct Eviction {
     name: Name,
     hub: NodeId,

@@ -1,7 +1,7 @@
 //! The nodes and arcs of a tenant's network, told by the places of its machines, jobs and tasks.
 
 /// A node of the network.
-#[derive(Clone, Copy, Debug, PartialEq, Eq)]
+#[derive(Clone, Copy, PartialEq, Eq)]
 pub enum Node {
     /// Where every flow ends.
     Sink,
@@ -16,7 +16,7 @@ pub enum Node {
 }
 
 /// What an arc of the network is for.
-#[derive(Clone, Copy, Debug, PartialEq, Eq)]
+#[derive(Clone, Copy, PartialEq, Eq)]
 pub enum Key {
     /// From the hub to the machine at a place.
     Through(u32),

@@ -7,7 +7,7 @@ use firm_rules::MOST_PREFERENCES;
 use std::marker::Model;
 
 /// The arcs of a task to the machines that it prefers, 4 at most, in the order of its row.
-#[derive(Clone, Copy, Debug, PartialEq, Eq)]
+#[derive(Clone, Copy)]
 pub struct PreferredArcs {
     // First, so that a task with no preference is told by the line of memory that has its other arcs.
     len: u8,

@@ -17,7 +17,7 @@ use firm_rounds::{Closing, Job, Queue};
 use std::sync::Wait;
 
 /// What was done in total.
-#[derive(Clone, Copy, Debug, PartialEq, Eq)]
+#[derive(Clone, Copy, PartialEq, Eq)]
 pub struct Totals {
     /// How many rounds workers took.
     pub rounds: u64,

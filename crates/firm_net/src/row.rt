@@ -13,26 +13,26 @@ pub const CAPACITY_LIMIT: u32 = 4_096;
 pub const COST_LIMIT: u32 = 3_000_000;
 
 /// Names a node of a net. Once the node is removed, the name answers no more.
-#[derive(Clone, Copy, PartialEq, Eq, Hash, Debug)]
+#[derive(Clone, Copy, PartialEq, Eq, Hash)]
 pub struct NodeId {
     pub(crate) id: Id,
 }
 
 /// Names an arc of a net. Once the arc is removed, the name answers no more.
-#[derive(Clone, Copy, PartialEq, Eq, Hash, Debug)]
+#[derive(Clone, Copy, PartialEq, Eq, Hash)]
 pub struct ArcId {
     pub(crate) id: Id,
 }
 
 /// How a unit of flow goes along an arc: from tail to head, or back.
-#[derive(Clone, Copy, PartialEq, Eq, Hash, Debug)]
+#[derive(Clone, Copy, PartialEq, Eq, Hash)]
 pub enum Way {
     Forward,
     Backward,
 }
 
 /// An arc from `tail` to `head`, another node: at least `low` and at most `cap` units flow along it, each at `cost`.
-#[derive(Clone, Copy, PartialEq, Eq, Debug)]
+#[derive(Clone, Copy, PartialEq, Eq)]
 pub struct ArcRow {
     tail: NodeId,
     head: NodeId,

@@ -10,7 +10,7 @@ use crate::rents::Rents;
 use firm_rules::{Case, Choice, cost_of_load, legality_is_judged};
 
 /// What rents show about a placement.
-#[derive(Clone, Copy, Debug, PartialEq, Eq)]
+#[derive(Clone, Copy, PartialEq, Eq)]
 pub struct Shown {
     /// Whether they show it to be least: its cost plus the gains equals the least that the tasks pay.
     pub least: bool,

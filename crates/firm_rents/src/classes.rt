@@ -7,7 +7,7 @@ ghost use Rattle.firm_rents.specs.inner.Classes.{IsCheaperFrom, IsKnown, IsParti
 
 /// A class of places: at its time their rents have its number, else they are those of its parent's. A rent of the first
 /// class has 1 at each time.
-#[derive(Clone, Copy, Debug, PartialEq, Eq)]
+#[derive(Clone, Copy, PartialEq, Eq)]
 pub struct Class {
     pub parent: u32,
     pub time: u32,

@@ -8,7 +8,7 @@ ghost use Rattle.firm_rules.specs.ChoiceCost.{remote_cost, wait_cost};
 use firm_rules::{Case, Choice};
 
 /// What a placement costs, by kind of cost.
-#[derive(Clone, Copy, Debug, PartialEq, Eq)]
+#[derive(Clone, Copy, PartialEq, Eq)]
 pub struct Parts {
     /// The loads of the machines.
     pub loads: u64,

@@ -9,7 +9,7 @@ use firm_rules::{Case, Choice};
 use std::alloc::{AllocError, Global};
 
 /// Some machines, with or without waiting, or groups of them in their order.
-#[derive(Clone, Copy, Debug, PartialEq, Eq)]
+#[derive(Clone, Copy, PartialEq, Eq)]
 pub struct Group {
     /// The group that this one is in; of the first, itself.
     pub outer: u32,

@@ -12,7 +12,7 @@ use std::alloc::{AllocError, Allocator, Global};
 use std::marker::Model;
 
 /// The changes of a round, in order of submission of their tasks, one a task at most.
-#[derive(Debug, Drop)]
+#[derive(Drop)]
 pub struct Changes {
     list: Vec<Change>,
 }

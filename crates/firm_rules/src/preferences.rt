@@ -11,7 +11,7 @@ use std::marker::Model;
 pub const MOST_PREFERENCES: usize = 4;
 
 /// The names of the machines that a task prefers, 4 at most, each once, in the order in which they were given.
-#[derive(Clone, Copy, Debug, PartialEq, Eq)]
+#[derive(Clone, Copy, PartialEq, Eq)]
 pub struct Preferred {
     // The names past the length are a hyphen.
     names: [Name; MOST_PREFERENCES],

@@ -8,7 +8,7 @@ use std::marker::Model;
 pub const MOST_COSTS: usize = 8;
 
 /// The costs of the last 8 rounds at most, oldest first.
-#[derive(Clone, Copy, Debug, PartialEq, Eq)]
+#[derive(Clone, Copy, PartialEq, Eq)]
 pub struct RecentCosts {
     // The costs past the length are 0.
     costs: [i64; MOST_COSTS],

@@ -2,7 +2,7 @@
 
 /// A round that was queued. One tenant after another may have a place; the numbers of its rounds go on through all of
 /// them.
-#[derive(Clone, Copy, Debug, PartialEq, Eq)]
+#[derive(Clone, Copy, PartialEq, Eq)]
 pub struct Ticket {
     /// The place of its tenant, from 0.
     pub place: u32,

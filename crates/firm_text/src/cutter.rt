@@ -37,7 +37,7 @@ impl Model for Cutter {
 }
 
 /// What a cutter took of a piece.
-#[derive(Clone, Copy, Debug, PartialEq, Eq)]
+#[derive(Clone, Copy, PartialEq, Eq)]
 pub struct Fed {
     /// How many bytes it took, from the front.
     pub used: usize,

@@ -5,7 +5,7 @@ ghost use Rattle.firm_text.specs.OperatorRefusals.{operator_code, operator_name}
 use firm_rules::{Limits, Name};
 
 /// What a line of the operator asks for: a line whose first word is `+`.
-#[derive(Clone, Copy, Debug, PartialEq, Eq)]
+#[derive(Clone, Copy, PartialEq, Eq)]
 pub enum OperatorLine {
     /// A tenant of this name is to be admitted, with these limits.
     Admit(Name, Limits),
@@ -16,7 +16,7 @@ pub enum OperatorLine {
 }
 
 /// What the operator is answered.
-#[derive(Clone, Copy, Debug, PartialEq, Eq)]
+#[derive(Clone, Copy, PartialEq, Eq)]
 pub enum OperatorReply {
     /// The tenant of this name was admitted.
     Admitted(Name),

@@ -19,7 +19,7 @@ pub const PLACES: usize = 64;
 pub const MOST_ADMISSIONS: u32 = 32_768;
 
 /// The entry of a place: the tenant that has it, and how often it was given.
-#[derive(Clone, Copy, Debug, PartialEq, Eq)]
+#[derive(Clone, Copy, PartialEq, Eq)]
 pub struct Entry {
     pub tenant: Option<Name>,
     pub admissions: u32,
