@@ -17,6 +17,7 @@ mod scenes;
 mod services;
 mod solving;
 mod stays;
+mod texts;
 mod turns;
 mod wakes;
 
@@ -33,9 +34,9 @@ fn expect_count(rt: &impl Abort, what: &str, count: u64, expected: u64) {
     assert!(rt; count == expected, "{what}: {count}, not {expected}");
 }
 
-/// Shows the reply where it is not as expected.
+/// Says which reply is not as expected.
 fn expect_reply(rt: &impl Abort, is_expected: bool, reply: &Reply) {
-    assert!(rt; is_expected, "{reply:?}");
+    assert!(rt; is_expected, "reply {}", reply.number);
 }
 
 /// This is the reply to a round that places nothing.

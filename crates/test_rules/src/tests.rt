@@ -1,9 +1,10 @@
-//! Names and numbers, rows, rounds, and the rents of one round.
+//! Names and numbers, rows, books, rounds, and the rents of one round.
 //!
 //! Rows that a function owns end by a call of `drop`, so that the proof follows the drop of all they hold only once.
 ghost use Rattle.std.specs.Prelude.{IsTrue};
 
 mod additions;
+mod books;
 mod names;
 mod rents;
 mod rounds;

@@ -115,18 +115,20 @@ fn answer(alloc: Global, wanted: &Wanted) -> firm_table::Answer {
     }
 }
 
-fn expect(rt: &impl Abort, alloc: Global, table: &mut Table, event: Event, wanted: &Wanted) {
-    let answered = table.event(alloc, event);
-    let wanted = answer(alloc, wanted);
-    assert!(rt;
-        answered == wanted,
-        "{event:?} gave {answered:?}, not {wanted:?}"
-    );
+/// Whether the event is answered so.
+fn is_answered(alloc: Global, table: &mut Table, event: Event, wanted: &Wanted) -> bool {
+    table.event(alloc, event) == answer(alloc, wanted)
+}
+
+/// Says which step is answered otherwise.
+fn expect_step(rt: &impl Abort, is_expected: bool, step: usize) {
+    assert!(rt; is_expected, "the answer of step {step}");
 }
 
 fn expect_rows(rt: &impl Abort, alloc: Global, table: &mut Table, rows: &[Row]) {
-    for (given, wanted) in rows {
-        expect(rt, alloc, table, event(rt, given), wanted);
+    for (step, (given, wanted)) in rows.iter().enumerate() {
+        let is_expected = is_answered(alloc, table, event(rt, given), wanted);
+        expect_step(rt, is_expected, step);
     }
 }
 
@@ -241,7 +243,7 @@ fn a_place_goes_from_tenant_to_tenant(rt: HostRuntime) {
 fn admit(rt: &impl Abort, alloc: Global, table: &mut Table, places: Range<usize>, wanted: &Wanted) {
     for place in places {
         let event = Event::Admit(place, limits_of(rt, 2, 0));
-        expect(rt, alloc, table, event, wanted);
+        expect_step(rt, is_answered(alloc, table, event, wanted), place);
     }
 }
 

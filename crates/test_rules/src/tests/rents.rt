@@ -5,6 +5,7 @@ use super::check;
 use super::rounds::Row::{Job, Machine, Task};
 use super::rounds::Step::{Add, Settle};
 use super::rounds::{Step, take_all};
+use super::values::limits;
 use firm_rents::{
     Class, Group, Ladder, LevelRents, Parts, Rents, cheapest_other, high_rents, is_ladder,
     lost_by_slot, low_rents, parts_of, placement_of, saved_by_machine, saved_by_slot, shows_first,
