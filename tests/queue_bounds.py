@@ -3,6 +3,7 @@
 from __future__ import annotations
 
 import asyncio
+import json
 import os
 import pty
 import socket
@@ -11,6 +12,7 @@ import sys
 import threading
 import time
 from collections.abc import Callable, Iterator
+from concurrent.futures import ThreadPoolExecutor
 from contextlib import closing, contextmanager
 from functools import partial
 from pathlib import Path
@@ -19,12 +21,13 @@ from typing import Any
 from firmd_kit import memory_kilobytes
 from harness.checks import Skipped, require
 from firm_service.queue.shares import BOUNDS, Share, Shares
-from queue_kit import ANN, BOB, FOREVER, Case, Disk, Json, Setup, as_user, claim_place
+from queue_kit import ANN, BOB, FOREVER, Case, Disk, Json, Setup, as_user, as_user_does, claim_place
 
 HELD: Json = {"ask": "submit", "command": FOREVER, "dir": "/tmp", "hold": True}
 CANCEL: Json = {"ask": "cancel"}
 BUSY_SECONDS = 8.0  # of the queue's processor time, for what takes a minute where each end is judged by all needs
 WORDS = 60_000  # letters of a command
+LONG_REQUESTS = 12  # that a user sends at a time: together more than it may hold
 
 
 def processor_seconds(case: Case) -> float:
@@ -120,6 +123,28 @@ def waiting_requests(setup: Setup) -> None:
         case.until(lambda: memory(case) - before > 10_000, "they are there")
         grown = memory(case) - before
         require(grown < 160_000, f"the queue has grown by {grown:,} kB")
+
+
+def long_requests(setup: Setup) -> None:
+    """However many long requests a user sends at a time, none waits for room that only the others would give back."""
+    if os.geteuid():
+        raise Skipped("it needs root, to be other users")
+    text = json.dumps(CANCEL).encode() + b" " * 8_000_000 + b"\n"
+    with setup.case("--socket-mode=666").start() as case:
+        case.folder.chmod(0o755)
+
+        def ask(_: int) -> Json:
+            with case.client() as client:
+                client.send_text(text)
+                return client.answer()
+
+        def ask_together() -> list[Json]:
+            with ThreadPoolExecutor(LONG_REQUESTS) as threads:
+                return list(threads.map(ask, range(LONG_REQUESTS)))
+
+        answers = as_user_does(ANN, ask_together)
+        require(answers == [{"cancel": {"changed": [], "unchanged": {}}}] * LONG_REQUESTS, answers)
+        require("status" in as_user(ANN, case.socket, [{"ask": "status"}])[0], "it is served on")
 
 
 def repeated_command(setup: Setup) -> None:
@@ -405,6 +430,7 @@ CHECKS: tuple[Callable[[Setup], None], ...] = (
         needs,
         words,
         budget,
+        long_requests,
         repeated_command,
         answers_alone,
         names_of_the_past,

@@ -102,7 +102,7 @@ class Front:
     def _leave(self, connection: Connection) -> None:
         del self._connections[connection]
         self._users[connection.user.number] -= not connection.user.is_operator
-        self.shares.add(connection.share, -connection.share.held)
+        self.shares.leave(connection.share)
         self.agents.leave(connection)
 
     def _is_too_many(self, user: User) -> bool:
@@ -181,9 +181,12 @@ class Connection:
             with suppress(EndOfRequests):
                 while not writing.done():
                     line = await self._next()
-                    await self._front.shares.turn(self.share)
+                    await self._front.shares.go_on(self.share, len(line))
                     self._require_there()
-                    await self._asked.put(Asked(self._begin(line, group), len(line)))
+                    asked = Asked(self._begin(line, group), len(line))
+                    self._front.shares.begun(self.share)
+                    await self._asked.put(asked)
+            self._front.shares.begun(self.share)
             await self._asked.put(None)
 
     def tell(self, words: Json) -> None:
@@ -212,24 +215,34 @@ class Connection:
     async def _next(self) -> bytes:
         """The next request; raises `EndOfRequests`."""
         pieces: list[bytes] = []
-        size, ends = 0, None
-        while not pieces or not pieces[-1].endswith(b"\n"):
-            try:
-                async with asyncio.timeout_at(ends) if ends is not None else asyncio.timeout(IDLE_SECONDS):
-                    piece = await self._piece()
-            except TimeoutError:
-                if not pieces and self._is_busy():
+        size, ends, loop = 0, None, asyncio.get_running_loop()
+        try:
+            while not pieces or not pieces[-1].endswith(b"\n"):
+                piece = await self._piece_until(ends)
+                if piece is None and not pieces and self._is_busy():
                     continue
-                raise EndOfRequests from None
-            ends = ends or asyncio.get_running_loop().time() + REQUEST_SECONDS
-            pieces.append(piece)
-            size += len(piece)
-            self._front.shares.add(self.share, len(piece))
-            if not piece.endswith(b"\n"):
-                await self._front.shares.turn(self.share)
-            if size > LONGEST_REQUEST:
-                await self._refuse_long()
+                if piece is None:
+                    raise EndOfRequests
+                pieces.append(piece)
+                size, began = size + len(piece), loop.time()
+                self._front.shares.add(self.share, len(piece))
+                if size > LONGEST_REQUEST:
+                    await self._refuse_long()
+                if not piece.endswith(b"\n"):
+                    await self._front.shares.go_on(self.share, size)
+                ends = (began + REQUEST_SECONDS if ends is None else ends) + loop.time() - began
+        except EndOfRequests:
+            self._front.shares.add(self.share, -size)
+            raise
         return b"".join(pieces)
+
+    async def _piece_until(self, ends: float | None) -> bytes | None:
+        """The same of a request as `_piece`; None where nothing comes in time."""
+        try:
+            async with asyncio.timeout_at(ends) if ends is not None else asyncio.timeout(IDLE_SECONDS):
+                return await self._piece()
+        except TimeoutError:
+            return None
 
     async def _piece(self) -> bytes:
         """What has come of a request, up to its end."""
@@ -298,7 +311,7 @@ class Connection:
         yield self._held(encode(refusal.answer()))
 
     def _held(self, text: bytes) -> bytes:
-        self._front.shares.add(self.share, len(text))
+        self._front.shares.add(self.share, len(text), is_answer=True)
         return text
 
     async def _answered(self, given: Json) -> Json:
@@ -332,7 +345,7 @@ class Connection:
         self._writer.write(text)
         async with asyncio.timeout(PATIENCE_SECONDS):
             await self._writer.drain()
-        self._front.shares.add(self.share, -len(text))
+        self._front.shares.add(self.share, -len(text), is_answer=True)
 
 
 class EndOfRequests(Exception):

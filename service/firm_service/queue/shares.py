@@ -24,13 +24,15 @@ class Share:
     key: bytes
     is_bounded: bool
     held: int = 0  # bytes of requests that are not answered, and of answers that are not read
+    unread: int = 0  # those of the answers
 
 
 class Shares:
     """All that have connections."""
 
     def __init__(self, bounds: Bounds, relieve: Callable[[bytes], None]) -> None:
-        self._account, self._relieve = Account(bounds), relieve
+        self._account, self._unread, self._relieve = Account(bounds), Account(bounds), relieve
+        self._coming: dict[bytes, dict[Share, int]] = {}  # bytes of requests that have not begun, the first one first
         self._waiting: dict[bytes, deque[asyncio.Future[None]]] = {}  # for a turn
         self._begun: deque[set[bytes]] = deque([set(), set()], 2)  # users in the last two turns: a request takes two
         self._rests: dict[bytes, float] = {}  # until when users have no further turn, by the loop's clock
@@ -40,20 +42,56 @@ class Shares:
         self._answers: Counter[bytes] = Counter()  # of a user, that hold its lock or wait for it
         self._freed = asyncio.Event()  # another one after each time that bytes are given back
 
-    def add(self, share: Share, size: int) -> None:
+    def add(self, share: Share, size: int, is_answer: bool = False) -> None:
         """Takes in that a connection holds more, or less. Where that is too much, one of the fullest user is closed."""
         share.held += size
+        share.unread += size if is_answer else 0
         if not share.is_bounded:
             return
         self._account.add(share.key, size)
+        self._unread.add(share.key, size if is_answer else 0)
         if size <= 0:
-            self._freed.set()
-            self._freed = asyncio.Event()
+            self._wake()
         elif (fullest := self._account.fullest()) is not None:
             self._relieve(fullest)
 
+    def leave(self, share: Share) -> None:
+        """Takes in that a connection has ended."""
+        self.begun(share)
+        self.add(share, -share.unread, is_answer=True)
+        self.add(share, -share.held)
+
+    async def go_on(self, share: Share, size: int) -> None:
+        """Returns once a request, of which so many bytes are there, may be read further, or begin: in turn, and while
+        its user has no more than half of what it may."""
+        self._coming.setdefault(share.key, {})[share] = size
+        while share.is_bounded and self._is_held_up(share):
+            await self._freed.wait()
+        await self.turn(share)
+
+    def begun(self, share: Share) -> None:
+        """Takes in that a connection's request waits no more."""
+        coming = self._coming.get(share.key, {})
+        if coming.pop(share, None) is None:
+            return
+        if coming:
+            self._wake()
+        else:
+            del self._coming[share.key]
+
+    def _is_held_up(self, share: Share) -> bool:
+        """Whether others of the user's are to be answered first. Where requests that have not begun hold most, nothing
+        would ever be given back: the first of them goes on."""
+        held, half = self._account.bytes[share.key], self._account.bounds.of_socket // 2
+        coming = self._coming[share.key]
+        return held > half and (next(iter(coming)) is not share or held - sum(coming.values()) > half // 2)
+
+    def _wake(self) -> None:
+        self._freed.set()
+        self._freed = asyncio.Event()
+
     async def turn(self, share: Share) -> None:
-        """Returns once a further request may begin: one of each user in a turn of the loop."""
+        """Returns once a further part of an answer may be made: one of each user in a turn of the loop."""
         await self._room(share)
         loop = asyncio.get_running_loop()
         future = loop.create_future()
@@ -78,8 +116,10 @@ class Shares:
                 del self._answers[share.key], self._locks[share.key]
 
     async def _room(self, share: Share) -> None:
-        """Returns once the user has no more than half of what it may."""
-        while share.is_bounded and self._account.bytes[share.key] > self._account.bounds.of_socket // 2:
+        """Returns once the user has no more than half of what it may, or little of that is answers: these are read, or
+        their connections closed, while requests may wait for this very answer."""
+        half = self._account.bounds.of_socket // 2
+        while share.is_bounded and self._account.bytes[share.key] > half and self._unread.bytes[share.key] > half // 4:
             await self._freed.wait()
 
     def _begin(self) -> None:
