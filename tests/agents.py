@@ -31,7 +31,7 @@ from harness.files import write_program
 from queue_stand_in import LONG_SECONDS, Cluster, Row, clock
 
 AT_A_TIME = 8  # checks, which mostly wait
-LEASE_SECONDS = 10.0  # where it is to end
+LEASE_SECONDS, SHORT_LEASE_SECONDS = 10.0, 3.0  # where it is to end
 BUSY_SECONDS = 40  # at most, by which anything is late on a busy host
 TURNS = 16  # of a loop: a lost connection is taken in within fewer
 NOBODY = 65534
@@ -128,6 +128,38 @@ def held_up() -> None:
         words = [sys.executable, "-c", WAITS_FOR_DISK, str(case.folder)]
         done = subprocess.run(words, stdin=subprocess.DEVNULL, capture_output=True, text=True, timeout=LONG_SECONDS)
         require((done.stdout, done.returncode) == ("timeout\n", 0), done)
+
+
+def ended_as_it_begins() -> None:
+    """A run whose end is asked for right behind its first lease, and comes with it, is not begun."""
+    with Case("") as case:
+        rows: Row = {"folder": str(case.folder / "run"), "token": "aaaaaaaa", "command": "touch begun; sleep 1000"}
+        request = {**rows, "directory": str(case.folder), "grace": 0.5, "is_leased": True}
+        text = f"{json.dumps(request)}\nlease {clock() + LONG_SECONDS:.3f}\nend\n"
+        words = [sys.executable, supervisor.__file__]
+        done = subprocess.run(words, input=text, capture_output=True, text=True, timeout=LONG_SECONDS)
+        told = [json.loads(line)["event"] for line in done.stdout.splitlines()]
+        require(told == ["clock", "void"] and not (case.folder / "begun").exists(), done)
+
+
+def lost_before_it_began() -> None:
+    """A run that was taken for lost before its first lease is not begun once its agent is registered again."""
+    with Cluster("a", lease=SHORT_LEASE_SECONDS) as case:
+        (case.folder / "host").mkdir()
+        (case.folder / "host/.bashrc").write_text("until [ -e go ]; do sleep 0.05; done\n")
+        case.start_over_ssh()
+        case.firmd.round("start a m1")
+        case.until(lambda: case.queue.attempts, "it is claimed")
+        case.queue.close()
+        time.sleep(2 * SHORT_LEASE_SECONDS)
+        (case.folder / "host/go").touch()
+        case.until(lambda: list(case.folder.glob("host/**/a.1")), "its supervisor is there")
+        time.sleep(SOON_SECONDS)
+        case.queue.attempts[case.queue.token("a")].is_open = False
+        case.queue.open()
+        case.until(lambda: case.queue.told, "what became of it is told")
+        require([event["event"] for event in case.queue.told] == ["void"], case.queue.told)
+        require(not case.text("a.log"), "it was begun")
 
 
 def not_claimed() -> None:
@@ -730,6 +762,8 @@ QUICK = [
     life,
     not_started,
     held_up,
+    ended_as_it_begins,
+    lost_before_it_began,
     moved_between_agents,
     queue_away,
     time_limit,

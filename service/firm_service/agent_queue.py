@@ -4,7 +4,7 @@ from __future__ import annotations
 
 import asyncio
 import os
-from collections.abc import Coroutine
+from collections.abc import Coroutine, Sequence
 from pathlib import Path
 from typing import TYPE_CHECKING, Any
 
@@ -187,7 +187,7 @@ class QueueSource:
             await asyncio.sleep(REGISTER_SECONDS)
         self._told = ""
         tell(INFO, f"registered as {self.name} with {', '.join(self.machines.slots)}")
-        self._extend(asked, answer["lease"])
+        self._extend(asked, answer["lease"], answer["end"])
         self._link = link
         self._end(answer["end"])
         self._keep(answer["keep"])
@@ -216,15 +216,17 @@ class QueueSource:
             answer = await link.ask("beat", runs=[run.token for run in self.agent.history.runs.values()])
             self._extend(asked, answer["beat"]["lease"])
 
-    def _extend(self, asked: float, seconds: float) -> None:
+    def _extend(self, asked: float, seconds: float, ending: Sequence[str] = ()) -> None:
+        """Has all runs go on but those that are to end: one that has waited for its first lease would begin."""
         self.lease.extend(asked, seconds)
         self.lease.keep(self.agent.history.runs)
         for run in self.agent.history.runs.values():
-            self._grant(run)
+            if run.token not in ending:
+                self._grant(run)
 
     def _grant(self, run: Run) -> None:
         line = self.lease.line(run.number)
-        if line is not None:
+        if line is not None and run.ends is None:
             self.agent.control(run, line)
 
     async def _tell_events(self, link: Link) -> None:
