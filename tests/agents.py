@@ -322,6 +322,27 @@ def queue_away() -> None:
         require((case.text("a.log"), case.text("b.log")) == ("begin m1\nend\n", "begin m1\nend\n"), "each ran once")
 
 
+def queue_full() -> None:
+    """While the queue's disk is full its agents keep their connections, and tell what has happened once it has room."""
+    with Cluster("a", "b") as case:
+        case.start_registered()
+        case.firmd.round("start a m1")
+        case.until_told("running", "a")
+        case.queue.is_full = True
+        case.queue.tell("a1", tell="keep", tokens=[case.queue.token("a")])
+        case.firmd.round("start b m1")
+        case.until_begun("a", "b")
+        case.go("a")
+        case.until_runs("b")
+        case.until(lambda: "not-written" in case.told(), "it is told")
+        time.sleep(SOON_SECONDS)
+        require(case.queue.registrations == 1, f"it has registered {case.queue.registrations} times")
+        case.queue.is_full = False
+        require(case.until_told("ended", "a")["status"] == 0, "how a ended")
+        case.until_told("running", "b")
+        case.until(lambda: case.queue.kept, "that a was kept")
+
+
 def time_limit() -> None:
     """A run that is over its time gets SIGTERM, and after the grace SIGKILL; a day forth and back changes nothing."""
     with Cluster(lease=LEASE_SECONDS) as case:
@@ -766,6 +787,7 @@ QUICK = [
     lost_before_it_began,
     moved_between_agents,
     queue_away,
+    queue_full,
     time_limit,
     killed_supervisor,
     stopped_as_its_queue_goes,

@@ -60,6 +60,8 @@ class QueueStandIn:
         self.kept: list[str] = []
         self.told: list[Row] = []  # all events, those too that came twice
         self.is_deaf = False  # to events
+        self.is_full = False  # its disk
+        self.registrations = 0
         self.refuses: Callable[[Row], bool] = lambda event: False  # beside those that are no events, as a later queue
         self.loop = asyncio.new_event_loop()
         self.loop.set_exception_handler(lambda *_: None)  # agents are killed, and so their connections fail
@@ -135,6 +137,8 @@ class QueueStandIn:
                 return {"beat": {"lease": self.lease}}
             case "claim" if name in self.agents:
                 return {"claim": self._claim(request, name)}
+            case "told" | "kept" if self.is_full:
+                return {"error": "not-written", "text": "disk I/O error"}
             case "told":
                 return None if self.is_deaf else self._told(request)
             case "kept":
@@ -143,6 +147,7 @@ class QueueStandIn:
         return {"error": "not-registered", "text": "register first"}
 
     def _register(self, request: Row, name: str, writer: asyncio.StreamWriter) -> Row:
+        self.registrations += 1
         for other, agent in self.agents.items():
             taken = sorted(agent.machines.keys() & request["machines"].keys())
             if other != name and taken:

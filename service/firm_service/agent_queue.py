@@ -24,7 +24,7 @@ if TYPE_CHECKING:
     from .agent import Agent
 
 SHORTEST_PAUSE, LONGEST_PAUSE = 0.1, 2.0  # seconds between two tries to reach the queue
-REGISTER_SECONDS = 2.0  # between two tries to register
+REGISTER_SECONDS = 2.0  # between two tries to register, and to ask for what was refused
 DONE_SECONDS = 2.0  # for which firm may still have a task that has done its work
 ROOM_SECONDS = 1.0  # between two looks whether the disk has room again
 MOST_USER = 2**32 - 2  # the next number stands for no user
@@ -238,6 +238,10 @@ class QueueSource:
             try:
                 told = int((await link.ask("told", events=events))["told"])
             except Refusal as refusal:
+                if refusal.name == "not-written":  # until its disk has room: another connection changes nothing
+                    self._tell_once(f"the queue does not take events: {refusal}")
+                    await asyncio.sleep(REGISTER_SECONDS)
+                    continue
                 if refusal.name != "bad-field":
                     raise
                 suspects = len(events)
@@ -294,10 +298,16 @@ class QueueSource:
             self.agent.group.create_task(self._say_kept(self._link, kept))
 
     async def _say_kept(self, link: Link, tokens: list[str | None]) -> None:
-        try:
-            await link.ask("kept", tokens=tokens)
-        except (OSError, Refusal) as error:
-            self._tell_once(f"{self.path}: {error}")
+        """Again while the queue's disk is full; over another connection the queue asks for it anew."""
+        while True:
+            try:
+                await link.ask("kept", tokens=tokens)
+                return
+            except (OSError, Refusal) as error:
+                self._tell_once(f"{self.path}: {error}")
+                if not isinstance(error, Refusal) or error.name != "not-written":
+                    return
+            await asyncio.sleep(REGISTER_SECONDS)
 
     # Runs
 
