@@ -500,6 +500,20 @@ def standard_error() -> None:
         require(max(map(len, lines)) < 400 and len(lines) < 60, f"it is told at length: {told}")
 
 
+def left_behind() -> None:
+    """What a host's shell leaves behind may keep standard output, and ssh itself, for ever: runs there end."""
+    with Case(OVER_SSH, a=command("true")) as case:
+        stand_in_ssh(case)
+        program = case.folder / "ssh"
+        shell = program.read_text()
+        require("exec sh" in shell, shell)
+        program.write_text(shell.replace("exec sh", "sh") + "echo $$ > keeps; exec sleep 1000\n")
+        case.start("--until-empty")
+        case.firmd.round("start a m1")
+        require(case.status() == 0, "the agent's status")
+        require(not is_there(int(case.text("host/keeps"))), "what stood for ssh is there")
+
+
 def name_of(check: Check) -> str:
     return check.__name__.replace("_", " ")
 
@@ -524,6 +538,7 @@ def checks(is_quick: bool) -> dict[str, Check]:
         said_in_its_place,
         used_up_memory,
         standard_error,
+        left_behind,
     ):
         found[name_of(check)] = check
     for is_moved, how in ((False, "put back"), (True, "moved away")):

@@ -284,7 +284,7 @@ class Agent:
         outcome = None
         while event is not None:
             outcome = self.heard_of(run, event, work is None)  # an end with more behind it was no supervisor's
-            event = await teller.next()
+            event = await teller.next(has_ended=outcome is not None)
         del self.controls[run.number]
         await teller.end()
         return outcome

@@ -13,7 +13,7 @@ import json
 import os
 from collections import Counter
 from collections.abc import Callable
-from typing import Any
+from typing import Any, BinaryIO
 
 from .agent_state import Event, Run
 from .logs import WARNING
@@ -26,6 +26,7 @@ MOST_ASIDES = 40  # lines of one connection that are no events and are told
 AT_MOST = {"running": 1, "asks": 1, "foreign": MOST_ASIDES}  # events of one connection; others may come at any time
 MOST_PID = 2**31 - 1
 KEPT_BYTES = 4096  # of a line of standard error
+BEHIND_SECONDS, END_SECONDS = 10.0, 5.0  # for more behind the end of a run, and for the process's own end then
 ERROR_SECONDS = 1.0  # for the end of standard error, once the process has ended
 FIELDS = ("run", "pid", "unkept", "output", "now", "asks", "status", "asked", "fault", "over", "seconds")
 OVER = {
@@ -118,46 +119,67 @@ class Teller:
     def __init__(self, run: Run) -> None:
         self._run = run
         self._counts: Counter[str] = Counter()  # of what it has said
+        self._output, self._errors = asyncio.StreamReader(LONGEST_EVENT), Errors(self._tell_aside)
+        self._pipes: list[asyncio.BaseTransport] = []
 
     async def begin(self, words: list[str]) -> asyncio.StreamWriter:
         """Starts it; its standard input. Raises OSError where it can't be started."""
-        pipe = asyncio.subprocess.PIPE
-        # None of asyncio's, which would wait for its end: ssh may leave a process behind that keeps standard error.
-        reading, writing = os.pipe()
-        with open(writing, "wb", 0) as errors:
-            self._pipe, self._errors = await asyncio.get_running_loop().connect_read_pipe(
-                lambda: Errors(self._tell_aside), open(reading, "rb", 0)
-            )
+        with contextlib.ExitStack() as stack:
+            output = stack.enter_context(await self._pipe(lambda: asyncio.StreamReaderProtocol(self._output)))
+            errors = stack.enter_context(await self._pipe(lambda: self._errors))
             try:
                 self._process = await asyncio.create_subprocess_exec(
-                    *words, stdin=pipe, stdout=pipe, stderr=errors, start_new_session=True, limit=LONGEST_EVENT
+                    *words, stdin=asyncio.subprocess.PIPE, stdout=output, stderr=errors, start_new_session=True
                 )
             except OSError:
-                self._pipe.close()
+                self._close()
                 raise
-        if self._process.stdin is None or self._process.stdout is None:
-            raise RuntimeError("a process without the pipes that it was given")
-        self._input, self._output = self._process.stdin, self._process.stdout
+        if self._process.stdin is None:
+            raise RuntimeError("a process without the pipe that it was given")
+        self._input = self._process.stdin
         return self._input
 
-    async def next(self) -> Event | None:
-        """The event that comes next, None where no more comes."""
-        while line := await self._next_line():
-            await asyncio.sleep(0)  # lines that are there are not waited for: a flood would hold up all other runs
-            event = event_of(line)
-            if event is not None and self._may_come(event):
-                return event
-            self._tell_aside(line)
+    async def next(self, has_ended: bool = False) -> Event | None:
+        """The event that comes next, None where no more comes, or none soon behind an end."""
+        with contextlib.suppress(TimeoutError):
+            async with asyncio.timeout(BEHIND_SECONDS if has_ended else None):
+                while line := await self._next_line():
+                    await asyncio.sleep(0)  # lines that are there are not waited for: a flood would hold up all others
+                    event = event_of(line)
+                    if event is not None and self._may_come(event):
+                        return event
+                    self._tell_aside(line)
         return None
 
     async def end(self) -> None:
-        """Waits until it has ended, and what it has said on standard error is told."""
+        """Waits until it has ended, and what it has said on standard error is told. ssh is there as long as what a
+        host's shell has left behind there, which may be for ever."""
         self._input.close()
-        await self._process.wait()
+        try:
+            async with asyncio.timeout(END_SECONDS):
+                await self._process.wait()
+        except TimeoutError:
+            self._kill()
+            await self._process.wait()
         with contextlib.suppress(TimeoutError):
             async with asyncio.timeout(ERROR_SECONDS):
                 await self._errors.has_ended.wait()
-        self._pipe.close()
+        self._close()
+
+    async def _pipe(self, protocol: Callable[[], asyncio.BaseProtocol]) -> BinaryIO:
+        """The writing end of a pipe. None of asyncio's: it would be open as long as what ssh leaves behind."""
+        reading, writing = os.pipe()
+        pipe, _ = await asyncio.get_running_loop().connect_read_pipe(protocol, open(reading, "rb", 0))
+        self._pipes.append(pipe)
+        return open(writing, "wb", 0)
+
+    def _close(self) -> None:
+        for pipe in self._pipes:
+            pipe.close()
+
+    def _kill(self) -> None:
+        with contextlib.suppress(ProcessLookupError):
+            self._process.kill()
 
     async def _next_line(self) -> bytes:
         """Where what comes is no line, the process is killed: another one is asked then."""
@@ -165,8 +187,7 @@ class Teller:
             return await self._output.readline()
         except ValueError:
             self._run.tell(f": {self._run.machine} said more than {LONGEST_EVENT:,} bytes without an end", WARNING)
-            with contextlib.suppress(ProcessLookupError):
-                self._process.kill()
+            self._kill()
             return b""
 
     def _may_come(self, event: Event) -> bool:
