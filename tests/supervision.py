@@ -10,6 +10,7 @@ skipped. --quick leaves out what takes longer than a second or two.
 from __future__ import annotations
 
 import argparse
+import asyncio
 import json
 import os
 import shutil
@@ -23,12 +24,15 @@ from functools import partial
 from pathlib import Path
 
 from agent_kit import SOON_SECONDS, SSH, WAITS_FOR_GO, Case, command, is_there
+from firm_service.agent_state import Key, Run
+from firm_service.agent_words import Teller
 from harness.checks import Check, Skipped, Suite, print_skipped, require, run_script, run_suites
 from harness.files import write_program
 from queue_stand_in import Cluster
 
 AT_A_TIME = 6  # checks, which mostly wait
 LOOK_SECONDS = 1.0  # in which a hidden process has changed its number, on a busy host too
+FLOOD_SECONDS = 2.0  # of a processor, for what takes more than four where each line is looked at
 UNKEPT = "this host: tasks have no cgroups"  # as the agent tells it
 OVER_SSH = '[machines.m1]\nssh = "host"\n[machines.m2]'
 # By nothing of its run is it known: neither by its environment nor by session, parents or a number that stays.
@@ -500,6 +504,19 @@ def standard_error() -> None:
         require(max(map(len, lines)) < 400 and len(lines) < 60, f"it is told at length: {told}")
 
 
+def flood() -> None:
+    """A flood on standard error, of lines that are not told, takes little of an agent's time."""
+
+    async def hear() -> float:
+        errors, began = Teller(Run(1, Key("a", 1, "first"), "j", "m1")).errors, time.thread_time()
+        for text in [b"\n" * 65_536] * 100 + [b"noise\n" * 10_000] * 50:
+            errors.data_received(text)
+        return time.thread_time() - began
+
+    took = asyncio.run(hear())
+    require(took < FLOOD_SECONDS, f"it took {took:.1f} s of a processor")
+
+
 def left_behind() -> None:
     """What a host's shell leaves behind may keep standard output, and ssh itself, for ever: runs there end."""
     with Case(OVER_SSH, a=command("true")) as case:
@@ -538,6 +555,7 @@ def checks(is_quick: bool) -> dict[str, Check]:
         said_in_its_place,
         used_up_memory,
         standard_error,
+        flood,
         left_behind,
     ):
         found[name_of(check)] = check

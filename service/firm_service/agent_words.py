@@ -104,7 +104,7 @@ class Errors(asyncio.Protocol):
 
     def data_received(self, data: bytes) -> None:
         *lines, line = (self._line + data).split(b"\n")
-        for one in lines:
+        for one in filter(bytes.strip, lines):
             self._tell(one)
         self._line = line[:KEPT_BYTES]
 
@@ -119,14 +119,14 @@ class Teller:
     def __init__(self, run: Run) -> None:
         self._run = run
         self._counts: Counter[str] = Counter()  # of what it has said
-        self._output, self._errors = asyncio.StreamReader(LONGEST_EVENT), Errors(self._tell_aside)
+        self._output, self.errors = asyncio.StreamReader(LONGEST_EVENT), Errors(self._tell_aside)
         self._pipes: list[asyncio.BaseTransport] = []
 
     async def begin(self, words: list[str]) -> asyncio.StreamWriter:
         """Starts it; its standard input. Raises OSError where it can't be started."""
         with contextlib.ExitStack() as stack:
             output = stack.enter_context(await self._pipe(lambda: asyncio.StreamReaderProtocol(self._output)))
-            errors = stack.enter_context(await self._pipe(lambda: self._errors))
+            errors = stack.enter_context(await self._pipe(lambda: self.errors))
             try:
                 self._process = await asyncio.create_subprocess_exec(
                     *words, stdin=asyncio.subprocess.PIPE, stdout=output, stderr=errors, start_new_session=True
@@ -163,7 +163,7 @@ class Teller:
             await self._process.wait()
         with contextlib.suppress(TimeoutError):
             async with asyncio.timeout(ERROR_SECONDS):
-                await self._errors.has_ended.wait()
+                await self.errors.has_ended.wait()
         self._close()
 
     async def _pipe(self, protocol: Callable[[], asyncio.BaseProtocol]) -> BinaryIO:
@@ -198,9 +198,11 @@ class Teller:
 
     def _tell_aside(self, line: bytes) -> None:
         """Tells what is no event, while it is little."""
+        if self._counts["aside"] > MOST_ASIDES:  # of a flood each further line would hold up all others
+            return
         text = short(line[:KEPT_BYTES].decode(errors="replace").strip())
         self._counts["aside"] += bool(text)
         if text and self._counts["aside"] <= MOST_ASIDES:
             self._run.tell(f": {self._run.machine} said {text!r}", WARNING)
-        elif text and self._counts["aside"] == MOST_ASIDES + 1:
+        elif text:
             self._run.tell(f": {self._run.machine} says more, which is not told", WARNING)
