@@ -343,6 +343,26 @@ def queue_full() -> None:
         case.until(lambda: case.queue.kept, "that a was kept")
 
 
+def queue_hung() -> None:
+    """Where the queue hears beats, and its disk has it answer nothing, what runs goes on."""
+    with Cluster("a", "b", lease=SHORT_LEASE_SECONDS) as case:
+        case.start_registered()
+        case.firmd.round("start a m1")
+        case.until_told("running", "a")
+        case.until_begun("a")
+        case.queue.is_hung = True
+        case.firmd.round("start b m1")
+        time.sleep(3 * SHORT_LEASE_SECONDS)
+        require(case.processes().keys() == {"a"}, case.processes())
+        case.queue.close()
+        case.queue.is_hung = False
+        case.queue.open()
+        case.go("a", "b")
+        for task in "ab":
+            require(case.until_told("ended", task)["status"] == 0, f"how {task} ended")
+        require(case.text("a.log") == "begin m1\nend\n", case.text("a.log"))
+
+
 def time_limit() -> None:
     """A run that is over its time gets SIGTERM, and after the grace SIGKILL; a day forth and back changes nothing."""
     with Cluster(lease=LEASE_SECONDS) as case:
@@ -788,6 +808,7 @@ QUICK = [
     moved_between_agents,
     queue_away,
     queue_full,
+    queue_hung,
     time_limit,
     killed_supervisor,
     stopped_as_its_queue_goes,

@@ -270,6 +270,19 @@ def unwritten(setup: Setup) -> None:
         case.stop()
 
 
+def hung_disk(setup: Setup) -> None:
+    """While the disk hangs agents are told that their beats were heard, though answers before those wait."""
+    with setup.case("--lease=300").start_failing() as case, case.client() as client:
+        client.ask("register", agent="a1", id="x", machines={"m1": 1}, runs=[])
+        with case.failure("hangs"):
+            client.send(HELD, {"ask": "beat"}, {"ask": "beat"})
+            for _ in range(2):
+                told = json.loads(client.answers.readline())
+                require(told == {"tell": "lease", "lease": 300.0}, told)
+        answers = [client.answer() for _ in range(3)]
+        require([*map(list, answers)] == [["submit"], ["beat"], ["beat"]], answers)
+
+
 def unmade_room(setup: Setup) -> None:
     """Tasks that were to make room for a heavier one, which the disk has not taken, run as ever."""
     with setup.case("--most-in-firm=3").start_failing() as case, case.client() as client:
@@ -343,4 +356,4 @@ def hung_files(setup: Setup) -> None:
             require(took < SERVED_SECONDS, f"it took {took:.1f} s")
 
 
-CHECKS = (hostile_users, garbage, stops, hung_firmd, unwritten, unmade_room, hung_files)
+CHECKS = (hostile_users, garbage, stops, hung_firmd, unwritten, hung_disk, unmade_room, hung_files)

@@ -26,7 +26,8 @@ from harness.checks import Missed, require
 from harness.deployed import SERVICE, Doors, Firm
 
 QUEUE = [sys.executable, str(SERVICE / "firm-queue"), "run"]
-# A queue of which commits, or reads of all rows, fail while files of these names are there, and such reads take long.
+# A queue of which commits, or reads of all rows, fail while files of these names are there, and such reads take long;
+# while there is `hangs`, commits do.
 FAILING = """\
 import os, sqlite3, sys, time
 from firm_service.queue import daemon, queries
@@ -36,6 +37,8 @@ def require_no(sign):
     if os.path.exists(os.path.join(folder, sign)):
         raise sqlite3.OperationalError("disk I/O error")
 def failing_commit(store, changes):
+    while os.path.exists(os.path.join(folder, "hangs")):
+        time.sleep(0.05)
     require_no("commits")
     commit(store, changes)
 def failing_load(connection):
@@ -277,7 +280,7 @@ class StandIn:
             elif answer["tell"] == "end":
                 for token in answer["tokens"]:
                     self._end(token, "told")
-            else:
+            elif answer["tell"] == "keep":
                 self.disk.kept.update(answer["tokens"])
                 self._send({"ask": "kept", "tokens": answer["tokens"]})
         raise EOFError

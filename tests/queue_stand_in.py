@@ -61,6 +61,7 @@ class QueueStandIn:
         self.told: list[Row] = []  # all events, those too that came twice
         self.is_deaf = False  # to events
         self.is_full = False  # its disk
+        self.is_hung = False  # the same: nothing is answered any more on the connections that are there
         self.registrations = 0
         self.refuses: Callable[[Row], bool] = lambda event: False  # beside those that are no events, as a later queue
         self.loop = asyncio.new_event_loop()
@@ -134,7 +135,12 @@ class QueueStandIn:
                 return self._register(request, name, writer)
             case "beat" if name in self.agents:
                 self.agents[name].answered = clock()
+                if self.is_hung:
+                    writer.write(json.dumps({"tell": "lease", "lease": self.lease}).encode() + b"\n")
+                    return None
                 return {"beat": {"lease": self.lease}}
+            case _ if self.is_hung:
+                return None
             case "claim" if name in self.agents:
                 return {"claim": self._claim(request, name)}
             case "told" | "kept" if self.is_full:

@@ -4,6 +4,7 @@ from __future__ import annotations
 
 import asyncio
 import os
+from collections import deque
 from collections.abc import Coroutine, Sequence
 from pathlib import Path
 from typing import TYPE_CHECKING, Any
@@ -104,6 +105,7 @@ class QueueSource:
         self._claiming: set[int] = set()  # runs
         self._refused: dict[Key, str] = {}  # the machine on which a task is never to be run
         self._finished: dict[Key, float] = {}  # since when tasks have done their work and firm still has them
+        self._beats: deque[float] = deque()  # of the link, that are not known to have been heard: when they were sent
         self._told = ""  # why the queue can't be used, as last told
 
     @property
@@ -170,7 +172,7 @@ class QueueSource:
             raise ValueError(f"it is the queue of {tenant} now; this agent runs the tasks of {self._tenant.result()}")
         beat = await self._register(link)
         async with asyncio.TaskGroup() as group:
-            group.create_task(self._beat(link, beat))
+            group.create_task(self._beat(link, beat, group))
             group.create_task(self._tell_events(link))
 
     async def _register(self, link: Link) -> float:
@@ -189,6 +191,7 @@ class QueueSource:
         tell(INFO, f"registered as {self.name} with {', '.join(self.machines.slots)}")
         self._extend(asked, answer["lease"], answer["end"])
         self._link = link
+        self._beats.clear()
         self._end(answer["end"])
         self._keep(answer["keep"])
         self._wake()
@@ -209,12 +212,19 @@ class QueueSource:
         row = {"token": run.token, "task": run.key.task, "run": run.number, "machine": run.machine}
         return {**row, "state": state}
 
-    async def _beat(self, link: Link, seconds: float) -> None:
+    async def _beat(self, link: Link, seconds: float, group: asyncio.TaskGroup) -> None:
         while True:
             await asyncio.sleep(seconds)
-            asked = clock()
-            answer = await link.ask("beat", runs=[run.token for run in self.agent.history.runs.values()])
-            self._extend(asked, answer["beat"]["lease"])
+            group.create_task(self._beat_once(link))
+
+    async def _beat_once(self, link: Link) -> None:
+        """The answer waits for those before it, and so perhaps for the queue's disk; that it is there is told before."""
+        asked = clock()
+        self._beats.append(asked)
+        answer = await link.ask("beat", runs=[run.token for run in self.agent.history.runs.values()])
+        self._extend(asked, answer["beat"]["lease"])
+        if asked in self._beats:  # of a queue that tells nothing
+            self._beats.remove(asked)
 
     def _extend(self, asked: float, seconds: float, ending: Sequence[str] = ()) -> None:
         """Has all runs go on but those that are to end: one that has waited for its first lease would begin."""
@@ -270,6 +280,8 @@ class QueueSource:
             case {"tell": "again"}:
                 self._wake()
                 self.agent.changed.set()
+            case {"tell": "lease", "lease": seconds} if self._beats:
+                self._extend(self._beats.popleft(), float(seconds))
             case {"tell": "end", "tokens": tokens}:
                 self._end(tokens)
             case {"tell": "keep", "tokens": tokens}:

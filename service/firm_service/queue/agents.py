@@ -247,6 +247,7 @@ class Agents:
         if given.get("runs") is not None:
             agent.runs = frozenset(tokens_of(given, "runs"))
         agent.answered = boot_time()
+        session.tell({"tell": "lease", **self._granted()})  # its answer may wait behind one that waits for the disk
         return self._granted()
 
     def leave(self, session: Session) -> None:

@@ -123,6 +123,7 @@ come, between answers, objects with "tell", which are no answers:
     {"tell": "again"}                                 claims that were told to wait may be asked again now
     {"tell": "end", "tokens": [..], "why": WORDS}     these runs must end
     {"tell": "keep", "tokens": [..]}                  these runs go on although firm will have no row of them any more
+    {"tell": "lease", "lease": 60}                    the next beat was heard, whose answer may wait for others
 
 register, first: {"ask": "register", "agent": "a1", "id": ID, "machines": {"m1": 4, ..}, "runs": [RUN, ..]}
   id: that of the agent's own state folder (History.name), new with a new one. RUN: {"token": T, "task": firm's name,
@@ -140,7 +141,8 @@ register, first: {"ask": "register", "agent": "a1", "id": ID, "machines": {"m1":
   The queue says `machine m SLOTS` to firm for each that is not there (unless it is cordoned or drained).
 
 beat, every "beat" seconds: {"ask": "beat", "runs": [T, ..]} (all open ones; may be left out)
-  -> {"beat": {"lease": 60}}; `not-registered`: register again.
+  -> {"beat": {"lease": 60}}; `not-registered`: register again. The tell "lease" says the same at once: beats are sent
+  though those before have no answer, so that a disk of the queue's that hangs ends no lease.
   **The lease runs from the moment before the request was sent** (register or beat), not from its answer. Once it is
   over each supervisor ends its run by itself. lease + the longest grace of its runs + `--margin` (10 s) after the queue
   answered last, by CLOCK_BOOTTIME, it takes the runs for lost, drains the machines and lets the tasks start elsewhere.
