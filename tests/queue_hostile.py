@@ -270,6 +270,24 @@ def unwritten(setup: Setup) -> None:
         case.stop()
 
 
+def unwritten_end(setup: Setup) -> None:
+    """Who waits for a task whose end the disk does not take waits on, until it has ended there."""
+    with setup.case("--lease=300").start_failing() as case, case.client() as client, case.client() as waiting:
+        client.ask("register", agent="a1", id="x", machines={"m1": 1}, runs=[])
+        client.submit(*FOREVER)
+        client.ask("claim", token="aaaaaaaa", run=1, **claim_place(case))
+        end = {"token": "aaaaaaaa", "event": "ended", "status": 0, "asked": False}
+        waiting.send({"ask": "wait", "tasks": ["1"]})
+        with case.failure():
+            client.refused("not-written", "told", events=[end])
+            ended = client.ask("wait", tasks=["1"], seconds=0.1)
+            require(ended["1"]["state"] != "done", ended)
+        case.until(lambda: client.ask("status")["writes"]["are_good"], "it is written again")
+        client.ask("told", events=[end])
+        answer = waiting.answer()
+        require(answer.get("wait") == {"1": {"state": "done", "status": 0}}, answer)
+
+
 def hung_disk(setup: Setup) -> None:
     """While the disk hangs agents are told that their beats were heard, though answers before those wait."""
     with setup.case("--lease=300").start_failing() as case, case.client() as client:
@@ -356,4 +374,4 @@ def hung_files(setup: Setup) -> None:
             require(took < SERVED_SECONDS, f"it took {took:.1f} s")
 
 
-CHECKS = (hostile_users, garbage, stops, hung_firmd, unwritten, hung_disk, unmade_room, hung_files)
+CHECKS = (hostile_users, garbage, stops, hung_firmd, unwritten, unwritten_end, hung_disk, unmade_room, hung_files)

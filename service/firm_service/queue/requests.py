@@ -206,6 +206,7 @@ from .output import Output, pieces, tail_of
 from .queries import Asked
 from .rows import SINGLE, Attempt, Name, Submission, Task
 from .states import ENDED, Change, State
+from .store import NotWritten
 from .threads import Threads
 from .users import User, name_of, number_of
 
@@ -216,6 +217,7 @@ READ_AT_ONCE = 100  # submissions
 MOST_COMMAND_BYTES = 2**24  # of an answer: each row of an array has its command
 ROWS_AT_ONCE = 100  # that are made in a turn of the loop
 GONE_SECONDS = 5.0  # between two looks whether a client that waits is still there
+ANEW_SECONDS = 1.0  # until it is waited anew, where an end was not written
 OPERATORS_ALONE = {"cordon", "uncordon", "drain", "register", "beat", "claim", "told", "kept"}
 
 
@@ -546,11 +548,23 @@ class Requests:
         fields = Fields(given, ["ask", "tasks", "seconds"])
         texts, seconds = fields.texts("tasks", MOST_ASKED, 32), fields.number("seconds", 1e9)
         await self._submissions_of(caller.user, texts)
-        ends = asyncio.get_running_loop().time() + (1e10 if seconds is None else seconds)
+        loop = asyncio.get_running_loop()
+        ends = loop.time() + (1e10 if seconds is None else seconds)
+        while True:
+            try:
+                return await self._waited(caller, texts, ends)
+            except NotWritten:  # what has ended in memory alone has not ended: the rows are read anew
+                if loop.time() >= ends or caller.is_gone():
+                    raise
+            await asyncio.sleep(ANEW_SECONDS)
+
+    async def _waited(self, caller: Caller, texts: Sequence[str], ends: float) -> Json:
+        """What has become of tasks once they have ended, or the time is over; raises `NotWritten`."""
         await self._wait_for(caller, [name_from(text) for text in dict.fromkeys(texts)], ends)
-        tasks = await self._named(caller.user, texts)
+        tasks = (await self._named(caller.user, texts)).items()
+        found = {str(name): {"state": self._lists.state_of(task), "status": task.status} for name, task in tasks}
         await self._core.store.settled()
-        return {str(name): {"state": self._lists.state_of(task), "status": task.status} for name, task in tasks.items()}
+        return found
 
     async def _wait_for(self, caller: Caller, left: list[Name], ends: float) -> None:
         """Returns once tasks, or all of submissions, have ended, or the time is over."""

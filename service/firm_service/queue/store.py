@@ -119,6 +119,11 @@ class Store:
         """Returns once all changes so far are on the disk; raises `NotWritten`."""
         if self._is_ahead:
             raise NotWritten(self.why_bad)
+        if not self.why_bad:  # otherwise nothing is under way but tries
+            await self._committed_all()
+
+    async def _committed_all(self) -> None:
+        """Returns once all that is under way is on the disk; raises `NotWritten`."""
         pending = self._next or self._current
         if pending is not None:
             await asyncio.shield(pending)
@@ -136,7 +141,7 @@ class Store:
         """Whether the disk takes changes again, after a failure."""
         self._put("INSERT OR REPLACE INTO meta VALUES ('tried', ?)", [(secrets.token_hex(4),)])
         try:
-            await self.settled()
+            await self._committed_all()
         except NotWritten:
             return False
         return True
