@@ -359,6 +359,21 @@ def unknown_runs(setup: Setup) -> None:
         require(time.monotonic() - began > 10, "its lease was not over")
 
 
+def tokens_of_others(setup: Setup) -> None:
+    """A claim with the token of another open run is refused, and takes nothing from that."""
+    with setup.case("--lease=300").start() as case, case.client() as client, case.client() as agent:
+        agent.ask("register", agent="a1", id="x", machines={"m1": 2}, runs=[])
+        for _ in range(2):
+            client.submit(*FOREVER)
+        agent.ask("claim", token="aaaaaaaa", run=1, **claim_place(case, "1"))
+        agent.refused("bad-field", "claim", token="aaaaaaaa", run=2, **claim_place(case, "2"))
+        case.kill()
+        case.start()
+        with case.client() as again:
+            states = [attempt["outcome"] for attempt in again.ask("task", task="1")["attempts"]]
+            require(states == [None] and not again.ask("task", task="2")["attempts"], states)
+
+
 def numbers(setup: Setup) -> None:
     """Once the numbers of submissions are used up, what comes is refused, and what is there goes on."""
     with setup.case().start() as case, case.client() as client:
@@ -438,6 +453,7 @@ CHECKS: tuple[Callable[[Setup], None], ...] = (
         terminals,
         twins,
         unknown_runs,
+        tokens_of_others,
         numbers,
         jumping_clock,
         modes,

@@ -25,6 +25,7 @@ from .logs import INFO, WARNING, tell
 EVENTS = "events.jsonl"
 OPEN = "open"  # a folder with the start of each run that is open, for where the events are put back or moved away
 ENDS = frozenset({"ended", "lost", "void"})  # events that end a run
+TOKEN_BYTES = 16  # so many that no two of the runs of all times are the same
 FIRST = frozenset({"state", "start", "keep"})  # events on which something rests that a restart would not find out
 
 Event = dict[str, Any]
@@ -191,7 +192,7 @@ class State:
     def start(self, key: Key, row: Event) -> Run:
         """Records a run with a number of its own, before it is made; no restart can make it twice."""
         number = self.history.last_run + 1
-        place = {"folder": f"{self.history.name}/{key.task}.{number}", "token": secrets.token_hex(4)}
+        place = {"folder": f"{self.history.name}/{key.task}.{number}", "token": secrets.token_hex(TOKEN_BYTES)}
         self.record("start", run=number, **asdict(key), **row, **place)
         return self.history.runs[number]
 

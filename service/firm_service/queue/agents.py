@@ -325,6 +325,8 @@ class Agents:
         attempt, task = self.core.rows.open.get(claim.token), self.core.rows.task(claim.name)
         if attempt is not None and task is not None and (attempt.agent, attempt.name) == (agent.name, claim.name):
             return {"work": work_of(task, attempt)}
+        if attempt is not None:  # its row would be lost
+            raise bad("token", f"{claim.token} is the token of another run")
         if task is None or task.outcome is not None or task.is_cancelled:
             return {"void": "no task of the queue's" if task is None else task.outcome or "it is cancelled"}
         self.core.store.require_good()
