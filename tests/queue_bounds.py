@@ -374,6 +374,17 @@ def tokens_of_others(setup: Setup) -> None:
             require(states == [None] and not again.ask("task", task="2")["attempts"], states)
 
 
+def told_again(setup: Setup) -> None:
+    """What an agent says anew of a run, as after its own restart, does not change when that began."""
+    with setup.case("--lease=300").start() as case, case.client() as client, case.client() as agent:
+        agent.ask("register", agent="a1", id="x", machines={"m1": 1}, runs=[])
+        client.submit(*FOREVER)
+        agent.ask("claim", token="aaaaaaaa", run=1, **claim_place(case))
+        for at in (1_000.0, 5_000.0):
+            agent.ask("told", events=[{"token": "aaaaaaaa", "event": "running", "pid": 1, "time": at}])
+        require(client.ask("task", task="1")["began"] == 1_000.0, client.ask("task", task="1"))
+
+
 def numbers(setup: Setup) -> None:
     """Once the numbers of submissions are used up, what comes is refused, and what is there goes on."""
     with setup.case().start() as case, case.client() as client:
@@ -454,6 +465,7 @@ CHECKS: tuple[Callable[[Setup], None], ...] = (
         twins,
         unknown_runs,
         tokens_of_others,
+        told_again,
         numbers,
         jumping_clock,
         modes,

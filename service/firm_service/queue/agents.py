@@ -377,7 +377,9 @@ class Agents:
 
     def _hear(self, attempt: Attempt, event: Told) -> None:
         if event.end is None:
-            attempt.began, attempt.output, attempt.host = event.time, event.output, event.host
+            if attempt.began is None:  # an agent that has started again says that it still runs
+                attempt.began = event.time
+            attempt.output, attempt.host = event.output, event.host
             self.core.store.save_attempt(attempt)
             return
         if attempt.began is None and event.seconds is not None:
