@@ -385,6 +385,38 @@ def told_again(setup: Setup) -> None:
         require(client.ask("task", task="1")["began"] == 1_000.0, client.ask("task", task="1"))
 
 
+# A queue whose look-ups of what has ended begin late.
+LATE = """\
+import sys, time
+from firm_service.queue import daemon, queries
+def late(query):
+    def later(*values):
+        time.sleep(1)
+        return query(*values)
+    return later
+queries.ended, queries.forgotten = late(queries.ended), late(queries.forgotten)
+sys.exit(daemon.main(sys.argv[1:]))
+"""
+
+
+def meanwhile(setup: Setup) -> None:
+    """What is submitted, or ends, while the database is read is named, and shown once."""
+    with setup.case() as case:
+        case.words = [sys.executable, "-c", LATE, "run"]
+        case.start()
+        with case.client() as client, case.client() as other:
+            other.send({"ask": "cancel", "tasks": ["1"]})
+            time.sleep(0.5)
+            client.submit(*FOREVER, hold=True)
+            require(other.answer().get("cancel", {}).get("changed") == ["1"], client.ask("task", task="1"))
+            client.submit(*FOREVER, hold=True)
+            other.send({"ask": "tasks", "states": ["held", "cancelled"]})
+            time.sleep(0.5)
+            client.ask("cancel", tasks=["2"])
+            rows = [row["task"] for row in other.answer()["tasks"]]
+            require(rows == ["1", "2"], rows)
+
+
 def numbers(setup: Setup) -> None:
     """Once the numbers of submissions are used up, what comes is refused, and what is there goes on."""
     with setup.case().start() as case, case.client() as client:
@@ -466,6 +498,7 @@ CHECKS: tuple[Callable[[Setup], None], ...] = (
         unknown_runs,
         tokens_of_others,
         told_again,
+        meanwhile,
         numbers,
         jumping_clock,
         modes,

@@ -96,7 +96,9 @@ def forgotten(connection: sqlite3.Connection, numbers: Sequence[int], owner: int
         number: Submission(number, user, job, weight, WORDLESS, *rest)
         for number, user, job, weight, *rest in fetched(connection, f"{words} AND {IS_OWN}", [*numbers, owner, owner])
     }
-    words = f"SELECT number, idx, outcome, status FROM task WHERE number IN ({marks_of(found)}) LIMIT ?"
+    # One that was submitted since memory was looked at may have tasks that have not ended: memory has it by now.
+    words = f"SELECT number, idx, outcome, status FROM task WHERE number IN ({marks_of(found)})"
+    words += " AND outcome IS NOT NULL LIMIT ?"
     with closing(connection.execute(words, [*found, most])) as rows:
         for number, index, outcome, status in rows:
             submission = found[number]

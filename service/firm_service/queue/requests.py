@@ -412,7 +412,9 @@ class Requests:
         tasks, more = [task for task in self._visible(user) if chosen.has(task)], 0
         if chosen.states is not None:
             ended, more = await self._ended(user, chosen)
-            tasks = [task for task in tasks if self._lists.state_of(task) in chosen.states] + ended
+            found = {task.name: task for task in ended}  # some of which may have ended since memory was looked at
+            found |= {task.name: task for task in tasks if self._lists.state_of(task) in chosen.states}
+            tasks = [*found.values()]
         tasks.sort(key=lambda task: (task.submission.number, task.index))
         return tasks, more
 
@@ -547,7 +549,6 @@ class Requests:
     async def _wait(self, caller: Caller, given: Json) -> Json:
         fields = Fields(given, ["ask", "tasks", "seconds"])
         texts, seconds = fields.texts("tasks", MOST_ASKED, 32), fields.number("seconds", 1e9)
-        await self._submissions_of(caller.user, texts)
         loop = asyncio.get_running_loop()
         ends = loop.time() + (1e10 if seconds is None else seconds)
         while True:
@@ -560,6 +561,7 @@ class Requests:
 
     async def _waited(self, caller: Caller, texts: Sequence[str], ends: float) -> Json:
         """What has become of tasks once they have ended, or the time is over; raises `NotWritten`."""
+        await self._submissions_of(caller.user, texts)
         await self._wait_for(caller, [name_from(text) for text in dict.fromkeys(texts)], ends)
         tasks = (await self._named(caller.user, texts)).items()
         found = {str(name): {"state": self._lists.state_of(task), "status": task.status} for name, task in tasks}
