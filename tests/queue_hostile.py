@@ -301,6 +301,29 @@ def hung_disk(setup: Setup) -> None:
         require([*map(list, answers)] == [["submit"], ["beat"], ["beat"]], answers)
 
 
+def forgotten_as_it_ends(setup: Setup) -> None:
+    """Who follows the output of a task that memory forgets as it ends hears how it ended, however late that is written."""
+    count = 20_001  # more than memory keeps
+    with setup.case("--lease=300").start_failing() as case, ExitStack() as stack:
+        client, agent, other = (stack.enter_context(case.client()) for _ in range(3))
+        agent.ask("register", agent="a1", id="x", machines={"m1": 1}, runs=[])
+        client.submit(*FOREVER, hold=True, array=[1, count])
+        client.ask("release", tasks=["1_1"])
+        agent.ask("claim", token="aaaaaaaa", run=1, **claim_place(case))
+        output = case.folder / "output"
+        output.write_text("told")
+        event: Json = {"token": "aaaaaaaa", "event": "running", "pid": 1, "output": str(output)}
+        agent.ask("told", events=[event])
+        client.ask("cancel", tasks=[f"1_{index}" for index in range(2, count + 1)])
+        other.send({"ask": "log", "task": "1_1", "follow": True})
+        require(b64decode(other.answer()["log"]) == b"told", "it is followed")
+        with case.failure("hangs"):
+            agent.send({"ask": "told", "events": [{**event, "event": "ended", "status": 0, "asked": False}]})
+            time.sleep(2)
+        end = other.answer()
+        require(end.get("end", {}).get("state") == "done", end)
+
+
 def unmade_room(setup: Setup) -> None:
     """Tasks that were to make room for a heavier one, which the disk has not taken, run as ever."""
     with setup.case("--most-in-firm=3").start_failing() as case, case.client() as client:
@@ -374,4 +397,15 @@ def hung_files(setup: Setup) -> None:
             require(took < SERVED_SECONDS, f"it took {took:.1f} s")
 
 
-CHECKS = (hostile_users, garbage, stops, hung_firmd, unwritten, unwritten_end, hung_disk, unmade_room, hung_files)
+CHECKS = (
+    hostile_users,
+    garbage,
+    stops,
+    hung_firmd,
+    unwritten,
+    unwritten_end,
+    hung_disk,
+    forgotten_as_it_ends,
+    unmade_room,
+    hung_files,
+)

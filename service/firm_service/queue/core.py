@@ -98,6 +98,7 @@ class Core:
         """A submission, from the database where memory has it no more."""
         found = self.rows.submissions.get(number)
         if found is None and 0 < number <= self.rows.last_number:
+            await self.store.settled()  # what memory has just forgotten has ended on the disk too then
             read = await self.store.read(lambda connection: queries.submissions(connection, [number]))
             found = self.rows.submissions.get(number) or (read[0] if read else None)
         return found
