@@ -298,7 +298,7 @@ def hung_disk(setup: Setup) -> None:
                 told = json.loads(client.answers.readline())
                 require(told == {"tell": "lease", "lease": 300.0}, told)
         answers = [client.answer() for _ in range(3)]
-        require([*map(list, answers)] == [["submit"], ["beat"], ["beat"]], answers)
+        require([list(answer) for answer in answers] == [["submit"], ["beat"], ["beat"]], answers)
 
 
 def forgotten_as_it_ends(setup: Setup) -> None:
@@ -337,18 +337,45 @@ def unmade_room(setup: Setup) -> None:
         require([end["state"] for end in ends.values()] == ["done"] * 3, f"{ends} {client.ask('tasks')}")
 
 
-# A queue that waits a moment for what hangs, as the look-up of the user `hung` does.
+# A queue that waits a moment for what hangs, as the look-ups of the user `hung`, and of one number, do.
 IMPATIENT = """\
 import pwd, sys, time
 from firm_service.queue import daemon, threads
-known, threads.PATIENCE_SECONDS = pwd.getpwnam, 1.0
-def hanging(name):
-    if name == "hung":
-        time.sleep(40)
-    return known(name)
-pwd.getpwnam = hanging
+names, numbers, threads.PATIENCE_SECONDS = pwd.getpwnam, pwd.getpwuid, 1.0
+def hanging(known, hung):
+    def get(what):
+        if what == hung:
+            time.sleep(40)
+        return known(what)
+    return get
+pwd.getpwnam, pwd.getpwuid = hanging(names, "hung"), hanging(numbers, 61_103)
 sys.exit(daemon.main(sys.argv[1:]))
 """
+NAMELESS = 61_103
+
+
+def hung_names(setup: Setup) -> None:
+    """Where the look-up of a user's name hangs, that user has a number in its place, and nobody else waits."""
+    if os.geteuid():
+        raise Skipped("it needs root, to be other users")
+    with setup.case("--socket-mode=666") as case:
+        case.words = [sys.executable, "-c", IMPATIENT, "run"]
+        case.start()
+        case.folder.chmod(0o755)
+        began = time.monotonic()
+        with hog(NAMELESS, case.socket, [line(HELD)] * 3):
+            require_served(case, BOB)
+        found = as_user(NAMELESS, case.socket, [HELD, {"ask": "status"}])
+        require(found[0].get("submit", {}).get("job") == f"u{NAMELESS}", found)
+        require(found[1]["status"]["user"] == str(NAMELESS), found)
+        case.kill()
+        case.start()
+        with case.client() as client:
+            users = {row["user"] for row in client.ask("tasks")}
+            require(users == {str(NAMELESS)}, users)
+        case.stop()
+        took = time.monotonic() - began
+        require(took < SERVED_SECONDS, f"it took {took:.1f} s")
 
 
 @contextmanager
@@ -407,5 +434,6 @@ CHECKS = (
     hung_disk,
     forgotten_as_it_ends,
     unmade_room,
+    hung_names,
     hung_files,
 )

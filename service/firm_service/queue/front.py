@@ -65,6 +65,7 @@ class Front:
                 writer.write(encode(TOO_MANY.answer()))
             else:
                 connection = self._enter(user, reader, writer)
+                await self.requests.know(user, [user.number])  # before all requests, whose order is kept
                 await connection.serve()
             writer.close()
             async with asyncio.timeout(PATIENCE_SECONDS):

@@ -190,6 +190,7 @@ import time
 from base64 import b64encode
 from collections import Counter, defaultdict
 from collections.abc import AsyncIterator, Awaitable, Callable, Iterable, Mapping, Sequence
+from contextlib import suppress
 from dataclasses import dataclass, replace
 from functools import partial
 from graphlib import CycleError, TopologicalSorter
@@ -208,7 +209,7 @@ from .rows import SINGLE, Attempt, Name, Submission, Task
 from .states import ENDED, Change, State
 from .store import NotWritten
 from .threads import Threads
-from .users import User, name_of, number_of
+from .users import User, is_known, look_up, name_of, number_of, presume
 
 MOST_SUBMISSIONS, MOST_ASKED, MOST_ROWS, DEFAULT_ROWS = 10_000, 100_000, 100_000, 10_000
 # Of what has ended long ago, for one request: tasks, and bytes that the words take, where they are read.
@@ -218,6 +219,7 @@ MOST_COMMAND_BYTES = 2**24  # of an answer: each row of an array has its command
 ROWS_AT_ONCE = 100  # that are made in a turn of the loop
 GONE_SECONDS = 5.0  # between two looks whether a client that waits is still there
 ANEW_SECONDS = 1.0  # until it is waited anew, where an end was not written
+NAMING = {"tasks", "ps", "jobs", "status"}  # their answers name users of tasks that have not ended
 OPERATORS_ALONE = {"cordon", "uncordon", "drain", "register", "beat", "claim", "told", "kept"}
 
 
@@ -310,6 +312,9 @@ class Requests:
             raise Refused("bad-request", f"nothing to be asked: {ask!r}")
         if ask in OPERATORS_ALONE and not caller.user.is_operator:
             raise Refused("operator-only", f"{ask} is asked by operators alone")
+        if ask in NAMING:
+            others = self._core.rows.live_of_user if caller.user.is_operator else ()
+            await self.know(caller.user, (caller.user.number, *others))
         found = await handler(caller, given)
         return {ask: found, "more": found.more} if isinstance(found, (Listed, Shown)) else {ask: found}
 
@@ -439,6 +444,15 @@ class Requests:
         job, owner = fields.name("job"), await self._user(user, fields)
         return Chosen(owner, job, wanted, names, DEFAULT_ROWS if limit is None else limit)
 
+    async def know(self, user: User, numbers: Iterable[int]) -> None:
+        """Looks up names of users for one of them, which may hang: what is not known in time has its number for now."""
+        unknown = [number for number in set(numbers) if not is_known(number)]
+        if unknown:
+            with suppress(TimeoutError):
+                await self._threads.do(user.number, lambda: [*map(look_up, unknown)])
+            for number in unknown:
+                presume(number)
+
     async def _user(self, user: User, fields: Fields) -> int | None:
         """The user that a request of this one names; None where it names none."""
         text = fields.text("user", 100)
@@ -468,12 +482,14 @@ class Requests:
         owner = chosen.user if user.is_operator else user.number
         asked = Asked(user=owner, job=chosen.job, outcomes=outcomes, limit=chosen.limit)
         read, more = await self._core.store.read(lambda connection: queries.ended(connection, asked, MOST_READ_BYTES))
+        await self.know(user, [submission.user for submission in read])
         return [task for submission in read for task in submission.tasks.values()], more
 
     async def _task(self, caller: Caller, given: Json) -> Json:
         fields = Fields(given, ["ask", "task"])
         task = await self._one(caller.user, fields.text("task", 32))
         attempts = await self._core.store.read(lambda connection: queries.attempts_of(connection, task.name))
+        await self.know(caller.user, [task.submission.user])
         return self._lists.detail(task, attempts)
 
     async def _history(self, caller: Caller, given: Json) -> Any:
@@ -491,6 +507,7 @@ class Requests:
         asked = Asked(user, fields.name("job"), frozenset(), None, None, name, limit + 1)
         asked = replace(asked, since=time_from(fields, "since"), until=time_from(fields, "until"))
         rows = await self._core.store.read(lambda connection: queries.history(connection, asked))
+        await self.know(caller.user, [row["user"] for row in rows])
         for row in rows:
             row["user"] = name_of(row["user"])
         return Listed(rows[1:] if len(rows) > limit else rows, int(len(rows) > limit))

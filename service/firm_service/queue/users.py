@@ -7,11 +7,12 @@ import pwd
 import re
 import socket
 from dataclasses import dataclass
-from functools import lru_cache
 
 from ..sight import ROOT, Peer
 
 MOST_NAME = 16  # letters, of a job in firm
+MOST_KNOWN = 65_536  # users whose names are kept
+_names: dict[int, str] = {}  # that were looked up
 
 
 @dataclass(frozen=True, slots=True)
@@ -48,13 +49,31 @@ class Operators:
         return User(number, number in (ROOT, os.geteuid()))
 
 
-@lru_cache(maxsize=4_096)
 def name_of(number: int) -> str:
     """A user's login name, or the number where there is none."""
+    return _names.get(number) or look_up(number)
+
+
+def look_up(number: int) -> str:
+    """The same, asked of the directory of users, which may hang."""
     try:
-        return pwd.getpwuid(number).pw_name
+        found = pwd.getpwuid(number).pw_name
     except KeyError:
-        return str(number)
+        found = str(number)
+    if len(_names) >= MOST_KNOWN:
+        _names.clear()
+    _names[number] = found
+    return found
+
+
+def is_known(number: int) -> bool:
+    """Whether a user's name is there without a look-up."""
+    return number in _names
+
+
+def presume(number: int) -> None:
+    """Has a user no other name than the number, until a look-up has an end."""
+    _names.setdefault(number, str(number))
 
 
 def number_of(name: str) -> int | None:
