@@ -31,7 +31,7 @@ from harness.files import write_program
 from queue_stand_in import LONG_SECONDS, Cluster, Row, clock
 
 AT_A_TIME = 8  # checks, which mostly wait
-LEASE_SECONDS, SHORT_LEASE_SECONDS = 10.0, 3.0  # where it is to end
+LEASE_SECONDS = 10.0  # where it is to end
 BUSY_SECONDS = 40  # at most, by which anything is late on a busy host
 TURNS = 16  # of a loop: a lost connection is taken in within fewer
 NOBODY = 65534
@@ -128,38 +128,6 @@ def held_up() -> None:
         words = [sys.executable, "-c", WAITS_FOR_DISK, str(case.folder)]
         done = subprocess.run(words, stdin=subprocess.DEVNULL, capture_output=True, text=True, timeout=LONG_SECONDS)
         require((done.stdout, done.returncode) == ("timeout\n", 0), done)
-
-
-def ended_as_it_begins() -> None:
-    """A run whose end is asked for right behind its first lease, and comes with it, is not begun."""
-    with Case("") as case:
-        rows: Row = {"folder": str(case.folder / "run"), "token": "aaaaaaaa", "command": "touch begun; sleep 1000"}
-        request = {**rows, "directory": str(case.folder), "grace": 0.5, "is_leased": True}
-        text = f"{json.dumps(request)}\nlease {clock() + LONG_SECONDS:.3f}\nend\n"
-        words = [sys.executable, supervisor.__file__]
-        done = subprocess.run(words, input=text, capture_output=True, text=True, timeout=LONG_SECONDS)
-        told = [json.loads(line)["event"] for line in done.stdout.splitlines()]
-        require(told == ["clock", "void"] and not (case.folder / "begun").exists(), done)
-
-
-def lost_before_it_began() -> None:
-    """A run that was taken for lost before its first lease is not begun once its agent is registered again."""
-    with Cluster("a", lease=SHORT_LEASE_SECONDS) as case:
-        (case.folder / "host").mkdir()
-        (case.folder / "host/.bashrc").write_text("until [ -e go ]; do sleep 0.05; done\n")
-        case.start_over_ssh()
-        case.firmd.round("start a m1")
-        case.until(lambda: case.queue.attempts, "it is claimed")
-        case.queue.close()
-        time.sleep(2 * SHORT_LEASE_SECONDS)
-        (case.folder / "host/go").touch()
-        case.until(lambda: list(case.folder.glob("host/**/a.1")), "its supervisor is there")
-        time.sleep(SOON_SECONDS)
-        case.queue.attempts[case.queue.token("a")].is_open = False
-        case.queue.open()
-        case.until(lambda: case.queue.told, "what became of it is told")
-        require([event["event"] for event in case.queue.told] == ["void"], case.queue.told)
-        require(not case.text("a.log"), "it was begun")
 
 
 def not_claimed() -> None:
@@ -320,47 +288,6 @@ def queue_away() -> None:
         time.sleep(SOON_SECONDS)
         require(len(case.queue.told) == heard, case.queue.told[heard:])
         require((case.text("a.log"), case.text("b.log")) == ("begin m1\nend\n", "begin m1\nend\n"), "each ran once")
-
-
-def queue_full() -> None:
-    """While the queue's disk is full its agents keep their connections, and tell what has happened once it has room."""
-    with Cluster("a", "b") as case:
-        case.start_registered()
-        case.firmd.round("start a m1")
-        case.until_told("running", "a")
-        case.queue.is_full = True
-        case.queue.tell("a1", tell="keep", tokens=[case.queue.token("a")])
-        case.firmd.round("start b m1")
-        case.until_begun("a", "b")
-        case.go("a")
-        case.until_runs("b")
-        case.until(lambda: "not-written" in case.told(), "it is told")
-        time.sleep(SOON_SECONDS)
-        require(case.queue.registrations == 1, f"it has registered {case.queue.registrations} times")
-        case.queue.is_full = False
-        require(case.until_told("ended", "a")["status"] == 0, "how a ended")
-        case.until_told("running", "b")
-        case.until(lambda: case.queue.kept, "that a was kept")
-
-
-def queue_hung() -> None:
-    """Where the queue hears beats, and its disk has it answer nothing, what runs goes on."""
-    with Cluster("a", "b", lease=SHORT_LEASE_SECONDS) as case:
-        case.start_registered()
-        case.firmd.round("start a m1")
-        case.until_told("running", "a")
-        case.until_begun("a")
-        case.queue.is_hung = True
-        case.firmd.round("start b m1")
-        time.sleep(3 * SHORT_LEASE_SECONDS)
-        require(case.processes().keys() == {"a"}, case.processes())
-        case.queue.close()
-        case.queue.is_hung = False
-        case.queue.open()
-        case.go("a", "b")
-        for task in "ab":
-            require(case.until_told("ended", task)["status"] == 0, f"how {task} ended")
-        require(case.text("a.log") == "begin m1\nend\n", case.text("a.log"))
 
 
 def time_limit() -> None:
@@ -803,12 +730,8 @@ QUICK = [
     life,
     not_started,
     held_up,
-    ended_as_it_begins,
-    lost_before_it_began,
     moved_between_agents,
     queue_away,
-    queue_full,
-    queue_hung,
     time_limit,
     killed_supervisor,
     stopped_as_its_queue_goes,

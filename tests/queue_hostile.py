@@ -302,7 +302,7 @@ def hung_disk(setup: Setup) -> None:
 
 
 def forgotten_as_it_ends(setup: Setup) -> None:
-    """Who follows the output of a task that memory forgets as it ends hears how it ended, however late that is written."""
+    """Who follows the output of a task that memory forgets as it ends hears its end, however late it is written."""
     count = 20_001  # more than memory keeps
     with setup.case("--lease=300").start_failing() as case, ExitStack() as stack:
         client, agent, other = (stack.enter_context(case.client()) for _ in range(3))

@@ -1,5 +1,5 @@
 """Asks what becomes of tasks' processes when the supervisor, the agent or the agent's events are lost, and of agents to
-which others say something in a supervisor's place.
+which others say something in a supervisor's place, or whose queue is late, full or hung.
 
 usage: tools/run tests/supervision.py [--quick] [--only WORDS]
 Each check has a line; the last line is 'N passed, M failed', and the exit status is 1 where one failed. It needs Python
@@ -27,10 +27,12 @@ from agent_kit import SOON_SECONDS, SSH, WAITS_FOR_GO, Case, command, is_there
 from firm_service.agent_state import Key, Run
 from firm_service.agent_words import Teller
 from harness.checks import Check, Skipped, Suite, print_skipped, require, run_script, run_suites
+from harness.deployed import supervisor
 from harness.files import write_program
-from queue_stand_in import Cluster
+from queue_stand_in import LONG_SECONDS, Cluster, Row, clock
 
 AT_A_TIME = 6  # checks, which mostly wait
+LEASE_SECONDS = 3.0  # where it is to end
 LOOK_SECONDS = 1.0  # in which a hidden process has changed its number, on a busy host too
 FLOOD_SECONDS = 2.0  # of a processor, for what takes more than four where each line is looked at
 UNKEPT = "this host: tasks have no cgroups"  # as the agent tells it
@@ -531,6 +533,82 @@ def left_behind() -> None:
         require(not is_there(int(case.text("host/keeps"))), "what stood for ssh is there")
 
 
+# The lease, and the queue that gives it.
+
+
+def ended_as_it_begins() -> None:
+    """A run whose end is asked for right behind its first lease, and comes with it, is not begun."""
+    with Case("") as case:
+        rows: Row = {"folder": str(case.folder / "run"), "token": "aaaaaaaa", "command": "touch begun; sleep 1000"}
+        request = {**rows, "directory": str(case.folder), "grace": 0.5, "is_leased": True}
+        text = f"{json.dumps(request)}\nlease {clock() + LONG_SECONDS:.3f}\nend\n"
+        words = [sys.executable, supervisor.__file__]
+        done = subprocess.run(words, input=text, capture_output=True, text=True, timeout=LONG_SECONDS)
+        told = [json.loads(line)["event"] for line in done.stdout.splitlines()]
+        require(told == ["clock", "void"] and not (case.folder / "begun").exists(), done)
+
+
+def lost_before_it_began() -> None:
+    """A run that was taken for lost before its first lease is not begun once its agent is registered again."""
+    with Cluster("a", lease=LEASE_SECONDS) as case:
+        (case.folder / "host").mkdir()
+        (case.folder / "host/.bashrc").write_text("until [ -e go ]; do sleep 0.05; done\n")
+        case.start_over_ssh()
+        case.firmd.round("start a m1")
+        case.until(lambda: case.queue.attempts, "it is claimed")
+        case.queue.close()
+        time.sleep(2 * LEASE_SECONDS)
+        (case.folder / "host/go").touch()
+        case.until(lambda: list(case.folder.glob("host/**/a.1")), "its supervisor is there")
+        time.sleep(SOON_SECONDS)
+        case.queue.attempts[case.queue.token("a")].is_open = False
+        case.queue.open()
+        case.until(lambda: case.queue.told, "what became of it is told")
+        require([event["event"] for event in case.queue.told] == ["void"], case.queue.told)
+        require(not case.text("a.log"), "it was begun")
+
+
+def queue_full() -> None:
+    """While the queue's disk is full its agents keep their connections, and tell what has happened once it has room."""
+    with Cluster("a", "b") as case:
+        case.start_registered()
+        case.firmd.round("start a m1")
+        case.until_told("running", "a")
+        case.queue.is_full = True
+        case.queue.tell("a1", tell="keep", tokens=[case.queue.token("a")])
+        case.firmd.round("start b m1")
+        case.until_begun("a", "b")
+        case.go("a")
+        case.until_runs("b")
+        case.until(lambda: "not-written" in case.told(), "it is told")
+        time.sleep(SOON_SECONDS)
+        require(case.queue.registrations == 1, f"it has registered {case.queue.registrations} times")
+        case.queue.is_full = False
+        require(case.until_told("ended", "a")["status"] == 0, "how a ended")
+        case.until_told("running", "b")
+        case.until(lambda: case.queue.kept, "that a was kept")
+
+
+def queue_hung() -> None:
+    """Where the queue hears beats, and its disk has it answer nothing, what runs goes on."""
+    with Cluster("a", "b", lease=LEASE_SECONDS) as case:
+        case.start_registered()
+        case.firmd.round("start a m1")
+        case.until_told("running", "a")
+        case.until_begun("a")
+        case.queue.is_hung = True
+        case.firmd.round("start b m1")
+        time.sleep(3 * LEASE_SECONDS)
+        require(case.processes().keys() == {"a"}, case.processes())
+        case.queue.close()
+        case.queue.is_hung = False
+        case.queue.open()
+        case.go("a", "b")
+        for task in "ab":
+            require(case.until_told("ended", task)["status"] == 0, f"how {task} ended")
+        require(case.text("a.log") == "begin m1\nend\n", case.text("a.log"))
+
+
 def name_of(check: Check) -> str:
     return check.__name__.replace("_", " ")
 
@@ -557,6 +635,10 @@ def checks(is_quick: bool) -> dict[str, Check]:
         standard_error,
         flood,
         left_behind,
+        ended_as_it_begins,
+        lost_before_it_began,
+        queue_full,
+        queue_hung,
     ):
         found[name_of(check)] = check
     for is_moved, how in ((False, "put back"), (True, "moved away")):

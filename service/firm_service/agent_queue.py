@@ -218,7 +218,7 @@ class QueueSource:
             group.create_task(self._beat_once(link))
 
     async def _beat_once(self, link: Link) -> None:
-        """The answer waits for those before it, and so perhaps for the queue's disk; that it is there is told before."""
+        """Its answer waits for those before it, and so perhaps for the queue's disk; what it grants is told at once."""
         asked = clock()
         self._beats.append(asked)
         answer = await link.ask("beat", runs=[run.token for run in self.agent.history.runs.values()])

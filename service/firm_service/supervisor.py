@@ -743,7 +743,7 @@ def lease_of(line: bytes) -> float | None:
 
 
 def first_lease(orders: Orders) -> float:
-    """When the first lease ends; 0 where the run is not to be begun any more, as where an end is asked for behind it."""
+    """When the first lease ends; 0 where the run is not to be begun any more, as its end is asked for behind that."""
     untils = [lease_of(line) for line in orders.take()]
     known = [until for until in untils if until is not None and until > clock()]
     return max(known) if known and None not in untils else 0.0

@@ -12,6 +12,7 @@ from .rows import DEFAULT_GRACE, MOST_INDEX, Spec
 MOST_WORDS, MOST_LETTERS, MOST_NAMES, MOST_PATH = 10_000, 128 * 1024, 1_000, 4_096
 MOST_NEAR, MOST_NEEDS, MOST_WEIGHT, MOST_KEY, MOST_LABEL = 4, 10_000, 1_000_000, 128, 128
 MOST_RETRIES, MOST_GRACE, MOST_SECONDS, MOST_BYTES, MOST_PROCESSORS = 100, 3_600.0, 1e9, 2**60, 1e6
+MOST_TIME = 1e12  # seconds of the Unix clock
 NAME = re.compile(r"[a-z0-9-]{1,16}")
 VARIABLE = re.compile(r"[A-Za-z_][A-Za-z0-9_]*")
 Json = dict[str, Any]
@@ -96,6 +97,14 @@ class Fields:
         is_number = type(value) in (int, float) and 0 <= value <= high  # no NaN is
         if not is_number or value == 0 and not is_zero:
             raise bad(field, f"a number {'from' if is_zero else 'above'} 0, up to {high:,.0f}")
+        return float(value)
+
+    def time(self, field: str) -> float | None:
+        value = self.get(field)
+        if value is None:
+            return None
+        if type(value) not in (int, float) or not abs(value) < MOST_TIME:
+            raise bad(field, "seconds of the Unix clock")
         return float(value)
 
     def flag(self, field: str) -> bool:

@@ -505,7 +505,7 @@ class Requests:
         given_limit = fields.whole("limit", 0, MOST_ROWS)
         limit = DEFAULT_ROWS if given_limit is None else given_limit
         asked = Asked(user, fields.name("job"), frozenset(), None, None, name, limit + 1)
-        asked = replace(asked, since=time_from(fields, "since"), until=time_from(fields, "until"))
+        asked = replace(asked, since=fields.time("since"), until=fields.time("until"))
         rows = await self._core.store.read(lambda connection: queries.history(connection, asked))
         await self.know(caller.user, [row["user"] for row in rows])
         for row in rows:
@@ -777,15 +777,6 @@ def name_from(text: str) -> Name:
     if name is None:
         raise Refused("no-such-task", f"{text}: no such task")
     return name
-
-
-def time_from(fields: Fields, field: str) -> float | None:
-    value = fields.get(field)
-    if value is None:
-        return None
-    if type(value) not in (int, float) or not abs(value) < 1e12:
-        raise bad(field, "seconds of the Unix clock")
-    return float(value)
 
 
 def require_acyclic(asked: list[Submit]) -> None:
