@@ -13,7 +13,7 @@ import sys
 import time
 from base64 import b64decode
 from collections.abc import Iterator, Sequence
-from contextlib import ExitStack, contextmanager, suppress
+from contextlib import ExitStack, closing, contextmanager, suppress
 from pathlib import Path
 from typing import NamedTuple, NoReturn
 
@@ -301,6 +301,20 @@ def hung_disk(setup: Setup) -> None:
         require([list(answer) for answer in answers] == [["submit"], ["beat"], ["beat"]], answers)
 
 
+def unread(setup: Setup) -> None:
+    """While the database can't be read for a moment, what needs it is refused or waits, and the queue serves on."""
+    with setup.case().start_failing() as case, case.client() as client:
+        with case.failure("looks"), closing(socket.socket(socket.AF_UNIX)) as lines:
+            lines.connect(str(case.doors.lines))
+            lines.sendall(b"alpha job others 1\nalpha task others 77\n")  # whose name may be one of the queue's own
+            case.until(lambda: "cannot read" in case.said(), "it is told")
+            client.refused("not-read", "history")
+            require(client.submit(*FOREVER) == 78, "the next number")
+        case.until(lambda: "78" in case.firm_tasks(), "it is in firm")
+        require(client.ask("history") == [], "it is read again")
+        case.stop()
+
+
 def forgotten_as_it_ends(setup: Setup) -> None:
     """Who follows the output of a task that memory forgets as it ends hears its end, however late it is written."""
     count = 20_001  # more than memory keeps
@@ -432,6 +446,7 @@ CHECKS = (
     unwritten,
     unwritten_end,
     hung_disk,
+    unread,
     forgotten_as_it_ends,
     unmade_room,
     hung_names,

@@ -26,13 +26,13 @@ from harness.checks import Missed, require
 from harness.deployed import SERVICE, Doors, Firm
 
 QUEUE = [sys.executable, str(SERVICE / "firm-queue"), "run"]
-# A queue of which commits, or reads of all rows, fail while files of these names are there, and such reads take long;
-# while there is `hangs`, commits do.
+# A queue of which commits, reads of all rows, or all looks at the database fail while files of these names are there,
+# and such reads take long; while there is `hangs`, commits do.
 FAILING = """\
 import os, sqlite3, sys, time
 from firm_service.queue import daemon, queries
 from firm_service.queue.store import Store
-commit, load, folder = Store._commit, queries.load, sys.argv.pop(1)
+commit, read, load, folder = Store._commit, Store._read, queries.load, sys.argv.pop(1)
 def require_no(sign):
     if os.path.exists(os.path.join(folder, sign)):
         raise sqlite3.OperationalError("disk I/O error")
@@ -46,7 +46,10 @@ def failing_load(connection):
     found = load(connection)
     time.sleep(0.3)
     return found
-Store._commit, queries.load = failing_commit, failing_load
+def failing_read(store, query):
+    require_no("looks")
+    return read(store, query)
+Store._commit, Store._read, queries.load = failing_commit, failing_read, failing_load
 sys.exit(daemon.main(sys.argv[1:]))
 """
 ANN, BOB = 61_101, 61_102  # users without names

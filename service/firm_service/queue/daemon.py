@@ -8,6 +8,7 @@ import grp
 import signal
 import sqlite3
 from collections.abc import Coroutine
+from contextlib import suppress
 from dataclasses import dataclass
 from functools import partial
 from pathlib import Path
@@ -177,9 +178,11 @@ class Queue:
         known: str | None = None
         while True:
             if self._firm.book is not None and self._firm.state != known:
-                known = self._firm.state
-                await self._core.know_jobs()
-                self._firm.changed.set()
+                state = self._firm.state
+                with suppress(sqlite3.Error):  # of a disk that fails: it is looked again
+                    await self._core.know_jobs()
+                    known = state
+                    self._firm.changed.set()
             await asyncio.sleep(TRY_SECONDS)
 
 

@@ -6,6 +6,7 @@ import asyncio
 import json
 import select
 import socket
+import sqlite3
 from collections import Counter
 from collections.abc import AsyncIterator, Callable
 from contextlib import suppress
@@ -326,6 +327,8 @@ class Connection:
             return error.answer()
         if isinstance(error, NotWritten):
             return Refused("not-written", str(error)).answer()
+        if isinstance(error, sqlite3.Error):
+            return Refused("not-read", f"the database can't be read: {error}").answer()
         self._front.faults.note("request", error)
         return Refused("internal", f"an error of firm-queue's: {error!r}").answer()
 

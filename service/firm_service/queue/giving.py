@@ -3,6 +3,7 @@
 from __future__ import annotations
 
 import asyncio
+import sqlite3
 import time
 from collections.abc import Callable
 from dataclasses import dataclass
@@ -14,7 +15,7 @@ from .firm import Away, Reply
 from .store import NotWritten
 
 AWAY_SECONDS = 0.2  # until firmd is tried again
-FULL_SECONDS = 1.0  # until a task is given again after firm had no room for it
+FULL_SECONDS = 1.0  # until a task is given again after firm had no room for it, or the disk failed
 WORN_SECONDS = 10.0
 # A round is asked for this multiple of the duration of the one before it after that, and at most this long.
 ROUND_SHARE, LONGEST_ROUND_PAUSE = 2, 0.2
@@ -58,6 +59,9 @@ class Giver:
                 self._told = ""
             except NotWritten:
                 pass  # the rows are read anew then
+            except sqlite3.Error as error:  # as of a disk that fails for a moment
+                self._tell(f"cannot read {self._core.store.path}: {error}")
+                self._again(FULL_SECONDS)
             except Away as error:
                 self._tell(str(error))
                 self._core.leaving.clear()
@@ -72,6 +76,8 @@ class Giver:
         if core.strangers:
             await core.know_strangers()
         core.sort()
+        if core.strangers:  # they are looked for in a further step, whatever else happens
+            core.firm.changed.set()
         lines = self._plan()
         if not lines:
             return

@@ -178,7 +178,7 @@ kept: {"ask": "kept", "tokens": [..]} -> {"kept": n}, once the agent has recorde
 
 Errors of any request: `bad-request` (no JSON, no object, nothing to be asked), `bad-field`, `too-long` (the connection
 is closed), `too-many-clients` (the same), `operator-only`, `not-written` (the disk is full or fails: nothing is
-changed), `not-registered`, `stopping`.
+changed), `not-read` (it fails, and memory does not have what is asked), `not-registered`, `stopping`.
 """
 
 from __future__ import annotations
