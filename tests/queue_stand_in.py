@@ -62,7 +62,7 @@ class QueueStandIn:
         self.is_deaf = False  # to events
         self.is_full = False  # its disk
         self.is_hung = False  # the same: nothing is answered any more on the connections that are there
-        self.registrations = 0
+        self.registrations = self.unanswered = 0
         self.refuses: Callable[[Row], bool] = lambda event: False  # beside those that are no events, as a later queue
         self.loop = asyncio.new_event_loop()
         self.loop.set_exception_handler(lambda *_: None)  # agents are killed, and so their connections fail
@@ -139,7 +139,8 @@ class QueueStandIn:
                     writer.write(json.dumps({"tell": "lease", "lease": self.lease}).encode() + b"\n")
                     return None
                 return {"beat": {"lease": self.lease}}
-            case _ if self.is_hung:
+            case ask if self.is_hung:
+                self.unanswered += ask == "claim"
                 return None
             case "claim" if name in self.agents:
                 return {"claim": self._claim(request, name)}

@@ -24,6 +24,7 @@ from functools import partial
 from pathlib import Path
 
 from agent_kit import SOON_SECONDS, SSH, WAITS_FOR_GO, Case, command, is_there
+from firm_service.agent_queue import MOST_CLAIMS
 from firm_service.agent_state import Key, Run
 from firm_service.agent_words import Teller
 from harness.checks import Check, Skipped, Suite, print_skipped, require, run_script, run_suites
@@ -609,6 +610,18 @@ def queue_hung() -> None:
         require(case.text("a.log") == "begin m1\nend\n", case.text("a.log"))
 
 
+def claims_at_a_time() -> None:
+    """However many tasks are placed, few claims wait for their answers, so that the queue hears beats behind them."""
+    tasks = [f"t{at}" for at in range(160)]
+    with Cluster(*tasks) as case:
+        case.start_registered(machines="m1=64,m2=64,m3=64")
+        case.queue.is_hung = True
+        case.firmd.round(" ".join(f"start {task} m{at % 3 + 1}" for at, task in enumerate(tasks)))
+        case.until(lambda: case.queue.unanswered >= MOST_CLAIMS, "they are claimed")
+        time.sleep(SOON_SECONDS)
+        require(case.queue.unanswered == MOST_CLAIMS, f"{case.queue.unanswered} claims wait")
+
+
 def name_of(check: Check) -> str:
     return check.__name__.replace("_", " ")
 
@@ -639,6 +652,7 @@ def checks(is_quick: bool) -> dict[str, Check]:
         lost_before_it_began,
         queue_full,
         queue_hung,
+        claims_at_a_time,
     ):
         found[name_of(check)] = check
     for is_moved, how in ((False, "put back"), (True, "moved away")):

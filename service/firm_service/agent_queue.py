@@ -28,6 +28,7 @@ SHORTEST_PAUSE, LONGEST_PAUSE = 0.1, 2.0  # seconds between two tries to reach t
 REGISTER_SECONDS = 2.0  # between two tries to register, and to ask for what was refused
 DONE_SECONDS = 2.0  # for which firm may still have a task that has done its work
 ROOM_SECONDS = 1.0  # between two looks whether the disk has room again
+MOST_CLAIMS = 128  # that wait for answers: behind too many the queue would hear no beat
 MOST_USER = 2**32 - 2  # the next number stands for no user
 WORK_FIELDS = ("command", "dir", "env", "output", "time", "grace", "memory", "processors", "user")
 
@@ -103,6 +104,7 @@ class QueueSource:
         self._link: Link | None = None  # while the agent is registered
         self._news = asyncio.Event()  # of claims; another one after each
         self._claiming: set[int] = set()  # runs
+        self._asking = asyncio.Semaphore(MOST_CLAIMS)
         self._refused: dict[Key, str] = {}  # the machine on which a task is never to be run
         self._finished: dict[Key, float] = {}  # since when tasks have done their work and firm still has them
         self._beats: deque[float] = deque()  # of the link, that are not known to have been heard: when they were sent
@@ -361,7 +363,8 @@ class QueueSource:
             news, seconds = self._news, None
             try:
                 if (link := self._link) is not None:
-                    answer = (await link.ask("claim", **row))["claim"]
+                    async with self._asking:
+                        answer = (await link.ask("claim", **row))["claim"]
                     if "work" in answer:
                         machine = self.machine(run.machine)
                         return work_of(answer["work"], link.owner, machine is not None and machine.ssh is None)

@@ -89,10 +89,10 @@ class Front:
         await asyncio.gather(*self._tasks, return_exceptions=True)
 
     def held(self) -> Held:
-        """Connections by their users."""
+        """Connections by their users, whose names might have to be looked up."""
         found: Held = {}
         for connection in self._connections:
-            found.setdefault(connection.user.name, []).append(connection.transport)
+            found.setdefault(str(connection.user.number), []).append(connection.transport)
         return found
 
     def _enter(self, user: User, reader: asyncio.StreamReader, writer: asyncio.StreamWriter) -> Connection:
