@@ -1,4 +1,9 @@
-//! Tests alone: the crates of the solver, from the paths to the placement of a round, asked by their public calls.
+//! Tests alone: the crates of the solver, from the arena to the placement of a round, asked by their public calls.
+//!
+//! `arena.rt` shows what no clause says: each value of an arena is dropped once. `net.rt` plays scripts, arrays of
+//! steps that change a net and of what is seen of it then. A worked tenant is such an array as well (`graph.rt`,
+//! `steps.rt`), and what is seen of its network a step (`seen.rt`). The graph of a tenant's rows shows the same as the
+//! one that their commands built (`restored.rt`), and takes steps like it.
 //!
 //! A worked network is a table of arcs (`worlds.rt`), in a script that says what is asked of it and what is expected.
 //! Beside these, numbers from a seed make networks of up to 8 nodes and 16 arcs, and books: searches are compared with

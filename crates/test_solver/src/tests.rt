@@ -1,22 +1,33 @@
-//! Worked cases from the paths to the choice of a round, and random ones beside slow searches.
+//! Worked cases from the arena to the choice of a round, and random ones beside slow searches.
 ghost use Rattle.std.specs.Prelude.{IsTrue};
 
-use std::process::Abort;
-
+mod arena;
 mod books;
 mod canon;
 mod flow;
 mod flows;
+mod graph;
+mod net;
 mod paths;
 mod plain;
 mod proposals;
 mod random;
+mod restored;
 mod searches;
+mod seen;
+mod steps;
 mod worlds;
+
+use std::process::Abort;
 
 /// Ends the test where this does not hold.
 fn check(rt: &impl Abort, holds: bool, what: &str)
     ensures { IsTrue holds }
 {
     assert!(rt; holds, "{what}");
+}
+
+/// What is expected of an answer, so that no test has a branch.
+fn expect<T: Copy + PartialEq>(rt: &impl Abort, found: T, wanted: T) {
+    assert!(rt; found == wanted);
 }

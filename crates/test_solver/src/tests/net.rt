@@ -2,7 +2,7 @@
 ghost use Rattle.std.specs.Prelude.{ℕ, ◌^◌, ◌<◌, ◌≤◌};
 ghost use Rattle.firm_net.specs.Net.{added_of};
 
-use super::{at, expect};
+use super::expect;
 use Deed::{Move, Push, Set};
 use OfArc::{Does, Gone, Reads, Removed};
 use OfNode::{In, Leaves, LeavesBeside, Out, Rows};
@@ -66,6 +66,11 @@ struct World {
     net: Net,
     nodes: Vec<NodeId>,
     arcs: Vec<ArcId>,
+}
+
+// The value of this number in order of addition.
+fn at<T: Copy>(rt: &impl Abort, added: &Vec<T>, number: usize) -> T {
+    added.get(number).copied().expect(rt, "it was added")
 }
 
 fn row(rt: &impl Abort, world: &World, row: &Row) -> ArcRow {
