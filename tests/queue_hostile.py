@@ -385,6 +385,8 @@ def hung_names(setup: Setup) -> None:
         case.kill()
         case.start()
         with case.client() as client:
+            again = time.monotonic()
+            require(client.ask("status")["user"] == "root" and time.monotonic() - again < 1, "an agent would be late")
             users = {row["user"] for row in client.ask("tasks")}
             require(users == {str(NAMELESS)}, users)
         case.stop()

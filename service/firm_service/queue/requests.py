@@ -219,7 +219,7 @@ MOST_COMMAND_BYTES = 2**24  # of an answer: each row of an array has its command
 ROWS_AT_ONCE = 100  # that are made in a turn of the loop
 GONE_SECONDS = 5.0  # between two looks whether a client that waits is still there
 ANEW_SECONDS = 1.0  # until it is waited anew, where an end was not written
-NAMING = {"tasks", "ps", "jobs", "status"}  # their answers name users of tasks that have not ended
+NAMING = {"tasks", "ps", "jobs"}  # their answers name users of tasks that have not ended
 OPERATORS_ALONE = {"cordon", "uncordon", "drain", "register", "beat", "claim", "told", "kept"}
 
 
@@ -312,9 +312,8 @@ class Requests:
             raise Refused("bad-request", f"nothing to be asked: {ask!r}")
         if ask in OPERATORS_ALONE and not caller.user.is_operator:
             raise Refused("operator-only", f"{ask} is asked by operators alone")
-        if ask in NAMING:
-            others = self._core.rows.live_of_user if caller.user.is_operator else ()
-            await self.know(caller.user, (caller.user.number, *others))
+        others = self._core.rows.live_of_user if caller.user.is_operator and ask in NAMING else ()
+        await self.know(caller.user, (caller.user.number, *others))
         found = await handler(caller, given)
         return {ask: found, "more": found.more} if isinstance(found, (Listed, Shown)) else {ask: found}
 
