@@ -5,7 +5,7 @@ from __future__ import annotations
 import asyncio
 import os
 from collections import deque
-from collections.abc import Coroutine, Sequence
+from collections.abc import Coroutine
 from pathlib import Path
 from typing import TYPE_CHECKING, Any
 
@@ -191,7 +191,7 @@ class QueueSource:
             await asyncio.sleep(REGISTER_SECONDS)
         self._told = ""
         tell(INFO, f"registered as {self.name} with {', '.join(self.machines.slots)}")
-        self._extend(asked, answer["lease"], answer["end"])
+        self._extend(asked, answer["lease"], frozenset(answer["end"]))
         self._link = link
         self._beats.clear()
         self._end(answer["end"])
@@ -228,7 +228,7 @@ class QueueSource:
         if asked in self._beats:  # of a queue that tells nothing
             self._beats.remove(asked)
 
-    def _extend(self, asked: float, seconds: float, ending: Sequence[str] = ()) -> None:
+    def _extend(self, asked: float, seconds: float, ending: frozenset[str] = frozenset()) -> None:
         """Has all runs go on but those that are to end: one that has waited for its first lease would begin."""
         self.lease.extend(asked, seconds)
         self.lease.keep(self.agent.history.runs)
