@@ -1,5 +1,6 @@
 //! Desks on threads of their callers, gates that hold workers, halls that are shut first, a desk without life left;
 //! services whose replies do not wait for a neighbour or for input; events of a table, and how much a service reads.
+ghost use Rattle.std.specs.Prelude.{IsTrue};
 
 mod callers;
 mod closing;
@@ -25,7 +26,9 @@ use firm_rules::{Outcome, Reply};
 use std::process::Abort;
 
 /// Says what does not hold. A call costs less to prove than an `assert!`.
-fn check(rt: &impl Abort, holds: bool, what: &str) {
+fn check(rt: &impl Abort, holds: bool, what: &str)
+    ensures { IsTrue holds }
+{
     assert!(rt; holds, "{what}");
 }
 

@@ -18,7 +18,26 @@ enum Missing {
     EmptyDesk,
 }
 
-/// The reports of workers that run one after the other on this thread, each once the hall is shut. They count no round.
+/// The last pass's worker runs on this thread once the hall is shut. Its report, which is added, counts no round.
+fn work_once<R: Alloc<A = Global> + Abort + Wait>(
+    rt: &R,
+    hall: &Hall,
+    passes: &mut Vec<WorkerPass>,
+    reports: &mut Vec<Report>,
+)
+    requires passes { All (λ p. p.queue ≡ hall.now.id) passes.old.items }
+    requires reports { All (λ r. r.queue ≡ hall.now.id) reports.old.items }
+    ensures passes { All (λ p. p.queue ≡ hall.now.id) passes.new.items }
+    ensures reports { All (λ r. r.queue ≡ hall.now.id) reports.new.items }
+{
+    let pass = last_pass(rt, hall, passes);
+    hall.shut();
+    let report = worker(rt, rt.alloc(), hall, pass, &Open);
+    expect_count(rt, "rounds of a worker", report.count(), 0);
+    reports.push(report).expect(rt, "memory");
+}
+
+/// The reports of workers that run one after the other.
 fn work_after_shut<R: Alloc<A = Global> + Abort + Wait>(
     rt: &R,
     hall: &Hall,
@@ -29,11 +48,7 @@ fn work_after_shut<R: Alloc<A = Global> + Abort + Wait>(
 {
     let mut reports = Vec::new(rt.alloc());
     for _ in 0..passes.len() {
-        let pass = last_pass(rt, hall, passes);
-        hall.shut();
-        let report = worker(rt, rt.alloc(), hall, pass, &Open);
-        expect_count(rt, "rounds of a worker", report.count(), 0);
-        reports.push(report).expect(rt, "memory");
+        work_once(rt, hall, passes, &mut reports);
     }
     reports
 }

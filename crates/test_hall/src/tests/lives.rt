@@ -26,9 +26,10 @@ fn expect_second_refused<R: Alloc<A = Global> + Abort + Wait>(
     let asked = ask_first(rt, rt.alloc(), hall, desks);
     hall.shut();
     let (desk, _report) = solved_round(rt, hall, asked, pass, &Open);
-    let refused = desk.ask(rt, rt.alloc(), hall).err();
-    let (_desk, reply) = refused.expect(rt, "a refusal");
-    let is_worn = reply.outcome == Outcome::Refused(Refusal::Worn);
+    let Err((_desk, reply)) = desk.ask(rt, rt.alloc(), hall) else {
+        panic!(rt; "the round is not refused")
+    };
+    let is_worn = matches!(reply.outcome, Outcome::Refused(Refusal::Worn));
     expect_reply(rt, is_worn && reply.number == 2, &reply);
 }
 

@@ -9,7 +9,7 @@ use super::halls::{Over, expect_closes, opened};
 use super::held::expect_held;
 use super::solving::expect_solved_behind;
 use super::wakes::{ask_and_shut, put_two_each_turn};
-use firm_hall::{Desk, Hall, Open, Report, WorkerPass, worker};
+use firm_hall::{Desk, Hall, Report, WorkerPass, worker};
 use std::alloc::Global;
 use std::process::Abort;
 use std::sync::Wait;
@@ -36,7 +36,7 @@ pub enum Play {
 #[derive(Clone, Copy)]
 pub struct Scene {
     pub records: &'static str,
-    /// For how many places the gate holds rounds. With 0 the workers have the gate `Open`.
+    /// For how many places the gate holds rounds.
     pub places: u32,
     pub play: Play,
     /// How many rounds there are in all, if all desks are home when the hall is closed.
@@ -54,17 +54,18 @@ fn act<R: Alloc<A = Global> + Abort + Clock + Threads + Wait + Sync>(
     requires { All (λ d. d.queue ≡ hall.now.id) desks.items }
     ensures { All (λ d. d.queue ≡ hall.now.id) result.items }
 {
+    let mut desks = desks;
     match play {
-        Play::Callers(calls) => call_all(rt, hall, desks, calls),
-        Play::Held => expect_held(rt, hall, desks, gate),
-        Play::TwoEachTurn => put_two_each_turn(rt, hall, desks, gate),
-        Play::Timed => expect_solved_behind(rt, hall, desks, gate),
-        Play::ShutBehind(turns) => ask_and_shut(rt, hall, desks, gate, turns),
+        Play::Callers(calls) => return call_all(rt, hall, desks, calls),
+        Play::Held => expect_held(rt, hall, &mut desks, gate),
+        Play::TwoEachTurn => put_two_each_turn(rt, hall, &mut desks, gate),
+        Play::Timed => expect_solved_behind(rt, hall, &mut desks, gate),
+        Play::ShutBehind(turns) => ask_and_shut(rt, hall, &mut desks, gate, turns),
     }
+    desks
 }
 
-/// The reports of a worker for each pass, each on a thread of its own. Where the gate holds rounds of no place, the
-/// workers have `Open` in its stead.
+/// The reports of a worker for each pass, each on a thread of its own.
 fn run_workers<R: Alloc<A = Global> + Abort + Threads + Wait + Sync>(
     rt: &R,
     hall: &Hall,
@@ -82,11 +83,7 @@ fn run_workers<R: Alloc<A = Global> + Abort + Threads + Wait + Sync>(
             ensures { result.queue ≡ hall.entry.now.id }
         {
             gate.begin();
-            let report = if gate.places() == 0 {
-                worker(rt, rt.alloc(), hall, pass, &Open)
-            } else {
-                worker(rt, rt.alloc(), hall, pass, gate)
-            };
+            let report = worker(rt, rt.alloc(), hall, pass, gate);
             gate.end();
             report
         },

@@ -3,6 +3,7 @@
 ghost use Rattle.std.specs.Prelude.{◌≡◌, All};
 
 use super::callers::{Calls, call};
+use super::check;
 use super::gates::Holds;
 use super::scenes::{Play, Scene, perform};
 use super::turns::{ask_first, first_desk, wait_back};
@@ -30,25 +31,30 @@ const ROUNDS: u64 = 9;
 
 /// The line that adds this row. Machines come first; then each job, with a weight of its own, and its tasks.
 pub fn line_of_row(alloc: Global, row: u64) -> Result<String, AllocError> {
-    if row < MACHINES {
-        return format!(in alloc; "a machine m{row} 8");
-    }
-    let job = (row - MACHINES) / (1 + TASKS);
-    let of_job = (row - MACHINES) % (1 + TASKS);
-    if 0 < of_job {
-        let task = of_job - 1;
-        return format!(in alloc; "a task j{job} t{job}-{task}");
-    }
-    let weight = job.saturating_add(1).saturating_mul(90_000);
-    format!(in alloc; "a job j{job} {weight}")
+    let job = row.saturating_sub(MACHINES) / (1 + TASKS);
+    let (what, number, prefix, other) = if row < MACHINES {
+        ("machine m", row, "", 8)
+    } else if (row - MACHINES) % (1 + TASKS) == 0 {
+        (
+            "job j",
+            job,
+            "",
+            job.saturating_add(1).saturating_mul(90_000),
+        )
+    } else {
+        ("task j", job, "t", row)
+    };
+    format!(in alloc; "a {what}{number} {prefix}{other}")
 }
 
 fn now<R: Abort + Clock>(rt: &R) -> Instant {
     Instant::now(rt).ok().expect(rt, "the time")
 }
 
-fn since<R: Abort + Clock>(rt: &R, start: &Instant) -> Duration {
-    start.elapsed(rt).ok().expect(rt, "the time")
+/// The least time so far, or that since the start where it is less.
+fn shorten<R: Abort + Clock>(rt: &R, least: &mut Duration, start: &Instant) {
+    let time = start.elapsed(rt).ok().expect(rt, "the time");
+    *least = time.min(*least);
 }
 
 /// How many rounds were timed, and how long they took at least: from the call that asks for one until it comes to the
@@ -74,44 +80,44 @@ fn time_round<R: Alloc<A = Global> + Abort + Clock + Wait>(
     let start = now(rt);
     let asked = ask_first(rt, rt.alloc(), hall, desks);
     gate.expect_come(rt, times.rounds);
-    times.before = times.before.min(since(rt, &start));
+    shorten(rt, &mut times.before, &start);
     let start = now(rt);
     gate.open();
     wait_back(rt, hall, asked, desks);
-    times.behind = times.behind.min(since(rt, &start));
+    shorten(rt, &mut times.behind, &start);
 }
 
-fn expect_longer_behind(rt: &impl Abort, before: Duration, behind: Duration) {
-    assert!(rt;
-        before < behind,
-        "{before:?} before the gate, {behind:?} behind it"
-    );
+/// The first desk's caller adds all rows of its tenant.
+fn add_rows<R: Alloc<A = Global> + Abort + Wait>(rt: &R, hall: &Hall, desks: &mut Vec<Desk>)
+    requires { All (λ d. d.queue ≡ hall.now.id) desks.old.items }
+    ensures { All (λ d. d.queue ≡ hall.now.id) desks.new.items }
+{
+    let desk = first_desk(rt, hall, desks);
+    let desk = call(rt, hall, desk, Calls::LargeRows);
+    desks.push(desk).expect(rt, "memory");
 }
 
 /// Solving takes longer than all else, so it shows on which side of the gate it is done.
 pub fn expect_solved_behind<R: Alloc<A = Global> + Abort + Clock + Wait>(
     rt: &R,
     hall: &Hall,
-    desks: Vec<Desk>,
+    desks: &mut Vec<Desk>,
     gate: &Holds,
-) -> Vec<Desk>
-    requires { All (λ d. d.queue ≡ hall.now.id) desks.items }
-    ensures { All (λ d. d.queue ≡ hall.now.id) result.items }
+)
+    requires { All (λ d. d.queue ≡ hall.now.id) desks.old.items }
+    ensures { All (λ d. d.queue ≡ hall.now.id) desks.new.items }
 {
-    let mut desks = desks;
-    let desk = first_desk(rt, hall, &mut desks);
-    let desk = call(rt, hall, desk, Calls::LargeRows);
-    desks.push(desk).expect(rt, "memory");
+    add_rows(rt, hall, desks);
     let mut times = Times {
         rounds: 0,
         before: Duration::MAX,
         behind: Duration::MAX,
     };
     for _ in 0..ROUNDS {
-        time_round(rt, hall, &mut desks, gate, &mut times);
+        time_round(rt, hall, desks, gate, &mut times);
     }
-    expect_longer_behind(rt, times.before, times.behind);
-    desks
+    let is_longer = times.before < times.behind;
+    check(rt, is_longer, "a round takes longer behind the gate");
 }
 
 const TIMED: Scene = Scene {

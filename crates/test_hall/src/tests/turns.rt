@@ -2,6 +2,7 @@
 
 ghost use Rattle.std.specs.Prelude.{◌≡◌, All};
 
+use super::check;
 use firm_hall::{Asked, Desk, EmptyDesk, Hall, WorkerPass};
 use std::alloc::Global;
 use std::process::Abort;
@@ -14,7 +15,7 @@ pub fn first_desk(rt: &impl Abort, hall: &Hall, desks: &mut Vec<Desk>) -> Desk
     ensures rest { All (λ d. d.queue ≡ hall.now.id) desks.new.items }
 {
     let _ = hall;
-    assert!(rt; !desks.is_empty());
+    check(rt, !desks.is_empty(), "a desk");
     desks.remove(0)
 }
 

@@ -7,7 +7,7 @@ use super::expect_idle_round;
 use super::gates::Holds;
 use super::scenes::{Play, Scene, perform};
 use super::turns::{ask_first, wait_back};
-use firm_hall::{AskedPoll, Desk, Hall};
+use firm_hall::{Asked, AskedPoll, Desk, Hall};
 use std::alloc::Global;
 use std::hint::spin_loop;
 use std::process::Abort;
@@ -46,17 +46,15 @@ fn put_two_in_one_go<R: Alloc<A = Global> + Abort + Wait>(
 pub fn put_two_each_turn<R: Alloc<A = Global> + Abort + Wait>(
     rt: &R,
     hall: &Hall,
-    desks: Vec<Desk>,
+    desks: &mut Vec<Desk>,
     gate: &Holds,
-) -> Vec<Desk>
-    requires { All (λ d. d.queue ≡ hall.now.id) desks.items }
-    ensures { All (λ d. d.queue ≡ hall.now.id) result.items }
+)
+    requires { All (λ d. d.queue ≡ hall.now.id) desks.old.items }
+    ensures { All (λ d. d.queue ≡ hall.now.id) desks.new.items }
 {
-    let mut desks = desks;
     for turn in 0..TURNS {
-        put_two_in_one_go(rt, hall, &mut desks, gate, turn);
+        put_two_in_one_go(rt, hall, desks, gate, turn);
     }
-    desks
 }
 
 const TWO_EACH_TURN: Scene = Scene {
@@ -75,32 +73,40 @@ fn no_worker_sleeps_while_rounds_wait(rt: HostRuntime) {
 /// How often a hall is shut behind a round.
 const HALLS: u64 = 2_000;
 
+/// The desk that asked is back behind the others, with its first reply.
+fn expect_back(rt: &impl Abort, hall: &Hall, asked: Asked, desks: &mut Vec<Desk>)
+    requires asked { asked.queue ≡ hall.now.id }
+    requires desks { All (λ d. d.queue ≡ hall.now.id) desks.old.items }
+    ensures { All (λ d. d.queue ≡ hall.now.id) desks.new.items }
+{
+    let _ = hall;
+    let AskedPoll::Back(desk, reply) = asked.poll() else {
+        panic!(rt; "the round is left")
+    };
+    expect_idle_round(rt, &reply, 1);
+    desks.push(desk).expect(rt, "memory");
+}
+
 /// Asks for the first desk's round once the worker begins, and shuts the hall right behind it. The round is answered
 /// once the worker has ended.
 pub fn ask_and_shut<R: Alloc<A = Global> + Abort + Wait>(
     rt: &R,
     hall: &Hall,
-    desks: Vec<Desk>,
+    desks: &mut Vec<Desk>,
     gate: &Holds,
     pause: u64,
-) -> Vec<Desk>
-    requires { All (λ d. d.queue ≡ hall.now.id) desks.items }
-    ensures { All (λ d. d.queue ≡ hall.now.id) result.items }
+)
+    requires { All (λ d. d.queue ≡ hall.now.id) desks.old.items }
+    ensures { All (λ d. d.queue ≡ hall.now.id) desks.new.items }
 {
-    let mut desks = desks;
     gate.wait_for_begin();
     for _ in 0..pause {
         spin_loop();
     }
-    let asked = ask_first(rt, rt.alloc(), hall, &mut desks);
+    let asked = ask_first(rt, rt.alloc(), hall, desks);
     hall.shut();
     gate.expect_end(rt);
-    let AskedPoll::Back(desk, reply) = asked.poll() else {
-        panic!(rt; "the round is left after {pause} turns")
-    };
-    expect_idle_round(rt, &reply, 1);
-    desks.push(desk).expect(rt, "memory");
-    desks
+    expect_back(rt, hall, asked, desks);
 }
 
 fn shut_behind(turns: u64) -> Scene {
