@@ -1,8 +1,9 @@
 """Compares the built program with the plain service of harness/service.py on random small streams and rosters.
 
-usage: tools/run tests/compare.py [--program FILE] [--under COMMAND] [--workers N] [--streams N] [--rosters N]
+usage: tools/run tests/compare.py [--program FILE] [--under COMMAND] [--workers N,..] [--streams N] [--rosters N]
                                   [--first SEED] [--tasks T] [--pieces] [--noise] [--ages]
-Each difference has a line with its seed and is kept under out/tests; the exit status is 1 where there is one.
+Each difference has a line with its seed and is kept under out/tests; the exit status is 1 where there is one, or where
+500 streams or more have hardly a start, a move, a preemption or an eviction.
 """
 
 from __future__ import annotations
@@ -44,6 +45,10 @@ class Case:
 
 Outcomes = Counter[str]  # how often each outcome of a line and each change of a round came
 
+# How often 500 streams have these at least.
+MANY_STREAMS = 500
+LEAST_MET = {"start": 1000, "move": 50, "preempt": 200, "evict": 50}
+
 
 def expected(case: Case) -> program.Run:
     """What the definitions say that a run gives."""
@@ -62,25 +67,33 @@ def outcomes_of(output: bytes) -> Outcomes:
         outcome = words[2:5] if words[2:3] == ["no"] else words[2:4]
         counts[line if words[0] == "!" else " ".join(outcome).rstrip("0123456789 ")] += 1
         counts.update(word for word in words if word in ("start", "move", "preempt"))
+        if words[2:4] == ["ok", "evicted"]:
+            counts["evict"] += int(words[4])
     return counts
 
 
-def check(command: list[str], case: Case) -> Outcomes | None:
-    """The outcomes of one run, or None where it differs from the definitions."""
+def check(options: Options, case: Case) -> Outcomes | None:
+    """The outcomes of a run, or None where that of some number of workers differs from the definitions."""
     wanted = expected(case)
-    with program.Roster(case.roster) as roster_path:
-        got = program.run(command, roster_path, case.text, case.environment)
-    if got == wanted:
-        return outcomes_of(got.output + got.faults)
+    for workers in options.workers.split(","):
+        with program.Roster(case.roster) as roster_path:
+            got = program.run(options.command(workers), roster_path, case.text, case.environment)
+        if got != wanted:
+            tell_difference(case, workers, got, wanted)
+            return None
+    return outcomes_of(wanted.output + wanted.faults)
+
+
+def tell_difference(case: Case, workers: str, got: program.Run, wanted: program.Run) -> None:
+    """Says where a run differs from the definitions, and keeps its case."""
     kept = program.keep(case.name, case.roster, case.text)
     pairs = zip(got.output.split(b"\n"), wanted.output.split(b"\n"))
     lines = [(place, was, should) for place, (was, should) in enumerate(pairs) if was != should]
     print(
-        f"DIFFERENT: {kept}: status {got.status} for {wanted.status}, {got.faults!r} for {wanted.faults!r};"
-        f" first line that differs: {lines[:1]}",
+        f"DIFFERENT: {kept}, workers {workers or 'not named'}: status {got.status} for {wanted.status},"
+        f" {got.faults!r} for {wanted.faults!r}; first line that differs: {lines[:1]}",
         flush=True,
     )
-    return None
 
 
 def check_stream(options: Options, library: str | None, seed: int) -> Outcomes | None:
@@ -90,12 +103,12 @@ def check_stream(options: Options, library: str | None, seed: int) -> Outcomes |
     text = with_noise(draw, text) if options.noise else text
     pieces = {"READ_MOST": draw.choice("1 2 3 7 64 257 4095".split()), "WRITE_MOST": draw.choice("0 1 5 100".split())}
     environment = {"LD_PRELOAD": library, **pieces} if library else None
-    return check(options.command(), Case(f"stream-{seed}", roster, text, environment))
+    return check(options, Case(f"stream-{seed}", roster, text, environment))
 
 
 def check_roster(options: Options, seed: int) -> Outcomes | None:
     roster = random_bad_roster(random.Random(seed))
-    return check(options.command(), Case(f"roster-{seed}", roster, b"a0 show\n"))
+    return check(options, Case(f"roster-{seed}", roster, b"a0 show\n"))
 
 
 def check_ages(options: Options, rounds: int = service.LONGEST_PATIENCE + 3) -> Outcomes | None:
@@ -103,14 +116,15 @@ def check_ages(options: Options, rounds: int = service.LONGEST_PATIENCE + 3) -> 
     lines = ["a job j 5", "a task j x"] + ["a round"] * rounds
     lines += ["a where x", "a costs", "a machine m 1", "a round", "a where x", "a drain m", "a round", "a where x"]
     roster = b",".join(service.HEADING) + b"\na,5,9,1099511627776,0,0\n"
-    return check(options.command(), Case("ages", roster, "\n".join(lines).encode()))
+    return check(options, Case("ages", roster, "\n".join(lines).encode()))
 
 
 def read_options() -> Options:
     parser = argparse.ArgumentParser(description=(__doc__ or "").splitlines()[0])
     program.add_program(parser)
     program.add_under(parser)
-    program.add_workers(parser)
+    workers = "the number of its workers, or several, each compared (default: the program's own)"
+    parser.add_argument("--workers", default="", metavar="N,..", help=workers)
     parser.add_argument("--streams", type=int, default=5000)
     parser.add_argument("--rosters", type=int, default=500)
     parser.add_argument("--first", type=int, default=1, help="the first seed")
@@ -137,6 +151,10 @@ def main() -> int:
             different += found is None
     print(f"{options.streams} streams and {options.rosters} rosters, {different} different")
     print(", ".join(f"{count} {outcome}" for outcome, count in sorted(counts.items())))
+    rare = [outcome for outcome, least in LEAST_MET.items() if counts[outcome] < least]
+    if rare and options.streams >= MANY_STREAMS:
+        print(f"hardly met: {', '.join(rare)}")
+        return 1
     return 1 if different else 0
 
 

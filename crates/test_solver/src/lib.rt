@@ -6,11 +6,10 @@
 //! one that their commands built (`restored.rt`), and takes steps like it.
 //!
 //! A worked network is a table of arcs (`worlds.rt`), in a script that says what is asked of it and what is expected.
-//! Beside these, numbers from a seed make networks of up to 8 nodes and 16 arcs, and books: searches are compared with
-//! rounds over all arcs (`paths.rt`), flows with all flows (`flow.rt`) and with flows from nothing, paths inside
-//! classes with plain paths (`plain.rt`), rounds with a slow search over all placements, where no kind of round may be
-//! missing (`canon.rt`), and with a choice by flows alone, on a network without hub and jobs (`plain.rt`), and with
-//! what is proposed, also where it is cut off (`proposals.rt`).
+//! The contracts say that a path is tight, that prices stay valid and that a flow costs least, so no test does.
+//!
+//! Numbers from a seed make books, whose rounds are proposed, also where that is cut off, and found by searches alone
+//! (`proposals.rt`). The rounds of the built program beside all placements of a book: `tests/compare.py`.
 //!
 //! Searches and looks are compared exactly, of searches, flows and two first rounds: 2 tasks on 2 machines, 20 on 10.
 //! Each allocation of `Prices` and `Scratch` was refused in turn outside the gate. `proofs/` has a lemma for the tests:

@@ -1,15 +1,13 @@
-//! Worked cases from the arena to the choice of a round, and random ones beside slow searches.
+//! Worked cases from the arena to the choice of a round, and random rounds proposed beside those that are searched.
 ghost use Rattle.std.specs.Prelude.{IsTrue};
 
 mod arena;
 mod books;
 mod canon;
 mod flow;
-mod flows;
 mod graph;
 mod net;
 mod paths;
-mod plain;
 mod proposals;
 mod random;
 mod restored;

@@ -7,24 +7,12 @@ use super::random::Random;
 use firm_graph::Graph;
 use firm_net::Net;
 use firm_paths::{Prices, Scratch};
-use firm_rules::{Choice, Limits, Name, Preferred, Rows, Slots, Weight, legal};
+use firm_rules::{Choice, Limits, Name, Preferred, Slots, Weight, legal};
 use std::alloc::Global;
 use std::process::Abort;
 
 pub fn name(rt: &impl Abort, bytes: &[u8]) -> Name {
     Name::read(bytes).expect(rt, "a name")
-}
-
-/// Names of machines, jobs and tasks alike.
-pub fn names(rt: &impl Abort) -> [Name; 6] {
-    [
-        name(rt, b"a"),
-        name(rt, b"b"),
-        name(rt, b"c"),
-        name(rt, b"d"),
-        name(rt, b"e"),
-        name(rt, b"f"),
-    ]
 }
 
 /// A name of two digits.
@@ -102,22 +90,16 @@ pub fn add_task(rt: &impl Abort, graph: &mut Graph, job: Name, name: Name, prefe
     );
 }
 
-/// Removes a machine if it is there, and says how many tasks ran on it.
-pub fn remove_machine(graph: &mut Graph, name: Name) -> u64 {
+pub fn remove_machine(graph: &mut Graph, name: Name) {
     if graph.rows().has_machine(name) {
-        return u64::from(graph.drop_machine(name));
+        graph.drop_machine(name);
     }
-    0
 }
 
 pub fn remove_task(graph: &mut Graph, name: Name) {
     if graph.rows().has_task(name) {
         graph.drop_task(name);
     }
-}
-
-pub fn all_wait(rt: &impl Abort, alloc: Global, rows: &Rows) -> Vec<Choice> {
-    vec![in alloc; Choice::Wait; rows.task_count()].expect(rt, "memory")
 }
 
 /// A placement becomes that of the book.

@@ -1,12 +1,10 @@
-//! Worked networks, and random ones beside a slow search over all flows.
-ghost use Rattle.std.specs.Prelude.{◌≡◌, ◌≤◌, IsTrue};
+//! Worked networks, and what flows through them.
+ghost use Rattle.std.specs.Prelude.{◌≡◌, IsTrue};
 ghost use Rattle.firm_flow.specs.NetFlow.{AreDistinctNodes};
 
 use super::check;
-use super::flows::{check_no_flow, check_valid, cost_of, is_feasible, least_of_all};
-use super::random::Random;
 use super::worlds::Given::Arc;
-use super::worlds::{Given, Link, World, all_at, arc, at, build, has_room, links_of, read_prices};
+use super::worlds::{Given, World, all_at, at, build, has_room};
 use firm_flow::{
     NoWay, balanced_flows, conserved_where_balanced, differ_only_where_tight,
     least_with_valid_prices, none_where_cut_off, round_a_cycle, solve,
@@ -16,7 +14,7 @@ use std::alloc::Global;
 use std::process::Abort;
 
 /// Whether the sources and the sink are nodes of the net, and no two of them the same.
-pub fn are_distinct(net: &Net, sources: &[NodeId], sink: NodeId) -> bool
+fn are_distinct(net: &Net, sources: &[NodeId], sink: NodeId) -> bool
     ensures { IsTrue result → AreDistinctNodes net.now sources.now sink }
 {
     for i in 0..sources.len() {
@@ -26,30 +24,6 @@ pub fn are_distinct(net: &Net, sources: &[NodeId], sink: NodeId) -> bool
         }
     }
     net.place(sink).is_some()
-}
-
-pub fn solve_once(
-    rt: &impl Abort,
-    world: &mut World,
-    sources: &[NodeId],
-    sink: NodeId,
-) -> Result<i64, NoWay>
-    requires { (world.old.prices.limits ≡ (8, 16)) × (world.old.scratch.limits ≡ (8, 16)) }
-    ensures { (world.new.prices.limits ≡ (8, 16)) × (world.new.scratch.limits ≡ (8, 16)) }
-{
-    check(rt, has_room(&world.net), "the net has its room");
-    check(
-        rt,
-        are_distinct(&world.net, sources, sink),
-        "the nodes differ",
-    );
-    solve(
-        &mut world.net,
-        &mut world.prices,
-        &mut world.scratch,
-        sources,
-        sink,
-    )
 }
 
 /// Solves from the nodes of these numbers.
@@ -64,7 +38,14 @@ fn solve_from(
 {
     let sink = at(rt, &world.nodes, sink);
     let sources = all_at(rt, world.alloc, &world.nodes, sources);
-    solve_once(rt, world, &sources, sink)
+    check(rt, has_room(&world.net), "the net has its room");
+    check(
+        rt,
+        are_distinct(&world.net, &sources, sink),
+        "the nodes differ",
+    );
+    let (prices, scratch) = (&mut world.prices, &mut world.scratch);
+    solve(&mut world.net, prices, scratch, &sources, sink)
 }
 
 /// Solves twice, the second time from the flow and the prices of the first.
@@ -95,71 +76,6 @@ fn flow_along(rt: &impl Abort, world: &World, number: usize) -> u32 {
     row.flow()
 }
 
-/// The links of a world with what flows along them in it.
-fn read_flows(rt: &impl Abort, world: &World, links: &[Link]) -> Vec<Link> {
-    let mut read = Vec::new(world.alloc);
-    for link in links {
-        let flow = flow_along(rt, world, read.len());
-        read.push(Link { flow, ..*link }).expect(rt, "memory");
-    }
-    read
-}
-
-/// The arcs of a network, the number of its nodes, and its sink.
-#[derive(Clone, Copy)]
-struct Network<'a> {
-    pub links: &'a [Link],
-    pub nodes: u32,
-    pub sink: usize,
-}
-
-/// Solves a network, checks what was answered against what was left, and gives the links with what flows along them.
-fn expect(
-    rt: &impl Abort,
-    alloc: Global,
-    network: &Network,
-    sources: &[usize],
-    answer: Result<i64, NoWay>,
-) -> Vec<Link> {
-    let mut world = build(rt, alloc, network.nodes, network.links);
-    let solved = solve_twice(rt, &mut world, sources, network.sink);
-    check(rt, solved == answer, "the answer is the expected one");
-    check_solved(rt, &world, network, sources, answer)
-}
-
-/// Checks that what is left is a feasible flow of that cost, with valid prices, or no flow without a price.
-fn check_solved(
-    rt: &impl Abort,
-    world: &World,
-    network: &Network,
-    sources: &[usize],
-    answer: Result<i64, NoWay>,
-) -> Vec<Link>
-    requires { world.now.prices.limits ≡ (8, 16) }
-{
-    check(rt, has_room(&world.net), "the net has its room");
-    check(
-        rt,
-        world.arcs.len() == network.links.len(),
-        "each link is an arc",
-    );
-    let links = read_flows(rt, world, network.links);
-    let prices = read_prices(rt, world);
-    let Ok(cost) = answer else {
-        check_no_flow(rt, &links, &prices);
-        return links;
-    };
-    let is_feasible = is_feasible(&links, network.nodes as usize, sources, network.sink);
-    check(rt, is_feasible, "the flow is feasible");
-    check(
-        rt,
-        cost_of(&links) == cost,
-        "the flow costs what was answered",
-    );
-    check_valid(rt, &links, &prices);
-    links
-}
-
 /// Nodes that send a unit each, what is answered, and what then flows: from an arc on, along it and those behind it.
 type Request = (
     &'static [usize],
@@ -175,35 +91,31 @@ struct Script {
     requests: &'static [Request],
 }
 
-fn expect_flows(rt: &impl Abort, links: &[Link], first: usize, flows: &[u32]) {
+fn expect_flows(rt: &impl Abort, world: &World, first: usize, flows: &[u32]) {
     let mut number = first;
     for flow in flows {
         check(
             rt,
-            at(rt, links, number).flow == *flow,
+            flow_along(rt, world, number) == *flow,
             "so much flows along an arc",
         );
         number = number.saturating_add(1);
     }
 }
 
-fn expect_request(rt: &impl Abort, alloc: Global, network: &Network, request: &Request) {
+fn expect_request(rt: &impl Abort, alloc: Global, script: &Script, request: &Request) {
     let (sources, answer, runs) = *request;
-    let links = expect(rt, alloc, network, sources, answer);
+    let mut world = build(rt, alloc, script.nodes, script.links);
+    let solved = solve_twice(rt, &mut world, sources, script.sink);
+    check(rt, solved == answer, "the answer is the expected one");
     for (first, flows) in runs {
-        expect_flows(rt, &links, *first, flows);
+        expect_flows(rt, &world, *first, flows);
     }
 }
 
 fn play(rt: &impl Abort, alloc: Global, script: &Script) {
-    let links = links_of(rt, alloc, script.links);
-    let network = Network {
-        links: &links,
-        nodes: script.nodes,
-        sink: script.sink,
-    };
     for request in script.requests {
-        expect_request(rt, alloc, &network, request);
+        expect_request(rt, alloc, script, request);
     }
 }
 
@@ -303,8 +215,7 @@ fn expect_counts(
 
 #[test]
 fn searches_and_looks_are_counted(rt: HostRuntime) {
-    let links = links_of(&rt, rt.alloc(), MEETING.links);
-    let mut world = build(&rt, rt.alloc(), 4, &links);
+    let mut world = build(&rt, rt.alloc(), MEETING.nodes, MEETING.links);
     // One look at the source, and three at the node between it and the sink.
     expect_counts(&rt, &mut world, &[0], Ok(2), (1, 4));
     // The second search goes from its source to the node between, and back to the first source.
@@ -423,62 +334,6 @@ static LOWER_BOUNDS: Script = Script {
 #[test]
 fn lower_bounds_are_cleared(rt: HostRuntime) {
     play(&rt, rt.alloc(), &LOWER_BOUNDS);
-}
-
-/// An arc between two different nodes.
-fn random_link(random: &mut Random, nodes: u32) -> Link
-    requires { (2 ≤ nodes) × (nodes ≤ 8) }
-{
-    let tail = random.below(nodes);
-    let head = (tail + 1 + random.below(nodes - 1)) % nodes;
-    let cap = random.below(3);
-    let low = random.below(cap + 1);
-    let cost = random.below(4);
-    arc(tail as usize, head as usize, low, cap, cost)
-}
-
-fn random_links(random: &mut Random, nodes: u32) -> [Link; 7]
-    requires { (2 ≤ nodes) × (nodes ≤ 8) }
-{
-    let mut links = [arc(0, 1, 0, 0, 0); 7];
-    for link in links.iter_mut() {
-        *link = random_link(random, nodes);
-    }
-    links
-}
-
-/// Whether a network of three to five nodes, of which up to three are sources, has a feasible flow. The least one is
-/// that which the slow search finds.
-fn is_solved(rt: &impl Abort, alloc: Global, random: &mut Random) -> bool {
-    let nodes = 3 + random.below(3);
-    let count = random.below(nodes.min(4)) as usize;
-    let sources = [0, 1, 2];
-    let sources = sources.get(..count).expect(rt, "no more than three");
-    let sink = nodes as usize - 1;
-    let links = random_links(random, nodes);
-    let answer = least_of_all(&links, nodes as usize, sources, sink).ok_or(NoWay);
-    let network = Network {
-        links: &links,
-        nodes,
-        sink,
-    };
-    expect(rt, alloc, &network, sources, answer);
-    answer.is_ok()
-}
-
-#[test]
-fn random_networks_beside_all_their_flows(rt: HostRuntime) {
-    let mut random = Random::new(2_026);
-    let mut solved = 0_u32;
-    for _ in 0..300 {
-        if is_solved(&rt, rt.alloc(), &mut random) {
-            solved = solved.wrapping_add(1);
-        }
-    }
-    assert!(rt;
-        solved >= 100 && solved <= 240,
-        "{solved} were solved, and the others cut off"
-    );
 }
 
 #[test]

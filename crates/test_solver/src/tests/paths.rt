@@ -1,4 +1,4 @@
-//! Worked searches, and random ones beside rounds over all arcs.
+//! Worked searches.
 ghost use Rattle.std.specs.Prelude.{◌≡◌, ℕ};
 ghost use Rattle.firm_net.specs.Net.{IsNode};
 ghost use Rattle.firm_paths.specs.Network.{AreValid};
@@ -7,10 +7,9 @@ ghost use Rattle.firm_paths.specs.Paths.{IsHighest};
 ghost use Rattle.firm_paths.specs.PriceTable.{price_of};
 
 use super::check;
-use super::random::Random;
-use super::searches::{Path, Search, copied, expect_path, raised, tight};
+use super::searches::{Path, Search, expect_path, raised, tight};
 use super::worlds::Given::{Arc, Carrying, Unit};
-use super::worlds::{Given, Link, World, all_at, arc, at, build, has_room, links_of};
+use super::worlds::{Given, World, all_at, at, build, has_room};
 use firm_net::NodeId;
 use firm_net::Way::{Backward, Forward};
 use firm_paths::{arcs_are_rows, searches_add_up, tight_paths};
@@ -151,8 +150,7 @@ fn path_from(rt: &impl Abort, world: &mut World, from: usize, path: &Path)
 {
     let from = node_there(rt, world, from);
     let steps = world.scratch.path_from(&world.net, from);
-    let steps = copied(rt, world.alloc, steps);
-    expect_path(rt, &world.arcs, steps.as_deref(), path);
+    expect_path(rt, &world.arcs, steps, path);
 }
 
 fn push(rt: &impl Abort, world: &mut World, arc: usize)
@@ -223,8 +221,7 @@ fn ask_all(rt: &impl Abort, world: &mut World, asks: &[Ask])
 }
 
 fn play(rt: &impl Abort, alloc: Global, script: &Script) {
-    let links = links_of(rt, alloc, script.links);
-    let mut world = build(rt, alloc, script.nodes, &links);
+    let mut world = build(rt, alloc, script.nodes, script.links);
     open_all(rt, &mut world, script.goal, script.opening);
     ask_all(rt, &mut world, script.asks);
 }
@@ -427,84 +424,6 @@ static BY_NO_ARC_THAT_IS_HELD: Script = Script {
 fn paths_from_all_nodes(rt: HostRuntime) {
     play(&rt, rt.alloc(), &ROUND_A_CYCLE);
     play(&rt, rt.alloc(), &BY_NO_ARC_THAT_IS_HELD);
-}
-
-/// An arc between two of five nodes, which may have no room.
-fn random_link(random: &mut Random) -> Link {
-    let tail = random.below(5);
-    let head = (tail + 1 + random.below(4)) % 5;
-    let cap = random.below(3);
-    let cost = random.below(7);
-    arc(tail as usize, head as usize, 0, cap, cost)
-}
-
-/// Shortens the distance of an arc's head, where it has room.
-fn shorten(link: &Link, distances: &mut [u64; 8]) {
-    let through = distances.get(link.tail).copied().unwrap_or(u64::MAX);
-    let through = through.saturating_add(u64::from(link.cost));
-    if let Some(distance) = distances.get_mut(link.head) {
-        if link.cap > 0 {
-            *distance = (*distance).min(through);
-        }
-    }
-}
-
-/// How far node 4 is from node 0, by rounds over all arcs; `u64::MAX` where no way leads there.
-fn distance_by_rounds(links: &[Link; 9]) -> u64 {
-    let mut distances = [u64::MAX; 8];
-    distances[0] = 0;
-    for _ in 0..5 {
-        for link in links {
-            shorten(link, &mut distances);
-        }
-    }
-    distances[4]
-}
-
-/// Whether node 4 is reached from node 0. Where it is, the prices tell the same distance.
-fn reaches(rt: &impl Abort, alloc: Global, links: &[Link; 9]) -> bool {
-    let wanted = distance_by_rounds(links);
-    let mut world = build(rt, alloc, 5, links);
-    let search = Search {
-        from: at(rt, &world.nodes, 0),
-        to: at(rt, &world.nodes, 4),
-        barred: &[],
-        path: &Path::Any,
-    };
-    let reached = raised(rt, &mut world, &search);
-    check(
-        rt,
-        reached == (wanted < u64::MAX),
-        "there is a path where rounds find one",
-    );
-    if reached {
-        let distance = distance(rt, &world, 0, 4);
-        check(rt, distance == Some(wanted), "the prices tell the distance");
-    }
-    reached
-}
-
-fn random_links(random: &mut Random) -> [Link; 9] {
-    let mut links = [arc(0, 1, 0, 1, 0); 9];
-    for link in links.iter_mut() {
-        *link = random_link(random);
-    }
-    links
-}
-
-#[test]
-fn random_networks_beside_rounds_over_all_arcs(rt: HostRuntime) {
-    let mut random = Random::new(2_026);
-    let mut reached = 0_u32;
-    for _ in 0..120 {
-        if reaches(&rt, rt.alloc(), &random_links(&mut random)) {
-            reached = reached.wrapping_add(1);
-        }
-    }
-    assert!(rt;
-        reached >= 40 && reached <= 80,
-        "{reached} goals were reached"
-    );
 }
 
 #[test]

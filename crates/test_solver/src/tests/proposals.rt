@@ -5,7 +5,7 @@ use super::books::{
     add_job, add_machine, add_task, numbered, one_to, opened, random_limits, remove_machine,
     remove_task, settle,
 };
-use super::canon::{Way, choose};
+use super::canon::placement_of;
 use super::check;
 use super::random::Random;
 use firm_graph::Graph;
@@ -174,7 +174,7 @@ fn compare(
     looks: u64,
 ) -> bool {
     let case = Case::of(alloc, graph.rows()).expect(rt, "memory");
-    let wanted = choose(rt, alloc, graph, Way::Searched).placement;
+    let wanted = placement_of(rt, alloc, graph);
     let is_cut_off = expect_cut_off(rt, proposer, &case, looks, &wanted);
     expect_proposed(rt, proposer, &case, &wanted);
     expect_first(rt, &mut fitting(rt, alloc, graph.rows()), &case, &wanted);

@@ -11,18 +11,7 @@ use firm_paths::{Prices, Scratch};
 use std::alloc::Global;
 use std::process::Abort;
 
-/// An arc between two nodes of a world, which are given by their numbers.
-#[derive(Clone, Copy)]
-pub struct Link {
-    pub tail: usize,
-    pub head: usize,
-    pub low: u32,
-    pub cap: u32,
-    pub cost: u32,
-    pub flow: u32,
-}
-
-/// An arc as a table has it, the numbers of its tail and its head first.
+/// An arc between two nodes of a world, which are given by their numbers, its tail first.
 pub enum Given {
     /// The lower bound, the capacity and the cost of an arc that carries its lower bound.
     Arc(usize, usize, u32, u32, u32),
@@ -30,37 +19,6 @@ pub enum Given {
     Unit(usize, usize, u32),
     /// The lower bound of an arc that carries one unit and costs nothing.
     Carrying(usize, usize, u32),
-}
-
-/// An arc that carries its lower bound.
-pub fn arc(tail: usize, head: usize, low: u32, cap: u32, cost: u32) -> Link {
-    Link {
-        tail,
-        head,
-        low,
-        cap,
-        cost,
-        flow: low,
-    }
-}
-
-fn link_of(given: &Given) -> Link {
-    match given {
-        Given::Arc(tail, head, low, cap, cost) => arc(*tail, *head, *low, *cap, *cost),
-        Given::Unit(tail, head, cost) => arc(*tail, *head, 0, 1, *cost),
-        Given::Carrying(tail, head, low) => Link {
-            flow: 1,
-            ..arc(*tail, *head, *low, 1, 0)
-        },
-    }
-}
-
-pub fn links_of(rt: &impl Abort, alloc: Global, table: &[Given]) -> Vec<Link> {
-    let mut links = Vec::new(alloc);
-    for given in table {
-        links.push(link_of(given)).expect(rt, "memory");
-    }
-    links
 }
 
 /// A net with room for 8 nodes and 16 arcs, its prices, and the room for searches in it. What is read of it takes its
@@ -113,7 +71,7 @@ fn add_node(rt: &impl Abort, net: &mut Net) -> NodeId
     net.add_node().expect(rt, "there is room")
 }
 
-pub fn add_nodes(rt: &impl Abort, alloc: Global, net: &mut Net, count: u32) -> Vec<NodeId>
+fn add_nodes(rt: &impl Abort, alloc: Global, net: &mut Net, count: u32) -> Vec<NodeId>
     requires valid { AreValid (arcs_of net.old) (λ _. 0) }
     ensures valid { AreValid (arcs_of net.new) (λ _. 0) }
 {
@@ -124,11 +82,16 @@ pub fn add_nodes(rt: &impl Abort, alloc: Global, net: &mut Net, count: u32) -> V
     nodes
 }
 
-fn row(rt: &impl Abort, nodes: &[NodeId], link: &Link) -> ArcRow
+fn row(rt: &impl Abort, nodes: &[NodeId], given: &Given) -> ArcRow
     ensures { result.low < result.flow → result.cost ≡ 0 }
 {
-    let (tail, head) = (at(rt, nodes, link.tail), at(rt, nodes, link.head));
-    let row = ArcRow::new(tail, head, link.low, link.cap, link.cost, link.flow);
+    let (tail, head, low, cap, cost, flow) = match given {
+        Given::Arc(tail, head, low, cap, cost) => (*tail, *head, *low, *cap, *cost, *low),
+        Given::Unit(tail, head, cost) => (*tail, *head, 0, 1, *cost, 0),
+        Given::Carrying(tail, head, low) => (*tail, *head, *low, 1, 0, 1),
+    };
+    let (tail, head) = (at(rt, nodes, tail), at(rt, nodes, head));
+    let row = ArcRow::new(tail, head, low, cap, cost, flow);
     let row = row.expect(rt, "the numbers are in range");
     check(
         rt,
@@ -148,12 +111,12 @@ fn add(rt: &impl Abort, net: &mut Net, row: ArcRow) -> ArcId
     net.add_arc(row).expect(rt, "there is room")
 }
 
-pub fn add_arcs(
+fn add_arcs(
     rt: &impl Abort,
     alloc: Global,
     net: &mut Net,
     nodes: &[NodeId],
-    links: &[Link],
+    links: &[Given],
 ) -> Vec<ArcId>
     requires valid { AreValid (arcs_of net.old) (λ _. 0) }
     ensures valid { AreValid (arcs_of net.new) (λ _. 0) }
@@ -167,7 +130,7 @@ pub fn add_arcs(
 }
 
 /// A world whose prices are 0. What is owned here is made in a straight line: a way out between would drop it all.
-pub fn build(rt: &impl Abort, alloc: Global, nodes: u32, links: &[Link]) -> World
+pub fn build(rt: &impl Abort, alloc: Global, nodes: u32, links: &[Given]) -> World
     ensures limits { (result.prices.limits ≡ (8, 16)) × (result.scratch.limits ≡ (8, 16)) }
     ensures valid { AreValid (arcs_of result.net) (price_of result.prices) }
     ensures zero { (v : ℕ) → price_of result.prices v ≡ 0 }
@@ -196,15 +159,4 @@ pub fn price_at(rt: &impl Abort, world: &World, node: NodeId) -> u64
 {
     let price = world.prices.get(&world.net, node);
     price.expect(rt, "the node is there")
-}
-
-pub fn read_prices(rt: &impl Abort, world: &World) -> Vec<u64>
-    requires { world.now.prices.limits ≡ limits_of world.now.net }
-{
-    let mut prices = Vec::new(world.alloc);
-    for node in &world.nodes {
-        let price = price_at(rt, world, *node);
-        prices.push(price).expect(rt, "memory");
-    }
-    prices
 }
