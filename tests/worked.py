@@ -52,10 +52,23 @@ class Worked(NamedTuple):
 
 LINES_OF_NO_TENANT = [
     *(Exchange(line + b"\n", b"") for line in (b"", b" ", b"\t \t", b" " * 256, b"#", b"# a show", b"#\xff\0")),
-    *(Exchange(line + b"\n", b"! line-too-long\n") for line in (b" " * 257, b"A".ljust(257))),
+    *(
+        Exchange(line + b"\n", b"! line-too-long\n")
+        for line in (b" " * 257, b"A".ljust(257), b"a show".ljust(256) + b"\r\r", b"a " + b"x" * 600 + b"#")
+    ),
     *(
         Exchange(line + b"\n", b"! unknown-tenant\n")
-        for line in (b" # a", b"A show", b"\xff", b"\0", b"a\0 show", b"a_b", b"a\r\r", b"abcdefghijklmnopq show")
+        for line in (
+            b" # a",
+            b"A show",
+            b"\xff",
+            b"\0",
+            b"a\0 show",
+            b"a_b",
+            b"a\r\r",
+            b"a\r show",
+            b"abcdefghijklmnopq show",
+        )
     ),
     Exchange(b"a costs\n", b"a 1 ok costs\n"),
     Exchange(b"abcdefghijklmnop costs\n", b"abcdefghijklmnop 1 ok costs\n"),

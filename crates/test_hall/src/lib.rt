@@ -1,20 +1,17 @@
-//! Tests alone: the hall's desks and workers, and whole services over it, asked by their public calls, on threads of
-//! the tests' own; the events of a table, and the reads of a service on one thread.
+//! Tests alone, by public calls: sources and sinks, the source that reads ahead, trays and the queue of rounds; the
+//! hall's desks and workers, and whole services over it, on threads of the tests' own; the events of a table.
 //!
-//! `held.rt`, `services.rt` and `neighbours.rt` show what no clause says of threads (docs/TRUST.md), with up to 1,024
-//! answers while a round is held. tests/hammer.py raises the counts of `callers.rt`, `wakes.rt` and `services.rt`. A
-//! round is solved behind its gate: of nine, the least time from the gate's opening to the answer exceeds the least
-//! time from the asking to the gate (`solving.rt`).
+//! `held.rt` and `services.rt` show what no clause says of threads (docs/TRUST.md), with up to 1,024 answers while a
+//! round is held. tests/hammer.py raises the counts of `queues.rt`, `callers.rt`, `wakes.rt` and `services.rt`. A round
+//! is solved behind its gate: of nine, the least time from the gate's opening to the answer exceeds the least time from
+//! the asking to the gate (`solving.rt`).
 //!
-//! A new event of a table is one more step of an array:
+//! A type that is dropped somewhere costs as much to prove as several functions, once for each crate: so all tests on
+//! threads are in this one. A new service is a `Scene` more (`stages.rt`), a new event of a table a row more:
 //!
 //! ```text
-//! static OF_A_WORN_TENANT: [Row; 4] = [
-//!     (Show(0), Shows(1, 2, 0)),
-//!     (Ask(0), Worn(2)),
-//!     (Take(0), NotNow),
-//!     (Costs(0), Worn(2)),
-//! ];
+//! (Ask(0), Queued(A1)),
+//! (Ask(0), NotNow),
 //! ```
 #![tactic(auto)]
 

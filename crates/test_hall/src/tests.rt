@@ -1,24 +1,22 @@
-//! Desks on threads of their callers, gates that hold workers, halls that are shut first, a desk without life left;
-//! services whose replies do not wait for a neighbour or for input; events of a table, and how much a service reads.
+//! What reads and writes, and the source that reads ahead; trays and the queue of rounds; desks on threads of their
+//! callers, and halls that are shut and closed; services whose replies do not wait for a neighbour or for input; events
+//! of a table.
 ghost use Rattle.std.specs.Prelude.{IsTrue};
 
 mod callers;
-mod closing;
 mod counts;
 mod devices;
 mod events;
 mod gates;
-mod halls;
 mod held;
-mod lives;
-mod neighbours;
-mod reading;
+mod inputs;
+mod queues;
 mod rosters;
 mod scenes;
 mod services;
 mod solving;
-mod stays;
-mod texts;
+mod stages;
+mod trays;
 mod turns;
 mod wakes;
 
@@ -32,21 +30,12 @@ fn check(rt: &impl Abort, holds: bool, what: &str)
     assert!(rt; holds, "{what}");
 }
 
-/// Says what there is where it is not as many as expected.
-fn expect_count(rt: &impl Abort, what: &str, count: u64, expected: u64) {
-    assert!(rt; count == expected, "{what}: {count}, not {expected}");
-}
-
-/// Says which reply is not as expected.
-fn expect_reply(rt: &impl Abort, is_expected: bool, reply: &Reply) {
-    assert!(rt; is_expected, "reply {}", reply.number);
-}
-
 /// This is the reply to a round that places nothing.
 fn expect_idle_round(rt: &impl Abort, reply: &Reply, number: u64) {
     let is_idle = match &reply.outcome {
         Outcome::Round { cost: 0, changes } => changes.as_slice().is_empty(),
         _ => false,
     };
-    expect_reply(rt, is_idle && reply.number == number, reply);
+    let is_expected = is_idle && reply.number == number;
+    assert!(rt; is_expected, "reply {}", reply.number);
 }

@@ -1,123 +1,167 @@
 //! Events of a table, one at a time: where they fit, and where they don't.
-ghost use Rattle.std.specs.Prelude.{◌≤◌};
 
-use super::rosters::{TWO, roster_of};
-use Given::{Admit, Answer, Ask, Collect, Costs, Job, Retire, Round, Show, Take};
-use Wanted::{Admitted, Done, Idle, NotNow, Queued, Retired, Shows, Solved, Took, Worn};
-use firm_rules::{Changes, Command, Limits, Name, Outcome, Refusal, Reply, Ticket, Weight};
+use super::check;
+use super::rosters::roster_of;
+use Given::{Admit, Answer, Ask, Collect, Costs, Retire, Round, Show, Take};
+use Wanted::{Admitted, NotNow, Queued, Retired, Says, Solved, Took};
+use firm_rules::{Command, Limits, Name, Reply, Ticket};
 use firm_table::{Event, Table};
-use firm_text::{MOST_ADMISSIONS, PLACES};
+use firm_text::reply_text;
 use std::alloc::Global;
-use std::ops::Range;
 use std::process::Abort;
 
-const ONE: &str = "t,2,0,1,0,0";
-
-/// An event, its limits and its command as they are written.
+/// An event, at a place or of a worker.
 enum Given {
     Show(usize),
     Costs(usize),
     /// A round that is posted, and not asked for.
     Round(usize),
-    Job(usize),
     Ask(usize),
     Take(usize),
     Answer(usize),
     Collect(usize),
-    /// Limits of nodes and arcs; the life is nine commands.
-    Admit(usize, u64, u64),
+    /// The tenant that comes has room for nothing and two commands.
+    Admit(usize),
     Retire(usize),
 }
 
-/// What answers an event. A ticket is a place and a number, and a reply begins with its number.
+/// What answers an event.
 enum Wanted {
     NotNow,
-    Queued(u32, u64),
-    Took(u32, u64),
-    Solved(u32, u64),
     Admitted,
     Retired,
-    Done(u64),
-    /// A round that places nothing.
-    Idle(u64),
-    Worn(u64),
-    /// A tenant that has nothing yet shows itself, with these limits of nodes and arcs.
-    Shows(u64, u64, u64),
+    Queued(Ticket),
+    Took(Ticket),
+    Solved(Ticket),
+    /// This reply, as it would be written for a tenant `t`.
+    Says(&'static str),
 }
 
 type Row = (Given, Wanted);
 
-fn add_job(rt: &impl Abort) -> Command {
-    let name = Name::read(b"j").expect(rt, "a name");
-    let weight = Weight::check(5).expect(rt, "a weight");
-    Command::AddJob(name, weight)
-}
+/// A tenant that comes has a book of its own, and its tickets go on from those of the tenant before it.
+const A1: Ticket = Ticket {
+    place: 0,
+    number: 1,
+};
 
-fn limits_of(rt: &impl Abort, nodes: u64, arcs: u64) -> Limits {
-    Limits::check(nodes, arcs, 9, 0, 0, 0).expect(rt, "limits")
-}
+const A2: Ticket = Ticket {
+    place: 0,
+    number: 2,
+};
 
-fn event(rt: &impl Abort, given: &Given) -> Event {
+const B1: Ticket = Ticket {
+    place: 1,
+    number: 1,
+};
+
+const C1: Ticket = Ticket {
+    place: 63,
+    number: 1,
+};
+
+const NOTHING: &str = "t 1 ok machines 0 jobs 0 tasks 0 running 0 nodes 2 of 2 arcs 0 of 0";
+
+/// Two tenants of two commands each, at the first places, and two workers.
+static ROWS: [Row; 57] = [
+    (Round(0), NotNow),
+    (Show(2), NotNow),
+    (Ask(2), NotNow),
+    (Collect(0), NotNow),
+    (Retire(2), NotNow),
+    (Retire(64), NotNow),
+    (Take(0), NotNow),
+    (Answer(0), NotNow),
+    (Admit(0), NotNow),
+    (Admit(64), NotNow),
+    (Ask(1), Queued(B1)),
+    (Ask(0), Queued(A1)),
+    (Ask(0), NotNow),
+    (Show(0), NotNow),
+    (Collect(0), NotNow),
+    (Retire(0), NotNow),
+    (Admit(0), NotNow),
+    (Answer(0), NotNow),
+    (Take(2), NotNow),
+    (Take(1), Took(B1)),
+    (Take(1), NotNow),
+    (Take(0), Took(A1)),
+    (Take(0), NotNow),
+    (Ask(0), NotNow),
+    (Show(0), NotNow),
+    (Collect(0), NotNow),
+    (Retire(0), NotNow),
+    (Admit(0), NotNow),
+    (Answer(2), NotNow),
+    (Answer(0), Solved(A1)),
+    (Answer(0), NotNow),
+    (Take(0), NotNow),
+    (Ask(0), NotNow),
+    (Show(0), NotNow),
+    (Retire(0), NotNow),
+    (Admit(0), NotNow),
+    (Collect(1), NotNow),
+    (Collect(0), Says("t 1 ok round cost 0")),
+    (Collect(0), NotNow),
+    (Ask(0), Queued(A2)),
+    (Answer(1), Solved(B1)),
+    (Collect(1), Says("t 1 ok round cost 0")),
+    (Costs(1), Says("t 2 ok costs 0")),
+    (Ask(1), Says("t 3 no 1 worn")),
+    (Show(1), Says("t 3 no 1 worn")),
+    (Admit(63), Admitted),
+    (Admit(63), NotNow),
+    (Ask(63), Queued(C1)),
+    (Take(1), Took(A2)),
+    (Answer(1), Solved(A2)),
+    (Collect(0), Says("t 2 ok round cost 0")),
+    (Retire(0), Retired),
+    (Retire(0), NotNow),
+    (Ask(0), NotNow),
+    (Admit(0), Admitted),
+    (Show(0), Says(NOTHING)),
+    (
+        Ask(0),
+        Queued(Ticket {
+            place: 0,
+            number: 3,
+        }),
+    ),
+];
+
+fn event(given: &Given, limits: Limits) -> Event {
     match given {
         Show(place) => Event::Post(*place, Command::Show),
         Costs(place) => Event::Post(*place, Command::Costs),
         Round(place) => Event::Post(*place, Command::Round),
-        Job(place) => Event::Post(*place, add_job(rt)),
         Ask(place) => Event::Ask(*place),
         Take(worker) => Event::Take(*worker),
         Answer(worker) => Event::Answer(*worker),
         Collect(place) => Event::Collect(*place),
-        Admit(place, nodes, arcs) => Event::Admit(*place, limits_of(rt, *nodes, *arcs)),
+        Admit(place) => Event::Admit(*place, limits),
         Retire(place) => Event::Retire(*place),
     }
 }
 
-fn replied(number: u64, outcome: Outcome) -> firm_table::Answer {
-    firm_table::Answer::Replied(Reply { number, outcome })
-}
-
-fn idle_round(alloc: Global) -> Outcome {
-    Outcome::Round {
-        cost: 0,
-        changes: Changes::from(Vec::new(alloc)),
+/// Whether the reply is written so.
+fn says(alloc: Global, name: Name, reply: &Reply, wanted: &str) -> bool {
+    match reply_text(alloc, name, reply) {
+        Ok(text) => text.as_slice() == wanted.as_bytes(),
+        Err(_) => false,
     }
 }
 
-fn shows_nothing(nodes_limit: u64, arcs_limit: u64) -> Outcome {
-    Outcome::Shown {
-        machines: 0,
-        jobs: 0,
-        tasks: 0,
-        running: 0,
-        nodes: 2,
-        nodes_limit,
-        arcs: 0,
-        arcs_limit,
+fn is_answered(alloc: Global, name: Name, answer: &firm_table::Answer, wanted: &Wanted) -> bool {
+    match (answer, wanted) {
+        (firm_table::Answer::NotNow, NotNow) => true,
+        (firm_table::Answer::Admitted, Admitted) => true,
+        (firm_table::Answer::Retired, Retired) => true,
+        (firm_table::Answer::Queued(ticket), Queued(same)) => ticket == same,
+        (firm_table::Answer::Took(ticket), Took(same)) => ticket == same,
+        (firm_table::Answer::Solved(ticket), Solved(same)) => ticket == same,
+        (firm_table::Answer::Replied(reply), Says(text)) => says(alloc, name, reply, text),
+        _ => false,
     }
-}
-
-fn ticket(place: u32, number: u64) -> Ticket {
-    Ticket { place, number }
-}
-
-fn answer(alloc: Global, wanted: &Wanted) -> firm_table::Answer {
-    match wanted {
-        NotNow => firm_table::Answer::NotNow,
-        Queued(place, number) => firm_table::Answer::Queued(ticket(*place, *number)),
-        Took(place, number) => firm_table::Answer::Took(ticket(*place, *number)),
-        Solved(place, number) => firm_table::Answer::Solved(ticket(*place, *number)),
-        Admitted => firm_table::Answer::Admitted,
-        Retired => firm_table::Answer::Retired,
-        Done(number) => replied(*number, Outcome::Plain),
-        Idle(number) => replied(*number, idle_round(alloc)),
-        Worn(number) => replied(*number, Outcome::Refused(Refusal::Worn)),
-        Shows(number, nodes, arcs) => replied(*number, shows_nothing(*nodes, *arcs)),
-    }
-}
-
-/// Whether the event is answered so.
-fn is_answered(alloc: Global, table: &mut Table, event: Event, wanted: &Wanted) -> bool {
-    table.event(alloc, event) == answer(alloc, wanted)
 }
 
 /// Says which step is answered otherwise.
@@ -125,150 +169,15 @@ fn expect_step(rt: &impl Abort, is_expected: bool, step: usize) {
     assert!(rt; is_expected, "the answer of step {step}");
 }
 
-fn expect_rows(rt: &impl Abort, alloc: Global, table: &mut Table, rows: &[Row]) {
-    for (step, (given, wanted)) in rows.iter().enumerate() {
-        let is_expected = is_answered(alloc, table, event(rt, given), wanted);
-        expect_step(rt, is_expected, step);
+#[test]
+fn each_event_is_answered_where_it_fits(rt: HostRuntime) {
+    let alloc = rt.alloc();
+    let limits = Limits::check(2, 0, 2, 0, 0, 0).expect(&rt, "limits");
+    let name = Name::read(b"t").expect(&rt, "a name");
+    let roster = roster_of(&rt, alloc, "a,2,0,2,0,0\nb,2,0,2,0,0");
+    let mut table = Table::open(alloc, &roster, 2).expect(&rt, "memory");
+    for (step, (given, wanted)) in ROWS.iter().enumerate() {
+        let answer = table.event(alloc, event(given, limits));
+        expect_step(&rt, is_answered(alloc, name, &answer, wanted), step);
     }
-}
-
-fn opened(rt: &impl Abort, alloc: Global, records: &str, workers: usize) -> Table
-    requires { (1 ≤ workers) × (workers ≤ 8) }
-{
-    let roster = roster_of(rt, alloc, records);
-    let table = Table::open(alloc, &roster, workers);
-    drop(roster);
-    table.expect(rt, "memory")
-}
-
-/// Each event in turn of a table that is opened for these tenants and workers.
-fn play(rt: &impl Abort, alloc: Global, records: &str, workers: usize, rows: &[Row])
-    requires { (1 ≤ workers) × (workers ≤ 8) }
-{
-    let mut table = opened(rt, alloc, records, workers);
-    expect_rows(rt, alloc, &mut table, rows);
-}
-
-static OF_ONE_WORKER: [Row; 18] = [
-    (Round(0), NotNow),
-    (Ask(0), Queued(0, 1)),
-    (Ask(0), NotNow),
-    (Show(0), NotNow),
-    (Answer(0), NotNow),
-    (Collect(0), NotNow),
-    (Show(1), Shows(1, 8, 30)),
-    (Ask(1), Queued(1, 1)),
-    (Ask(2), NotNow),
-    (Take(1), NotNow),
-    (Take(0), Took(0, 1)),
-    (Take(0), NotNow),
-    (Answer(0), Solved(0, 1)),
-    (Take(0), Took(1, 1)),
-    (Collect(0), Idle(1)),
-    (Collect(1), NotNow),
-    (Answer(0), Solved(1, 1)),
-    (Collect(1), Idle(2)),
-];
-
-#[test]
-fn one_worker_solves_two_rounds(rt: HostRuntime) {
-    play(&rt, rt.alloc(), TWO, 1, &OF_ONE_WORKER);
-}
-
-static OF_TWO_WORKERS: [Row; 15] = [
-    (Take(0), NotNow),
-    (Ask(1), Queued(1, 1)),
-    (Ask(0), Queued(0, 1)),
-    (Take(1), Took(1, 1)),
-    (Take(0), Took(0, 1)),
-    (Answer(0), Solved(0, 1)),
-    (Answer(0), NotNow),
-    (Collect(1), NotNow),
-    (Collect(0), Idle(1)),
-    (Ask(0), Queued(0, 2)),
-    (Answer(1), Solved(1, 1)),
-    (Ask(1), NotNow),
-    (Collect(1), Idle(1)),
-    (Collect(2), NotNow),
-    (Show(2), NotNow),
-];
-
-#[test]
-fn two_workers_answer_in_any_order(rt: HostRuntime) {
-    play(&rt, rt.alloc(), TWO, 2, &OF_TWO_WORKERS);
-}
-
-static OF_A_WORN_TENANT: [Row; 4] = [
-    (Show(0), Shows(1, 2, 0)),
-    (Ask(0), Worn(2)),
-    (Take(0), NotNow),
-    (Costs(0), Worn(2)),
-];
-
-#[test]
-fn a_worn_tenant_stays_home(rt: HostRuntime) {
-    play(&rt, rt.alloc(), ONE, 1, &OF_A_WORN_TENANT);
-}
-
-static OF_ONE_PLACE: [Row; 21] = [
-    (Retire(2), NotNow),
-    (Admit(2, 3, 1), Admitted),
-    (Admit(2, 3, 1), NotNow),
-    (Job(2), Done(1)),
-    (Ask(2), Queued(2, 1)),
-    (Retire(2), NotNow),
-    (Take(0), Took(2, 1)),
-    (Retire(2), NotNow),
-    (Answer(0), Solved(2, 1)),
-    (Retire(2), NotNow),
-    (Admit(2, 3, 1), NotNow),
-    (Collect(2), Idle(2)),
-    (Retire(2), Retired),
-    (Retire(2), NotNow),
-    (Show(2), NotNow),
-    (Ask(2), NotNow),
-    (Collect(2), NotNow),
-    (Admit(2, 8, 30), Admitted),
-    (Show(2), Shows(1, 8, 30)),
-    (Ask(2), Queued(2, 2)),
-    (Show(0), Shows(1, 9, 24)),
-];
-
-#[test]
-fn a_place_goes_from_tenant_to_tenant(rt: HostRuntime) {
-    play(&rt, rt.alloc(), TWO, 1, &OF_ONE_PLACE);
-}
-
-/// A tenant comes to each of these places, and is answered so.
-fn admit(rt: &impl Abort, alloc: Global, table: &mut Table, places: Range<usize>, wanted: &Wanted) {
-    for place in places {
-        let event = Event::Admit(place, limits_of(rt, 2, 0));
-        expect_step(rt, is_answered(alloc, table, event, wanted), place);
-    }
-}
-
-#[test]
-fn each_place_takes_one_tenant(rt: HostRuntime) {
-    let mut table = opened(&rt, rt.alloc(), TWO, 1);
-    admit(&rt, rt.alloc(), &mut table, 0..2, &NotNow);
-    admit(&rt, rt.alloc(), &mut table, 2..PLACES, &Admitted);
-    admit(&rt, rt.alloc(), &mut table, 0..PLACES + 1, &NotNow);
-}
-
-static COMES_AND_GOES: [Row; 2] = [(Retire(0), Retired), (Admit(0, 2, 0), Admitted)];
-
-static OF_A_WORN_PLACE: [Row; 3] = [
-    (Retire(0), Retired),
-    (Admit(0, 2, 0), NotNow),
-    (Admit(1, 2, 0), Admitted),
-];
-
-#[test]
-fn a_place_is_given_so_often_and_no_more(rt: HostRuntime) {
-    let mut table = opened(&rt, rt.alloc(), ONE, 1);
-    // The roster's row is the first admission to its place.
-    for _ in 1..MOST_ADMISSIONS {
-        expect_rows(&rt, rt.alloc(), &mut table, &COMES_AND_GOES);
-    }
-    expect_rows(&rt, rt.alloc(), &mut table, &OF_A_WORN_PLACE);
 }

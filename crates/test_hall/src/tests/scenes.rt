@@ -1,18 +1,21 @@
 //! Scenes at the desks of a hall, each played while workers run on threads of their own.
 
-ghost use Rattle.std.specs.Prelude.{◌≡◌, ◌≤◌, All};
+ghost use Rattle.std.specs.Prelude.{◌≡◌, ◌≤◌, All, IfErr};
 ghost use Rattle.std.specs.Thread.{IsSync};
 
-use super::callers::{Calls, call_all};
+use super::callers::call_all;
+use super::check;
 use super::gates::Holds;
-use super::halls::{Over, expect_closes, opened};
-use super::held::expect_held;
+use super::held::expect_passed;
+use super::rosters::roster_of;
 use super::solving::expect_solved_behind;
 use super::wakes::{ask_and_shut, put_two_each_turn};
-use firm_hall::{Desk, Hall, Report, WorkerPass, worker};
+use firm_hall::{CloseFault, Desk, EmptyDesk, Hall, Report, WorkerPass, worker};
+use firm_rounds::finish_all;
 use std::alloc::Global;
 use std::process::Abort;
 use std::sync::Wait;
+use std::sync::atomic::Ordering;
 use std::thread;
 use std::thread::Threads;
 use std::time::Clock;
@@ -21,9 +24,9 @@ use std::time::Clock;
 #[derive(Clone, Copy)]
 pub enum Play {
     /// Each desk has a caller on a thread of its own.
-    Callers(Calls),
-    /// The gate holds the rounds of its places; others come back meanwhile.
-    Held,
+    Callers,
+    /// The gate holds one round; another comes back meanwhile.
+    Passed,
     /// Two rounds are put in one go while one is held, turn after turn.
     TwoEachTurn,
     /// Large rounds are timed before the gate and behind it.
@@ -39,8 +42,8 @@ pub struct Scene {
     /// For how many places the gate holds rounds.
     pub places: u32,
     pub play: Play,
-    /// How many rounds there are in all, if all desks are home when the hall is closed.
-    pub rounds: Option<u64>,
+    /// How many rounds there are in all.
+    pub rounds: u64,
 }
 
 /// The desks that are home at the end.
@@ -56,39 +59,13 @@ fn act<R: Alloc<A = Global> + Abort + Clock + Threads + Wait + Sync>(
 {
     let mut desks = desks;
     match play {
-        Play::Callers(calls) => return call_all(rt, hall, desks, calls),
-        Play::Held => expect_held(rt, hall, &mut desks, gate),
+        Play::Callers => return call_all(rt, hall, desks),
+        Play::Passed => expect_passed(rt, rt.alloc(), hall, &mut desks, gate),
         Play::TwoEachTurn => put_two_each_turn(rt, hall, &mut desks, gate),
         Play::Timed => expect_solved_behind(rt, hall, &mut desks, gate),
         Play::ShutBehind(turns) => ask_and_shut(rt, hall, &mut desks, gate, turns),
     }
     desks
-}
-
-/// The reports of a worker for each pass, each on a thread of its own.
-fn run_workers<R: Alloc<A = Global> + Abort + Threads + Wait + Sync>(
-    rt: &R,
-    hall: &Hall,
-    passes: Vec<WorkerPass>,
-    gate: &Holds,
-) -> Vec<Report>
-    requires { All (λ p. p.queue ≡ hall.now.id) passes.items }
-    ensures { All (λ r. r.queue ≡ hall.now.id) result.items }
-{
-    let reports = thread::map_vec(
-        rt,
-        passes,
-        &|pass: WorkerPass| -> Report
-            requires { pass.queue ≡ hall.now.id }
-            ensures { result.queue ≡ hall.entry.now.id }
-        {
-            gate.begin();
-            let report = worker(rt, rt.alloc(), hall, pass, gate);
-            gate.end();
-            report
-        },
-    );
-    reports.expect(rt, "memory")
 }
 
 /// The workers' reports, and the desks that are home after the play. The hall is shut behind it.
@@ -111,7 +88,22 @@ fn act_beside_workers<R: Alloc<A = Global> + Abort + Clock + Threads + Wait + Sy
             requires threads { IsSync R.row }
             requires passes { All (λ p. p.queue ≡ hall.now.id) passes.items }
             ensures { All (λ r. r.queue ≡ hall.entry.now.id) result.items }
-        { run_workers(rt, hall, passes, gate) },
+        {
+            let reports = thread::map_vec(
+                rt,
+                passes,
+                &|pass: WorkerPass| -> Report
+                    requires { pass.queue ≡ hall.now.id }
+                    ensures { result.queue ≡ hall.entry.now.id }
+                {
+                    gate.begun.fetch_add(1, Ordering::SeqCst);
+                    let report = worker(rt, rt.alloc(), hall, pass, gate);
+                    gate.ended.fetch_add(1, Ordering::SeqCst);
+                    report
+                },
+            );
+            reports.expect(rt, "memory")
+        },
         move || -> Vec<Desk>
             requires threads { IsSync R.row }
             requires desks { All (λ d. d.queue ≡ hall.now.id) desks.items }
@@ -124,6 +116,50 @@ fn act_beside_workers<R: Alloc<A = Global> + Abort + Clock + Threads + Wait + Sy
     )
 }
 
+/// How many rounds the hall had; or, where a desk or a report is missing, the hall with all that was handed in.
+fn close<R: Alloc<A = Global> + Abort + Wait>(
+    rt: &R,
+    hall: Hall,
+    desks: Vec<Desk>,
+    reports: Vec<Report>,
+    empty: Vec<EmptyDesk>,
+) -> Result<u64, (Hall, Vec<Desk>, Vec<Report>, Vec<EmptyDesk>)>
+    requires desks { All (λ d. d.queue ≡ hall.id) desks.items }
+    requires reports { All (λ r. r.queue ≡ hall.id) reports.items }
+    requires empty { All (λ e. e.queue ≡ hall.id) empty.items }
+    ensures { IfErr result (λ back. (back.0 ≡ hall) × (back.1.items ≡ desks.items) × (back.2.items ≡ reports.items)
+        × (back.3.items ≡ empty.items)) }
+{
+    match hall.close(rt, desks, reports, empty) {
+        Ok(totals) => Ok(totals.rounds),
+        Err(CloseFault::Missing(hall, desks, reports, empty)) => Err((hall, desks, reports, empty)),
+        Err(CloseFault::Left(_desks, _reports, jobs, _empty)) => {
+            finish_all(rt.alloc(), jobs);
+            panic!(rt; "rounds are left")
+        }
+    }
+}
+
+/// How many rounds the hall had. It closes once no report and no empty desk is missing.
+fn rounds_of<R: Alloc<A = Global> + Abort + Wait>(
+    rt: &R,
+    hall: Hall,
+    desks: Vec<Desk>,
+    reports: Vec<Report>,
+    empty: Vec<EmptyDesk>,
+) -> u64
+    requires desks { All (λ d. d.queue ≡ hall.id) desks.items }
+    requires reports { All (λ r. r.queue ≡ hall.id) reports.items }
+    requires empty { All (λ e. e.queue ≡ hall.id) empty.items }
+{
+    let back = close(rt, hall, desks, Vec::new(rt.alloc()), empty);
+    let (hall, desks, _, empty) = back.err().expect(rt, "a report is missing");
+    let back = close(rt, hall, desks, reports, Vec::new(rt.alloc()));
+    let (hall, desks, reports, _) = back.err().expect(rt, "an empty desk is missing");
+    let rounds = close(rt, hall, desks, reports, empty).ok();
+    rounds.expect(rt, "nothing is missing")
+}
+
 /// The scene is played, with this many workers.
 pub fn perform<R: Alloc<A = Global> + Abort + Clock + Threads + Wait + Sync>(
     rt: &R,
@@ -132,15 +168,10 @@ pub fn perform<R: Alloc<A = Global> + Abort + Clock + Threads + Wait + Sync>(
 )
     requires { (1 ≤ workers) × (workers ≤ 8) }
 {
-    let (hall, desks, passes, empty) = opened(rt, rt.alloc(), scene.records, workers);
+    let alloc = rt.alloc();
+    let roster = roster_of(rt, alloc, scene.records);
+    let (hall, desks, passes, empty) = Hall::open(alloc, &roster, workers).expect(rt, "memory");
     let (reports, desks) = act_beside_workers(rt, &hall, desks, passes, scene);
-    if let Some(rounds) = scene.rounds {
-        let over = Over {
-            hall,
-            desks,
-            reports,
-            empty,
-        };
-        expect_closes(rt, rt.alloc(), over, rounds);
-    }
+    let rounds = rounds_of(rt, hall, desks, reports, empty);
+    check(rt, rounds == scene.rounds, "the rounds of the hall");
 }

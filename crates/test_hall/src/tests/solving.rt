@@ -2,99 +2,85 @@
 
 ghost use Rattle.std.specs.Prelude.{◌≡◌, All};
 
-use super::callers::{Calls, call};
 use super::check;
 use super::gates::Holds;
 use super::scenes::{Play, Scene, perform};
-use super::turns::{ask_first, first_desk, wait_back};
+use super::turns::{ask_first, wait_back};
 use firm_hall::{Desk, Hall};
-use std::alloc::{AllocError, Global};
+use firm_rules::{Command, Outcome};
+use firm_text::{Line, line};
+use std::alloc::Global;
 use std::process::Abort;
 use std::sync::Wait;
 use std::time::{Clock, Duration, Instant};
 
-/// A tenant whose rounds take milliseconds.
-const LARGE: &str = "a,400,3000,100000,50,400";
-
-const MACHINES: u64 = 50;
-
-const JOBS: u64 = 4;
-
-/// Tasks of each job.
-const TASKS: u64 = 50;
-
-/// All rows of the tenant.
-pub const ROWS: u64 = MACHINES + JOBS * (1 + TASKS);
+/// How many machines and tasks the tenant has.
+const PAIRS: u64 = 100;
 
 /// How many rounds are timed.
 const ROUNDS: u64 = 9;
 
-/// The line that adds this row. Machines come first; then each job, with a weight of its own, and its tasks.
-pub fn line_of_row(alloc: Global, row: u64) -> Result<String, AllocError> {
-    let job = row.saturating_sub(MACHINES) / (1 + TASKS);
-    let (what, number, prefix, other) = if row < MACHINES {
-        ("machine m", row, "", 8)
-    } else if (row - MACHINES) % (1 + TASKS) == 0 {
-        (
-            "job j",
-            job,
-            "",
-            job.saturating_add(1).saturating_mul(90_000),
-        )
-    } else {
-        ("task j", job, "t", row)
+/// The desk's tenant obeys a line, of these words around a number.
+fn obey<R: Alloc<A = Global> + Abort>(
+    rt: &R,
+    desk: &mut Desk,
+    front: &str,
+    number: u64,
+    behind: &str,
+)
+    ensures { desk.new.queue ≡ desk.old.queue }
+{
+    let alloc = rt.alloc();
+    let text = format!(in alloc; "{front}{number}{behind}").expect(rt, "memory");
+    let Line::For(_, command) = line(text.as_bytes()) else {
+        panic!(rt; "a line for a tenant")
     };
-    format!(in alloc; "a {what}{number} {prefix}{other}")
+    if command != Command::Round {
+        let reply = desk.command(alloc, command);
+        check(rt, reply.outcome == Outcome::Plain, front);
+    }
+}
+
+/// The desk's caller adds a job, machines and tasks.
+fn add_rows<R: Alloc<A = Global> + Abort>(rt: &R, hall: &Hall, desk: &mut Desk)
+    requires { desk.old.queue ≡ hall.now.id }
+    ensures { desk.new.queue ≡ hall.now.id }
+{
+    let _ = hall;
+    obey(rt, desk, "a job j", 0, " 90000");
+    for number in 0..PAIRS {
+        obey(rt, desk, "a machine m", number, " 8");
+        obey(rt, desk, "a task j0 t", number, "");
+    }
 }
 
 fn now<R: Abort + Clock>(rt: &R) -> Instant {
     Instant::now(rt).ok().expect(rt, "the time")
 }
 
-/// The least time so far, or that since the start where it is less.
-fn shorten<R: Abort + Clock>(rt: &R, least: &mut Duration, start: &Instant) {
-    let time = start.elapsed(rt).ok().expect(rt, "the time");
-    *least = time.min(*least);
-}
-
-/// How many rounds were timed, and how long they took at least: from the call that asks for one until it comes to the
-/// gate, and from the opening of the gate until it is back.
-#[derive(Drop)]
-struct Times {
-    rounds: u64,
-    before: Duration,
-    behind: Duration,
-}
-
+/// How long the round of the first desk took, from the call that asks for it until it comes to the gate, and from the
+/// opening of the gate until it is back.
 fn time_round<R: Alloc<A = Global> + Abort + Clock + Wait>(
     rt: &R,
     hall: &Hall,
     desks: &mut Vec<Desk>,
     gate: &Holds,
-    times: &mut Times,
-)
+    number: u64,
+) -> (Duration, Duration)
     requires { All (λ d. d.queue ≡ hall.now.id) desks.old.items }
     ensures { All (λ d. d.queue ≡ hall.now.id) desks.new.items }
 {
-    times.rounds = times.rounds.saturating_add(1);
-    let start = now(rt);
+    let asked_at = now(rt);
     let asked = ask_first(rt, rt.alloc(), hall, desks);
-    gate.expect_come(rt, times.rounds);
-    shorten(rt, &mut times.before, &start);
-    let start = now(rt);
+    gate.expect_come(rt, number);
+    let opened_at = now(rt);
     gate.open();
     wait_back(rt, hall, asked, desks);
-    shorten(rt, &mut times.behind, &start);
-}
-
-/// The first desk's caller adds all rows of its tenant.
-fn add_rows<R: Alloc<A = Global> + Abort + Wait>(rt: &R, hall: &Hall, desks: &mut Vec<Desk>)
-    requires { All (λ d. d.queue ≡ hall.now.id) desks.old.items }
-    ensures { All (λ d. d.queue ≡ hall.now.id) desks.new.items }
-{
-    let desk = first_desk(rt, hall, desks);
-    let desk = call(rt, hall, desk, Calls::LargeRows);
-    desks.push(desk).expect(rt, "memory");
+    let back_at = now(rt);
+    (
+        opened_at.duration_since(asked_at),
+        back_at.duration_since(opened_at),
+    )
 }
 
 /// Solving takes longer than all else, so it shows on which side of the gate it is done.
@@ -107,24 +93,23 @@ pub fn expect_solved_behind<R: Alloc<A = Global> + Abort + Clock + Wait>(
     requires { All (λ d. d.queue ≡ hall.now.id) desks.old.items }
     ensures { All (λ d. d.queue ≡ hall.now.id) desks.new.items }
 {
-    add_rows(rt, hall, desks);
-    let mut times = Times {
-        rounds: 0,
-        before: Duration::MAX,
-        behind: Duration::MAX,
-    };
-    for _ in 0..ROUNDS {
-        time_round(rt, hall, desks, gate, &mut times);
+    check(rt, !desks.is_empty(), "a desk");
+    let desk = &mut desks[0];
+    add_rows(rt, hall, desk);
+    let (mut before, mut behind) = (Duration::MAX, Duration::MAX);
+    for number in 0..ROUNDS {
+        let times = time_round(rt, hall, desks, gate, number.saturating_add(1));
+        before = before.min(times.0);
+        behind = behind.min(times.1);
     }
-    let is_longer = times.before < times.behind;
-    check(rt, is_longer, "a round takes longer behind the gate");
+    check(rt, before < behind, "a round takes longer behind the gate");
 }
 
 const TIMED: Scene = Scene {
-    records: LARGE,
+    records: "a,400,3000,100000,50,400",
     places: 1,
     play: Play::Timed,
-    rounds: Some(ROUNDS),
+    rounds: ROUNDS,
 };
 
 #[test]

@@ -2,18 +2,16 @@
 
 ghost use Rattle.std.specs.Prelude.{◌≡◌, All};
 
-use super::counts::rest_awhile;
-use super::expect_idle_round;
+use super::check;
+use super::counts::{LOOKS, reaches, rest_awhile};
 use super::gates::Holds;
 use super::scenes::{Play, Scene, perform};
-use super::turns::{ask_first, wait_back};
-use firm_hall::{Asked, AskedPoll, Desk, Hall};
+use super::turns::{ask_first, poll_back, wait_back};
+use firm_hall::{Desk, Hall};
 use std::alloc::Global;
 use std::hint::spin_loop;
 use std::process::Abort;
 use std::sync::Wait;
-
-const THREE: &str = "a,2,0,20000,0,0\nb,2,0,20000,0,0\nc,2,0,20000,0,0";
 
 /// How often two rounds are put in one go.
 const TURNS: u64 = 1_000;
@@ -29,13 +27,13 @@ fn put_two_in_one_go<R: Alloc<A = Global> + Abort + Wait>(
     requires { All (λ d. d.queue ≡ hall.now.id) desks.old.items }
     ensures { All (λ d. d.queue ≡ hall.now.id) desks.new.items }
 {
-    let come = turn.saturating_mul(3);
+    let (alloc, come) = (rt.alloc(), turn.saturating_mul(3));
     rest_awhile(turn);
-    let held = ask_first(rt, rt.alloc(), hall, desks);
+    let held = ask_first(rt, alloc, hall, desks);
     gate.expect_come(rt, come.saturating_add(1));
     rest_awhile(turn / 2);
-    let second = ask_first(rt, rt.alloc(), hall, desks);
-    let third = ask_first(rt, rt.alloc(), hall, desks);
+    let second = ask_first(rt, alloc, hall, desks);
+    let third = ask_first(rt, alloc, hall, desks);
     gate.expect_come(rt, come.saturating_add(3));
     gate.open();
     wait_back(rt, hall, held, desks);
@@ -58,10 +56,10 @@ pub fn put_two_each_turn<R: Alloc<A = Global> + Abort + Wait>(
 }
 
 const TWO_EACH_TURN: Scene = Scene {
-    records: THREE,
+    records: "a,2,0,20000,0,0\nb,2,0,20000,0,0\nc,2,0,20000,0,0",
     places: 3,
     play: Play::TwoEachTurn,
-    rounds: Some(3 * TURNS),
+    rounds: 3 * TURNS,
 };
 
 // A round that waits while a worker sleeps never comes to the gate.
@@ -72,20 +70,6 @@ fn no_worker_sleeps_while_rounds_wait(rt: HostRuntime) {
 
 /// How often a hall is shut behind a round.
 const HALLS: u64 = 2_000;
-
-/// The desk that asked is back behind the others, with its first reply.
-fn expect_back(rt: &impl Abort, hall: &Hall, asked: Asked, desks: &mut Vec<Desk>)
-    requires asked { asked.queue ≡ hall.now.id }
-    requires desks { All (λ d. d.queue ≡ hall.now.id) desks.old.items }
-    ensures { All (λ d. d.queue ≡ hall.now.id) desks.new.items }
-{
-    let _ = hall;
-    let AskedPoll::Back(desk, reply) = asked.poll() else {
-        panic!(rt; "the round is left")
-    };
-    expect_idle_round(rt, &reply, 1);
-    desks.push(desk).expect(rt, "memory");
-}
 
 /// Asks for the first desk's round once the worker begins, and shuts the hall right behind it. The round is answered
 /// once the worker has ended.
@@ -99,28 +83,25 @@ pub fn ask_and_shut<R: Alloc<A = Global> + Abort + Wait>(
     requires { All (λ d. d.queue ≡ hall.now.id) desks.old.items }
     ensures { All (λ d. d.queue ≡ hall.now.id) desks.new.items }
 {
-    gate.wait_for_begin();
+    check(rt, reaches(&gate.begun, 1, LOOKS), "the worker begins");
     for _ in 0..pause {
         spin_loop();
     }
     let asked = ask_first(rt, rt.alloc(), hall, desks);
     hall.shut();
-    gate.expect_end(rt);
-    expect_back(rt, hall, asked, desks);
-}
-
-fn shut_behind(turns: u64) -> Scene {
-    Scene {
-        records: "t,2,0,1,0,0",
-        places: 0,
-        play: Play::ShutBehind(turns),
-        rounds: Some(1),
-    }
+    check(rt, reaches(&gate.ended, 1, LOOKS), "the worker ends");
+    poll_back(rt, hall, asked, desks, 1);
 }
 
 #[test]
 fn a_round_that_was_asked_before_the_hall_was_shut_is_solved(rt: HostRuntime) {
     for turn in 0..HALLS {
-        perform(&rt, 1, shut_behind(turn % 100));
+        let scene = Scene {
+            records: "t,2,0,1,0,0",
+            places: 0,
+            play: Play::ShutBehind(turn % 100),
+            rounds: 1,
+        };
+        perform(&rt, 1, scene);
     }
 }
