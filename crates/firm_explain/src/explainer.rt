@@ -5,12 +5,13 @@ ghost use Rattle.firm_rules.specs.Placement.{Case as CaseRow};
 ghost use Rattle.firm_explain.specs.RoundRows.{AwaitsRound, BeginsWith};
 
 use crate::options::Request;
+use crate::page::Page;
 use crate::reasons::put_reasons;
 use crate::rows::put_rows;
 use firm_rents::placement_of;
 use firm_rules::{Case, Name, RecentCosts, Rows};
 use firm_table::Watcher;
-use firm_text::{Sink, write_all};
+use firm_text::{Failed, Sink, write_all};
 use std::alloc::{AllocError, Global};
 use std::mem;
 
@@ -26,7 +27,7 @@ pub(crate) struct Explainer<'w, W: Sink> {
     // The lines of the rows before that round, and those of its reasons. Reused, so that the texts of all rounds take
     // only the memory of the longest.
     rows: Vec<u8>,
-    text: Vec<u8>,
+    reasons: Page,
     has_failed: bool,
 }
 
@@ -38,7 +39,7 @@ impl<'w, W: Sink> Explainer<'w, W> {
             request,
             case: Ok(None),
             rows: Vec::new(alloc),
-            text: Vec::new(alloc),
+            reasons: Page::new(alloc),
             has_failed: false,
         }
     }
@@ -73,7 +74,8 @@ impl<'w, W: Sink> Explainer<'w, W> {
             → BeginsWith (W.written self.old.writer.now) (W.written self.new.writer.now) self.old.rows.items) }
     {
         let placement = placement_of(self.alloc, rows)?;
-        put_reasons(&mut self.text, rows, case, &placement, self.request)?;
+        put_reasons(&mut self.reasons, rows, case, &placement, self.request);
+        self.reasons.finish()?;
         self.write_out();
         Ok(())
     }
@@ -84,10 +86,9 @@ impl<'w, W: Sink> Explainer<'w, W> {
             → BeginsWith (W.written self.old.writer.now) (W.written self.new.writer.now) self.old.rows.items }
     {
         if !self.has_failed {
-            self.has_failed = write_all(self.writer, &self.rows).is_err()
-                || write_all(self.writer, &self.text).is_err();
+            self.has_failed = write_both(self.writer, &self.rows, self.reasons.as_slice()).is_err();
         }
-        self.text.clear();
+        self.reasons.clear();
     }
 }
 
@@ -112,4 +113,13 @@ impl<W: Sink> Watcher for Explainer<'_, W> {
             None => Ok(()),
         }
     }
+}
+
+// Writes a text, and another one behind it.
+fn write_both<W: Sink>(writer: &mut W, first: &[u8], second: &[u8]) -> Result<(), Failed>
+    ensures { OnOk result (BeginsWith (W.written writer.old) (W.written writer.new) first.now) }
+{
+    write_all(writer, first)?;
+    write_all(writer, second)?;
+    Ok(())
 }

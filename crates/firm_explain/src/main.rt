@@ -51,10 +51,13 @@
 //! `choices` finds the best other machine of each task that changes or waits, in a pass over the machines for each gap
 //! between a low and a high rent.
 //!
-//! `ladder` parts the machines and waiting, by what `moves` finds to cost nothing more, until each choice that is
-//! better for a task stands lower than what the task has. Of a group in which one is left, `leaving` takes off the
-//! places that no task leaves from the first such task on; where there are none, the group is parted into those places
-//! that reach one another by choices of later tasks (`parts`).
+//! The reasons are written on a `Page`, which remembers whether memory was refused: what writes on it returns nothing,
+//! and the watcher asks once, before it writes the page out.
+//!
+//! `ladder` parts the machines and waiting into `groups`, by what `moves` finds to cost nothing more, until each choice
+//! that is better for a task stands lower than what the task has. Of a group in which one is left, `leaving` takes off
+//! the places that no task leaves from the first such task on; where there are none, the group is parted into those
+//! places that reach one another by choices of later tasks (`parts`), by how high each has to stand (`heights`).
 //!
 //! `witness` follows, for each choice of `--why`, moves that cost nothing by the task's own rents to what the task has.
 //!
@@ -79,6 +82,8 @@ mod choices;
 mod cost_line;
 mod crowds;
 mod explainer;
+mod groups;
+mod heights;
 mod ladder;
 mod leaving;
 mod market;
@@ -87,12 +92,12 @@ mod moves;
 mod numbers;
 mod options;
 mod order_line;
+mod page;
 mod parts;
 mod program;
 mod reasons;
 mod replay;
 mod rows;
-mod text;
 mod why;
 mod witness;
 

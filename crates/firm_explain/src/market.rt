@@ -6,6 +6,7 @@ ghost use Rattle.firm_rents.specs.Rents.{AreRents, CostsAtLeast, IsBelow, Show, 
 ghost use Rattle.firm_rules.specs.Placement.{choice_at, task_at};
 ghost use Rattle.firm_rents.specs.TwoTables.{more_by_both};
 
+use crate::numbers::number_of;
 use firm_rents::{Rents, Shown, excess, high_rents, low_rents, shows_least};
 use firm_rules::{Case, Choice, Rows, legality_is_judged};
 use std::alloc::{AllocError, Global};
@@ -56,6 +57,11 @@ impl<'a> Market<'a> {
             by_low,
             by_high,
         }))
+    }
+
+    /// The place of waiting, behind those of the machines.
+    pub(crate) fn waiting(&self) -> u32 {
+        number_of(self.case.machine_count())
     }
 
     /// The choice of a task.

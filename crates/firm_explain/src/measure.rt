@@ -3,14 +3,15 @@
 ghost use Rattle.std.specs.Prelude.{◌≡◌, false};
 
 use crate::options::flag;
+use crate::page::Page;
 use crate::program::{NAME, Sinks};
 use crate::replay::Replay;
-use clap::{Arg, Command, Error};
+use clap::{Arg, ArgMatches, Command, Error};
 use firm_program::{
     Fault, Named, answer_words, read_roster, read_state, roster_option, state_option, tell,
 };
 use firm_table::{MOST_INPUT, Opening, ServeFault, serve_one_from};
-use firm_text::{Bytes, Sink, write_all};
+use firm_text::{Bytes, Sink, Source, write_all};
 use std::alloc::{AllocError, Global};
 use std::io::{ErrorKind, Read};
 
@@ -62,14 +63,18 @@ pub(crate) fn measure<O: Sink, C: Sink, F: Sink>(
 
 fn read<'a>(alloc: Global, words: &'a [String]) -> Result<Given<'a>, Error> {
     let matches = command_line(alloc)?.try_get_matches_from(words)?;
-    Ok(Given {
+    Ok(given_by(&matches))
+}
+
+fn given_by<'a>(matches: &ArgMatches<'a>) -> Given<'a> {
+    Given {
         roster: matches.get_str("roster"),
         state: matches.get_str("state"),
         way: Way {
             counts: matches.get_flag("counts"),
             search: matches.get_flag("search"),
         },
-    })
+    }
 }
 
 fn command_line<'a>(alloc: Global) -> Result<Command<'a>, AllocError> {
@@ -103,14 +108,14 @@ fn measure_file<W: Sink>(rt: &HostRuntime, given: Given<'_>, writer: &mut W) -> 
     requires { W.write_failed writer.old ≡ false }
 {
     match Named::one_of(given.roster, given.state)? {
-        Named::Roster(path) => {
-            let roster = read_roster(rt, rt.alloc(), path)?;
-            measure_opening(rt, Opening::Roster(&roster), given.way, writer)
-        }
-        Named::State(path) => {
-            let saved = read_state(rt, rt.alloc(), path)?;
-            measure_opening(rt, Opening::State(&saved), given.way, writer)
-        }
+        Named::Roster(path) => match read_roster(rt, rt.alloc(), path) {
+            Ok(roster) => measure_opening(rt, Opening::Roster(&roster), given.way, writer),
+            Err(fault) => Err(fault),
+        },
+        Named::State(path) => match read_state(rt, rt.alloc(), path) {
+            Ok(saved) => measure_opening(rt, Opening::State(&saved), given.way, writer),
+            Err(fault) => Err(fault),
+        },
     }
 }
 
@@ -122,21 +127,47 @@ fn measure_opening<W: Sink>(
 ) -> Result<(), Fault>
     requires { W.write_failed writer.old ≡ false }
 {
-    let alloc = rt.alloc();
-    if !way.counts && !way.search {
+    if way.counts || way.search {
+        let input = read_input(rt)?;
+        measure_input(rt.alloc(), opening, way, &input, writer)
+    } else {
         let mut reader = Bytes::new(rt.stdin());
-        serve_one_from(alloc, &mut reader, writer, opening, MOST_INPUT)?;
-        return Ok(());
+        serve(rt.alloc(), opening, &mut reader, writer)
     }
-    let input = read_input(rt)?;
+}
+
+fn measure_input<W: Sink>(
+    alloc: Global,
+    opening: Opening<'_>,
+    way: Way,
+    input: &[u8],
+    writer: &mut W,
+) -> Result<(), Fault>
+    requires { W.write_failed writer.old ≡ false }
+{
     if !way.search {
-        let mut reader = Bytes::new(input.as_slice());
-        serve_one_from(alloc, &mut reader, writer, opening, MOST_INPUT)?;
+        serve(alloc, opening, &mut Bytes::new(input), writer)?;
     }
-    let text = replayed(alloc, opening, way, &input)?;
-    match write_all(writer, &text) {
+    let page = replayed(alloc, opening, way, input)?;
+    match write_all(writer, page.as_slice()) {
         Ok(()) => Ok(()),
         Err(_) => Err(Fault::Service(ServeFault::Write)),
+    }
+}
+
+// Answers the input as the service does.
+fn serve<I: Source, W: Sink>(
+    alloc: Global,
+    opening: Opening<'_>,
+    reader: &mut I,
+    writer: &mut W,
+) -> Result<(), Fault>
+    requires reader { I.read_failed reader.old ≡ false }
+    requires writer { W.write_failed writer.old ≡ false }
+{
+    match serve_one_from(alloc, reader, writer, opening, MOST_INPUT) {
+        Ok(()) => Ok(()),
+        Err(cause) => Err(Fault::Service(cause)),
     }
 }
 
@@ -147,17 +178,18 @@ fn replayed(
     opening: Opening<'_>,
     way: Way,
     input: &[u8],
-) -> Result<Vec<u8>, AllocError> {
+) -> Result<Page, AllocError> {
     let mut replay = Replay::open(alloc, opening, way.search)?;
-    let mut text = Vec::new(alloc);
-    replay.play(alloc, &mut text, input)?;
+    let mut page = Page::new(alloc);
+    replay.play(&mut page, input);
     if !way.search {
-        text.clear();
+        page.clear();
     }
     if way.counts {
-        replay.put_counts(&mut text)?;
+        replay.put_counts(&mut page);
     }
-    Ok(text)
+    page.finish()?;
+    Ok(page)
 }
 
 fn read_input(rt: &HostRuntime) -> Result<Vec<u8>, Fault> {

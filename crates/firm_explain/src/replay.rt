@@ -1,10 +1,10 @@
 //! Tenants that answer their lines once more, apart from the service, to tell how much each of their rounds took.
 
-use crate::text::{put_labelled, put_name};
+use crate::page::Page;
 use firm_rules::{Command, Name};
 use firm_table::Opening;
 use firm_tenant::Tenant;
-use firm_text::{Line, PLACES, line, put_reply};
+use firm_text::{Line, PLACES, line};
 use std::alloc::{AllocError, Global};
 
 /// The tenants that a service opens with, but none that a line admits.
@@ -18,7 +18,7 @@ pub(crate) struct Replay {
 struct Replayed {
     name: Name,
     tenant: Tenant,
-    counts: Vec<u8>,
+    counts: Page,
 }
 
 impl Replay {
@@ -56,74 +56,55 @@ impl Replay {
         self.tenants.push(Replayed {
             name,
             tenant,
-            counts: Vec::new(alloc),
+            counts: Page::new(alloc),
         })?;
         Ok(())
     }
 
     /// Adds the tenants' replies to their lines of an input. All other lines are skipped.
-    pub(crate) fn play(
-        &mut self,
-        alloc: Global,
-        text: &mut Vec<u8>,
-        input: &[u8],
-    ) -> Result<(), AllocError> {
+    pub(crate) fn play(&mut self, page: &mut Page, input: &[u8]) {
         for bytes in input.split(|byte| *byte == b'\n') {
             if let Line::For(name, command) = line(bytes) {
-                self.answer(alloc, text, name, command)?;
+                self.answer(page, name, command);
             }
         }
-        Ok(())
     }
 
-    fn answer(
-        &mut self,
-        alloc: Global,
-        text: &mut Vec<u8>,
-        name: Name,
-        command: Command,
-    ) -> Result<(), AllocError> {
+    fn answer(&mut self, page: &mut Page, name: Name, command: Command) {
         for replayed in self.tenants.iter_mut() {
             if replayed.name == name {
-                return replayed.answer(alloc, text, command);
+                return replayed.answer(page, command);
             }
         }
-        Ok(())
     }
 
     /// Adds a line for each round, tenant by tenant: the tenant's name, how many path searches the round made, how many
     /// looks they took, and how many its proposals.
-    pub(crate) fn put_counts(&self, text: &mut Vec<u8>) -> Result<(), AllocError> {
+    pub(crate) fn put_counts(&self, page: &mut Page) {
         for replayed in self.tenants.iter() {
-            text.extend_from_slice(&replayed.counts)?;
+            page.put_page(&replayed.counts);
         }
-        Ok(())
     }
 }
 
 impl Replayed {
     // Adds the reply to a command; a round's line is kept.
-    fn answer(
-        &mut self,
-        alloc: Global,
-        text: &mut Vec<u8>,
-        command: Command,
-    ) -> Result<(), AllocError> {
-        let reply = self.tenant.step(alloc, command);
-        put_reply(text, self.name, &reply)?;
+    fn answer(&mut self, page: &mut Page, command: Command) {
+        let reply = self.tenant.step(page.alloc, command);
+        page.put_reply(self.name, &reply);
         if command == Command::Round {
-            self.count_round()?;
+            self.count_round();
         }
-        text.extend_from_slice(b"\n")
+        page.put(b"\n");
     }
 
     // Keeps the line of the last round.
-    fn count_round(&mut self) -> Result<(), AllocError> {
+    fn count_round(&mut self) {
         let scratch = self.tenant.scratch();
-        put_name(&mut self.counts, self.name)?;
-        put_labelled(&mut self.counts, b" ", scratch.searches())?;
-        put_labelled(&mut self.counts, b" ", scratch.looks())?;
-        put_labelled(&mut self.counts, b" ", scratch.proposed())?;
-        self.counts.extend_from_slice(b"\n")
+        self.counts.put_name(self.name);
+        self.counts.put_number(b" ", scratch.searches());
+        self.counts.put_number(b" ", scratch.looks());
+        self.counts.put_number(b" ", scratch.proposed());
+        self.counts.put(b"\n");
     }
 }

@@ -5,8 +5,9 @@ ghost use Rattle.firm_rents.specs.Rents.{CostsAtLeast, Show};
 
 use crate::choices::ranks_before;
 use crate::market::Market;
+use crate::moves::Moves;
+use crate::page::Page;
 use crate::reasons::{put_more, put_rents, put_sum};
-use crate::text::{put_choice, put_labelled, put_other, put_task_name};
 use crate::witness::Witnesses;
 use firm_rents::{Rents, Shown, excess, rents_for, shows_least};
 use firm_rules::{Choice, Name, legality_is_judged};
@@ -30,107 +31,93 @@ impl Rival {
 
 /// Adds how much more each other choice of the task of this name costs, by the rents under which each costs the most
 /// that it can; nothing if there is no such task.
-pub(crate) fn put_why(
-    text: &mut Vec<u8>,
-    market: &Market<'_>,
-    name: Name,
-) -> Result<(), AllocError> {
+pub(crate) fn put_why(page: &mut Page, market: &Market<'_>, name: Name) {
     match market.rows.task_place(name) {
-        Some(number) if number < market.case.task_count() => put_task_why(text, market, number),
-        _ => Ok(()),
+        Some(number) if number < market.case.task_count() => put_task_why(page, market, number),
+        _ => {}
     }
 }
 
 // The same for the task of this number.
-fn put_task_why(text: &mut Vec<u8>, market: &Market<'_>, number: usize) -> Result<(), AllocError>
+fn put_task_why(page: &mut Page, market: &Market<'_>, number: usize)
     requires { number < length market.now.case.now.tasks }
 {
-    let rents = rents_for(*text.allocator(), market.case, market.placement, number)?;
+    let Ok(rents) = rents_for(page.alloc, market.case, market.placement, number) else {
+        return page.refuse();
+    };
     let shown = shows_least(market.case, &rents, market.placement);
-    if !shown.least {
-        text.extend_from_slice(b"# NOT SHOWN to be least by ")?;
-        put_task_name(text, market.rows, number)?;
-        return text.extend_from_slice(b"'s rents\n");
+    if shown.least {
+        put_by_rents(page, market, number, &rents, shown);
+    } else {
+        page.put_task(b"# NOT SHOWN to be least by ", market.rows, number);
+        page.put(b"'s rents\n");
     }
-    put_by_rents(text, market, number, &rents, shown)
 }
 
 // The same by rents of the task's own that show the placement.
-fn put_by_rents(
-    text: &mut Vec<u8>,
-    market: &Market<'_>,
-    number: usize,
-    rents: &Rents,
-    by_rents: Shown,
-) -> Result<(), AllocError>
+fn put_by_rents(page: &mut Page, market: &Market<'_>, number: usize, rents: &Rents, by_rents: Shown)
     requires task { number < length market.now.case.now.tasks }
     requires shown { Show market.now.case.now rents.now market.now.placement.now }
 {
-    text.extend_from_slice(b"# ")?;
-    put_task_name(text, market.rows, number)?;
-    text.extend_from_slice(b"'s")?;
-    put_rents(text, market.rows, rents)?;
-    let rivals = rivals_of(*text.allocator(), market, number, rents)?;
-    put_rivals(text, market, number, rents, &rivals)?;
-    put_shown(text, market, number, by_rents)?;
-    put_witnesses(text, market, number, rents, &rivals)
+    let Ok(rivals) = rivals_of(page.alloc, market, number, rents) else {
+        return page.refuse();
+    };
+    page.put_task(b"# ", market.rows, number);
+    page.put(b"'s");
+    put_rents(page, market.rows, rents);
+    put_rivals(page, market, number, rents, &rivals);
+    put_shown(page, market, number, by_rents);
+    put_witnesses(page, market, number, rents, &rivals);
 }
 
 // What else changes where the task has each other choice.
 fn put_witnesses(
-    text: &mut Vec<u8>,
+    page: &mut Page,
     market: &Market<'_>,
     number: usize,
     rents: &Rents,
     rivals: &[Rival],
-) -> Result<(), AllocError> {
-    let witnesses = Witnesses::of(*text.allocator(), market, number, rents)?;
-    for rival in rivals.iter() {
-        witnesses.put(text, market, choice_of(*rival), rival.more)?;
+) {
+    let Ok(moves) = Moves::of(page.alloc, market, rents) else {
+        return page.refuse();
+    };
+    match &Witnesses::of(page.alloc, &moves, market, number) {
+        Ok(witnesses) => {
+            for rival in rivals.iter() {
+                witnesses.put(page, market, choice_of(*rival), rival.more);
+            }
+        }
+        Err(_) => page.refuse(),
     }
-    Ok(())
 }
 
 // The line that closes the proof by the task's own rents.
-fn put_shown(
-    text: &mut Vec<u8>,
-    market: &Market<'_>,
-    number: usize,
-    shown: Shown,
-) -> Result<(), AllocError> {
-    text.extend_from_slice(b"# least by ")?;
-    put_task_name(text, market.rows, number)?;
-    put_labelled(text, b"'s rents: cost ", shown.cost)?;
-    put_sum(text, shown)?;
-    text.extend_from_slice(b"\n")
+fn put_shown(page: &mut Page, market: &Market<'_>, number: usize, shown: Shown) {
+    page.put_task(b"# least by ", market.rows, number);
+    page.put_number(b"'s rents: cost ", shown.cost);
+    put_sum(page, shown);
+    page.put(b"\n");
 }
 
 // The task's choice, followed by all others.
-fn put_rivals(
-    text: &mut Vec<u8>,
-    market: &Market<'_>,
-    number: usize,
-    rents: &Rents,
-    rivals: &[Rival],
-) -> Result<(), AllocError>
+fn put_rivals(page: &mut Page, market: &Market<'_>, number: usize, rents: &Rents, rivals: &[Rival])
     requires { number < length market.now.case.now.tasks }
 {
     let (choice, home) = (market.choice_of(number), market.case.home(number));
-    text.extend_from_slice(b"# ")?;
-    put_task_name(text, market.rows, number)?;
-    put_choice(text, market.rows, choice, home)?;
-    put_labelled(text, b": ", market.case.cost_of_choice(number, choice))?;
+    page.put_task(b"# ", market.rows, number);
+    page.put_choice(market.rows, choice, home);
+    page.put_number(b": ", market.case.cost_of_choice(number, choice));
     if let Choice::On(_) = choice {
-        put_labelled(text, b" + rent ", rents.of_choice(choice))?;
+        page.put_number(b" + rent ", rents.of_choice(choice));
     }
     let mut before = None;
     for rival in rivals.iter() {
-        put_end_of(text, before, Some(*rival))?;
-        put_other(text, market.rows, choice_of(*rival), home)?;
+        put_end_of(page, before, Some(*rival));
+        page.put_other(market.rows, choice_of(*rival), home);
         before = Some(*rival);
     }
-    put_end_of(text, before, None)?;
-    text.extend_from_slice(b"\n")
+    put_end_of(page, before, None);
+    page.put(b"\n");
 }
 
 // All other choices of the task, those that cost least more first.
@@ -194,21 +181,13 @@ fn choice_of(rival: Rival) -> Choice {
 }
 
 // What stands between two choices: how much more the one before costs, unless the next costs as much.
-fn put_end_of(
-    text: &mut Vec<u8>,
-    before: Option<Rival>,
-    next: Option<Rival>,
-) -> Result<(), AllocError> {
-    if let (Some(last), Some(rival)) = (before, next) {
-        if rival.is_like(last) {
-            return text.extend_from_slice(b", ");
-        }
-    }
-    if let Some(last) = before {
-        put_more(text, last.more, !last.ranks_before)?;
+fn put_end_of(page: &mut Page, before: Option<Rival>, next: Option<Rival>) {
+    match (before, next) {
+        (Some(last), Some(rival)) if rival.is_like(last) => return page.put(b", "),
+        (Some(last), _) => put_more(page, last.more, !last.ranks_before),
+        _ => {}
     }
     if next.is_some() {
-        text.extend_from_slice(b"; ")?;
+        page.put(b"; ");
     }
-    Ok(())
 }
