@@ -26,11 +26,13 @@ def control(name: str, old: str, new: str, is_refused: bool, word: str = "") -> 
     return Control(Edit(CRATE, f"control, {name}", (Pair(SOURCE, old, new),)), is_refused, word)
 
 
-# `take` calls `get`: tried beside the broken one, it can't be proved either.
+# `take` calls `get`: tried beside the broken one, it can't be proved either. The second edits of `get` and `take` are
+# tried on copies of these.
 CONTROLS = [
     control("broken", "if *stamp == id.stamp => Some(value),", "if *stamp <= id.stamp => Some(value),", True),
-    control("only a caller", "self.len -= 1;", "self.len = self.len - 1;", False, STILL_PROVED),
-    control("nothing changes", "self.len += 1;", "self.len = self.len + 1;", False, STILL_PROVED),
+    control("broken, on a copy", "if id.place >= self.used {", "if id.place > self.used {", True),
+    control("broken beside a copy", "self.first_free = Some(id.place);", "self.first_free = None;", True),
+    control("only a caller, on a copy", "self.len -= 1;", "self.len = self.len - 1;", False, STILL_PROVED),
     control("another name", "if place >= self.used {", "let used = self.used; if place >= used {", False, SHAPE_ALONE),
 ]
 

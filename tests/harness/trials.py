@@ -1,7 +1,7 @@
 """Tries the edits of a crate, several in one check, until each is refused for a goal of its own or is tried alone.
 
-The first checks read no body but those of the functions that the edits change. What these don't show to be refused is
-tried with all bodies, and then alone.
+The first checks read no body but those of the functions that the edits change, and try several edits of a function on
+copies of it. What these don't show to be refused is tried with all bodies, and then alone.
 """
 
 from __future__ import annotations
@@ -14,6 +14,7 @@ from pathlib import Path
 from typing import Callable, Iterable, Iterator, NamedTuple
 
 from harness.bare import MAIN, strip
+from harness.copies import Copy, copy_of, copy_proof, has_closures, plain, with_copies
 from harness.edits import PARTS, BadEdit, Edit, Function, Texts, applied, changed_functions
 from harness.proving import Crate, prover_words
 from harness.refusals import Outcome, read_outcome
@@ -43,10 +44,15 @@ class Planned(NamedTuple):
 
 
 class Batch(NamedTuple):
-    """Edits that are tried in one check, and the crate's files with all of them."""
+    """Edits that are tried in one check, the crate's files with all of them, and the copies of functions in these."""
 
     planned: list[Planned]
     texts: Texts
+    copies: list[Copy]
+    unedited: list[Copy]
+
+    def edits(self) -> set[Edit]:
+        return {planned.edit for planned in self.planned}
 
 
 class Trial:
@@ -55,6 +61,7 @@ class Trial:
     def __init__(self, crate: Crate, libraries: Callable[[Crate], Path], kept: Path) -> None:
         self.crate, self.libraries, self.kept = crate, libraries, kept
         self.checks = 0
+        self.uncopied: set[Function] = set()  # of which an unedited copy has an open goal
         self.sources = {
             str(file.relative_to(crate.folder)): file.read_text() for file in crate.sources() if file.suffix == ".rt"
         }
@@ -78,6 +85,7 @@ class Trial:
                 verdicts.append(Verdict(edit, False, f"BAD EDIT: {bad}"))
         bare = [planned for planned in left if planned.functions and MAIN not in planned.functions]
         ended = [*self.rounds(bare, is_bare=True)]
+        ended += self.rounds([one for one in self.without(bare, ended) if one.functions & self.uncopied], is_bare=True)
         ended += self.rounds(self.without(left, ended), is_bare=False)
         for planned in self.without(left, ended):
             ended += self.judge(self.batch_of([planned]), is_bare=False)
@@ -86,9 +94,9 @@ class Trial:
     def rounds(self, left: list[Planned], is_bare: bool) -> Iterator[Verdict]:
         """Tries each of them once, beside others; gives the verdicts on those of which these checks tell."""
         while left:
-            batch = self.batch_of(left)
+            batch = self.batch_of(left, is_bare)
             yield from self.judge(batch, is_bare)
-            left = [planned for planned in left if planned not in batch.planned]
+            left = [planned for planned in left if planned.edit not in batch.edits()]
 
     @staticmethod
     def without(left: list[Planned], verdicts: list[Verdict]) -> list[Planned]:
@@ -96,13 +104,21 @@ class Trial:
         done = {verdict.edit for verdict in verdicts}
         return [planned for planned in left if planned.edit not in done]
 
-    def batch_of(self, left: list[Planned]) -> Batch:
-        """The first edits that change different functions and leave one another's texts as they are."""
+    def batch_of(self, left: list[Planned], is_copied: bool = False) -> Batch:
+        """The first edits that change different functions and leave one another's texts as they are; with further ones
+        of these functions on copies, where that is asked."""
         chosen: list[Planned] = []
+        copies: list[Copy] = []
         texts: Texts = {}
         taken: set[Function] = set()
         for planned in left:
-            if chosen and (not planned.functions or planned.functions & taken or not chosen[0].functions):
+            if chosen and (not planned.functions or not chosen[0].functions):
+                continue
+            if planned.functions & taken:
+                copy = self.copy_of(planned, len(copies) + 1) if is_copied else None
+                if copy is not None:
+                    copies.append(copy)
+                    chosen.append(Planned(planned.edit, frozenset({copy.function})))
                 continue
             try:
                 texts = applied(planned.edit, self.crate.folder, texts)
@@ -110,42 +126,59 @@ class Trial:
                 continue
             chosen.append(planned)
             taken |= planned.functions
-        return Batch(chosen, texts)
+        unedited = [self.unedited(function) for function in dict.fromkeys(copy.of for copy in copies)]
+        return Batch(chosen, with_copies(texts, [*copies, *unedited], self.crate.folder), copies, unedited)
+
+    def copy_of(self, planned: Planned, number: int) -> Copy | None:
+        """A copy of the function that an edit changes, with that edit; none where it can't be tried on one."""
+        if len(planned.functions) != 1 or planned.functions & self.uncopied:
+            return None
+        (function,) = planned.functions
+        if any(has_closures(self.crate.folder, module, function) for module in self.modules_of(function)):
+            return None
+        return copy_of(function, number, self.crate.folder, planned.edit)
+
+    def unedited(self, function: Function) -> Copy:
+        """A copy of a function as it stands."""
+        copy = copy_of(function, 0, self.crate.folder)
+        assert copy is not None, function
+        return copy
 
     def check(self, batch: Batch, is_bare: bool) -> Outcome:
         """Asks the prover for the functions that the batch changes, or for the whole crate where it can't name one."""
-        names = sorted({name for planned in batch.planned for name in self.names_of(planned)})
-        changed = {function for planned in batch.planned for function in planned.functions} if is_bare else None
-        said, texts = self.ask(batch.texts, names, changed)
+        functions = {function for planned in batch.planned for function in planned.functions}
+        functions |= {copy.function for copy in batch.unedited}
+        names = sorted({name for function in functions for name in self.names_of(function)})
+        said, texts = self.ask(batch, names, functions if is_bare else None)
         if names and said.returncode == 2 and "has no function" in said.stdout:
-            said, texts = self.ask(batch.texts, [], changed)
+            said, texts = self.ask(batch, [], functions if is_bare else None)
         return read_outcome(said.stdout, texts)
 
-    def names_of(self, planned: Planned) -> list[str]:
-        """The functions of an edit as the prover names them."""
-        found = []
-        for function in planned.functions:
-            own = [name for name in (function.owner, function.name) if name]
-            found += ["::".join([*module, *own]) for module in self.modules_by_name(function)]
-        return found
+    def names_of(self, function: Function) -> list[str]:
+        """The names that the prover may have for a function."""
+        own = [name for name in (function.owner, function.name) if name]
+        return ["::".join([*module, *own]) for module in self.modules_by_name(function)]
 
     def modules_by_name(self, function: Function) -> set[tuple[str, ...]]:
         """The modules of its type, where it has one that the crate declares, else its own."""
         return self.types.get(function.kind) or {tuple(function.module)}
 
     def ask(
-        self, texts: Texts, only: list[str], changed: set[Function] | None
+        self, batch: Batch, only: list[str], changed: set[Function] | None
     ) -> tuple[subprocess.CompletedProcess[str], Texts]:
-        """Runs the prover on a copy of the crate with these texts, where no functions have bodies but the changed ones
-        if these are told; gives what it said, and the sources that it read."""
+        """Runs the prover on a copy of the crate with the batch's texts, where no functions have bodies but the changed
+        ones if these are told; gives what it said, and the sources that it read."""
         self.checks += 1
         with tempfile.TemporaryDirectory(prefix="firm-edits-") as name:
             room = Path(name)
             for part in PARTS:
                 if (self.crate.folder / part).is_dir():
                     shutil.copytree(self.crate.folder / part, room / part)
-            for path, text in texts.items():
+            for path, text in batch.texts.items():
                 (room / path).write_text(text)
+            for copy in [*batch.copies, *batch.unedited]:
+                for module in self.modules_of(copy.of):
+                    copy_proof(room, module, copy)
             words = [*prover_words("check", self.crate, self.libraries), "--jobs", "1", "--incremental", str(self.kept)]
             if changed is not None:
                 strip(room, self.crate.name, changed, self.modules_by_name)
@@ -166,19 +199,28 @@ class Trial:
     def judge(self, batch: Batch, is_bare: bool) -> list[Verdict]:
         """The verdicts on those edits of the batch of which a check tells."""
         outcome = self.check(batch, is_bare)
+        self.uncopied |= {copy.of for copy in batch.unedited if not self.is_whole(copy.function, outcome)}
+        untold = {copy.function for copy in batch.copies if copy.of in self.uncopied}
         found = []
         for planned in batch.planned:
+            if planned.functions & untold:
+                continue
             verdict = self.verdict(planned, outcome, len(batch.planned) == 1 and not is_bare)
             # Without the other bodies it may be the copy that can't be read.
             if verdict is not None and (verdict.is_refused or not is_bare):
                 found.append(verdict)
         return found
 
+    def is_whole(self, function: Function, outcome: Outcome) -> bool:
+        """Whether a check judged a function and has nothing against it, but that it calls one that is refused."""
+        refusal = outcome.against(function, self.modules_of(function))
+        return not any(refusal) and any(name in outcome.judged for name in self.names_of(function))
+
     def verdict(self, planned: Planned, outcome: Outcome, is_alone: bool) -> Verdict | None:
         """The verdict on an edit; None where it is to be tried with fewer others."""
         edit, functions = planned
         refusals = {function: outcome.against(function, self.modules_of(function)) for function in functions}
-        goals = [f"{function}: {goal}" for function, refusal in sorted(refusals.items()) for goal in refusal.goals]
+        goals = [f"{plain(str(at))}: {goal}" for at, refusal in sorted(refusals.items()) for goal in refusal.goals]
         unreadable = [line for at, line in outcome.unreadable if at in functions or is_alone]
         if unreadable:
             return Verdict(edit, False, f"BAD EDIT: the prover can't read it: {unreadable[0]}")
