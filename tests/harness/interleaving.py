@@ -186,6 +186,8 @@ class Search:
         self.threads: list[tuple[Thread, Step]] = []
         self.numbers: dict[object, int] = {}
         self.moves: dict[tuple[int, int], tuple[int, int]] = {}
+        self.lessons: dict[tuple[int, object], int] = {}
+        self.sleepers: dict[int, int] = {}
         self.following: list[list[int]] = []  # of each state those behind a step
         self.again: dict[int, list[int]] = {}  # and those behind a step back
         self.lost = 0
@@ -244,33 +246,45 @@ class Search:
             others = numbers[:place] + numbers[place + 1 :]
             thread, step = self.threads[number]
             if isinstance(step, Wake):
-                behind = self.number(thread.behind(None))
                 for left in self.woken(step, others):
-                    yield (words, *self.in_order((*left, behind))), False
+                    yield (words, *self.in_order((*left, self.behind(number, None)))), False
             elif isinstance(step, Join):
                 if all(self.threads[other][0].turn is not step.turn for other in others):
-                    yield (words, *self.in_order((*others, self.number(thread.behind(None))))), False
+                    yield (words, *self.in_order((*others, self.behind(number, None)))), False
             elif not thread.is_asleep:
                 move = self.moves.get((number, words))
                 if move is None:
-                    move = self.moves[number, words] = self.move(thread, step, words)
+                    move = self.moves[number, words] = self.move(number, step, words)
                 yield (move[1], *self.in_order((*others, move[0]))), isinstance(step, Again)
 
-    def move(self, thread: Thread, step: Act | Sleep | Again, words: int) -> tuple[int, int]:
+    def behind(self, number: int, lesson: object) -> int:
+        """The thread behind its step, by which it learns this."""
+        key = number, lesson
+        if key not in self.lessons:
+            self.lessons[key] = self.number(self.threads[number][0].behind(lesson))
+        return self.lessons[key]
+
+    def asleep(self, number: int) -> int:
+        """The thread once it lies down."""
+        if number not in self.sleepers:
+            self.sleepers[number] = self.number(self.threads[number][0]._replace(is_asleep=True))
+        return self.sleepers[number]
+
+    def move(self, number: int, step: Act | Sleep | Again, words: int) -> tuple[int, int]:
         """A thread and the words behind a step that leaves the others alone."""
         named = self.named(words)
         if isinstance(step, Sleep):
             if step.compares and named[step.word] != step.value:
-                return self.number(thread.behind(False)), words
-            return self.number(thread._replace(is_asleep=True)), words
+                return self.behind(number, False), words
+            return self.asleep(number), words
         lesson = step.act(named) if isinstance(step, Again) else step(named)
-        return self.number(thread.behind(lesson)), self.number_of(named)
+        return self.behind(number, lesson), self.number_of(named)
 
     def woken(self, wake: Wake, numbers: Numbers) -> list[list[int]]:
         """The other threads behind a wake, for each choice of the one that wakes."""
         sleeps = {number: self.sleep_of(number) for number in numbers}
         asleep = [number for number, sleep in sleeps.items() if sleep is not None and sleep.word == wake.word]
-        behind = {number: self.number(self.threads[number][0].behind(True)) for number in asleep}
+        behind = {number: self.behind(number, True) for number in asleep}
         if wake.takes_all:
             return [[behind.get(number, number) for number in numbers]]
         choices = []
