@@ -22,7 +22,7 @@ import sys
 import tempfile
 import time
 from pathlib import Path
-from typing import IO, Any, Callable, Iterator, NamedTuple
+from typing import Any, Callable, Iterator, NamedTuple
 
 from harness.checks import Skipped, require
 from harness.program import ROOT, built, opened
@@ -211,25 +211,28 @@ def answer(shell: subprocess.Popen[bytes], typed: str, wanted: str) -> str:
     """What a command gives; one that only looks is typed again until that is what is wanted, for some time."""
     if not LOOKS.search(typed):
         opened(shell.stdin).write(typed.encode())
-        return next_lines(opened(shell.stdout), lambda said: said.count(b"\n") >= wanted.count("\n"))
+        return next_lines(shell, lambda said: said.count(b"\n") >= wanted.count("\n"))
     ends = time.monotonic() + CONSOLE_SECONDS
     while True:
         opened(shell.stdin).write(f"{typed}echo {END}\n".encode())
-        said = next_lines(opened(shell.stdout), lambda said: said.endswith(f"{END}\n".encode()))
+        said = next_lines(shell, lambda said: said.endswith(f"{END}\n".encode()))
         said = said.removesuffix(f"{END}\n")
         if without_times(said) == without_times(wanted) or shell.poll() is not None or time.monotonic() > ends:
             return said
         time.sleep(LOOK_SECONDS)
 
 
-def next_lines(pipe: IO[bytes], are_all: Callable[[bytes], bool]) -> str:
-    """Lines of a pipe until they are all, or no more come in time."""
-    said, ends = b"", time.monotonic() + CONSOLE_SECONDS
-    while not are_all(said) and select.select([pipe], [], [], max(0, ends - time.monotonic()))[0]:
-        more = os.read(pipe.fileno(), 65536)
-        if not more:
+def next_lines(shell: subprocess.Popen[bytes], are_all: Callable[[bytes], bool]) -> str:
+    """Lines of a shell until they are all, or no more come in time: what it started may outlive it, its pipe open."""
+    pipe, said, ends = opened(shell.stdout), b"", time.monotonic() + CONSOLE_SECONDS
+    while not are_all(said) and time.monotonic() < ends:
+        if select.select([pipe], [], [], LOOK_SECONDS)[0]:
+            more = os.read(pipe.fileno(), 65536)
+            if not more:
+                break
+            said += more
+        elif shell.poll() is not None:
             break
-        said += more
     return said.decode()
 
 
