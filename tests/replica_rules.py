@@ -26,14 +26,15 @@ from firm_service.records import Base, Batch
 from firm_service.replicated import journal as replicated_journal
 from firm_service.replicated.beginning import agree
 from firm_service.replicated.digests import EVERY_LINES, Chain, Digest, Digests
-from firm_service.replicated.entries import Agreed, Entry, Keys, Position, cut_off, parts_of
+from firm_service.replicated.entries import Agreed, Entry, Keys, cut_off, parts_of
 from firm_service.replicated.etcd import Access, Change, Denied, Etcd, Full, Member, Put, Size, Unfit, Unsure
+from firm_service.replicated.faults import Anew
 from firm_service.replicated.housekeeper import Housekeeper, Kept
 from firm_service.replicated.housekeeper import Journal as KeptJournal
-from firm_service.replicated.journal import Anew, Link, ReplicatedJournal, position_of
+from firm_service.replicated.journal import Link, ReplicatedJournal, position_of
 from firm_service.replicated.offers import Offer
-from firm_service.replicated.options import warnings_of
-from firm_service.replicated.point import Point, point_of
+from firm_service.replicated.point import Point, Position, point_of
+from firm_service.replicated.replica import warnings_of
 from firm_service.snapshots import Snapshot
 from firm_service.state import State
 

@@ -19,12 +19,13 @@ from firm_service.records import Base
 from firm_service.replicated import renewal
 from firm_service.replicated.beginning import agree, beginning_of
 from firm_service.replicated.chunks import CHUNK_BYTES, chunk_key, put_chunks
-from firm_service.replicated.entries import Agreed, Position
+from firm_service.replicated.entries import Agreed
 from firm_service.replicated.etcd import Condition, Put, Unsure
-from firm_service.replicated.journal import Anew, ReplicatedJournal
+from firm_service.replicated.faults import Anew, NotLeading
+from firm_service.replicated.journal import ReplicatedJournal
 from firm_service.replicated.offers import Offer, fetch, offer_of, packed
-from firm_service.replicated.point import Point
-from firm_service.replicated.shared import NotLeading, Shared
+from firm_service.replicated.point import Point, Position
+from firm_service.replicated.shared import Shared
 from firm_service.state import State
 from firm_service.states import digest
 

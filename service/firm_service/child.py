@@ -9,6 +9,7 @@ from contextlib import suppress
 from pathlib import Path
 
 PR_SET_PDEATHSIG = 1  # of prctl
+OVER_TIME = (-signal.SIGXCPU, -signal.SIGKILL)  # statuses of one that took too long
 
 
 def end_with(parent: int) -> None:

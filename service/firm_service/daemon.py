@@ -9,7 +9,6 @@ import argparse
 import asyncio
 import gc
 import os
-import resource
 import shutil
 import signal
 import socket
@@ -20,6 +19,7 @@ from contextlib import contextmanager, suppress
 from functools import partial
 from importlib.util import find_spec
 from pathlib import Path
+from typing import TYPE_CHECKING
 
 from . import budgets, logs
 from .accept import Acceptor
@@ -28,10 +28,11 @@ from .archive import Keeping
 from .books import Books
 from .bounds import MEBIBYTE, Bounds
 from .clients import Client, Clients, Limits, Listener
+from .daemons import allow_files, duration, notify, number, timeout
 from .faults import Exit, Fault, Faults, reason, say
 from .feeder import Feeder, Told
 from .firm_process import Firm
-from .journal import Journal, Room
+from .journal import SEGMENT_BYTES, Journal, Room
 from .kept_books import opening_books, read_books
 from .lanes import Bounds as LaneBounds
 from .files import PRIVATE
@@ -42,8 +43,8 @@ from .moves import Moves, Parts
 from .observers import WARNED_SHARE, Status
 from .register import Register
 from .relief import SHORTAGES, Relief
-from .replicated.journal import Anew, ReplicatedJournal
-from .replicated.options import Replica, add_options, require_lone
+from .replicated.faults import Anew
+from .replicated.options import add_options, require_lone
 from .replicated.point import Point, has_point, opening_point, point_of
 from .rights import Rights
 from .rounds import Rounds, Times
@@ -56,8 +57,11 @@ from .state import JOURNAL, State
 from .states import Opening
 from .stream import Options, Stream
 
+if TYPE_CHECKING:
+    from .replicated.journal import ReplicatedJournal
+    from .replicated.replica import Replica
+
 MOST_INPUT = 2**32  # bytes that firm reads
-SEGMENT_BYTES = 16 * 2**20
 SWITCH_SECONDS = 0.0002  # until a busy loop lets the writer go on, which waits for it several times a line
 TICK_SECONDS = 0.1  # between looks at what the status counts
 LOAD_SECONDS = 1.0  # between looks at the load of each tenant and socket
@@ -67,9 +71,8 @@ UNREAD_OF_SOCKET, UNREAD_IN_ALL = 64 * MEBIBYTE, 256 * MEBIBYTE
 WAITING_OF_TENANT, UNANSWERED_OF_SOCKET, UNANSWERED_IN_ALL = 4 * MEBIBYTE, 16 * MEBIBYTE, 64 * MEBIBYTE
 WORKERS = 2  # of firm, where no number is named
 ROUNDS_OF_WORKER = 2  # under way: one that is solved, and one on its way
-FIRM_TIMEOUT, LEAST_TIMEOUT = 60.0, 0.1
+FIRM_TIMEOUT = 60.0
 SNAPSHOT_LINES, SNAPSHOT_MINUTES = 100_000, 30.0
-SPARE_FILES = 256  # open files beside the clients'
 BUILT = Path(__file__).resolve().parents[2] / "crates" / "firm" / "out" / "firm"
 EXITS = """\
 exit statuses, each but 0 with the reason on standard error:
@@ -90,7 +93,7 @@ class Daemon:
     def __init__(self, options: argparse.Namespace) -> None:
         self._options = options
         self._state = State(options.state)
-        self._replica = Replica(options) if options.etcd is not None else None
+        self._replica = replica_of(options)
         self._program = [options.firm, *(["--workers", str(options.workers)] if options.workers is not None else [])]
         if self._replica is None:
             require_lone(self._state)
@@ -354,6 +357,15 @@ class Daemon:
             transport.abort()
 
 
+def replica_of(options: argparse.Namespace) -> Replica | None:
+    """This firmd among others, where it is not alone."""
+    if options.etcd is None:
+        return None
+    from .replicated.replica import Replica  # here, as this takes a part of the start of a firmd that is alone
+
+    return Replica(options)
+
+
 @contextmanager
 def uncollected() -> Iterator[None]:
     """Makes many objects that stay: the collector looks at them neither now, which would double the time, nor later."""
@@ -375,46 +387,6 @@ def part_of(context: dict[str, object]) -> str:
     """The part of firmd that an error is of, as the metrics name it."""
     source = context.get("protocol") or context.get("task") or context.get("future") or context.get("handle")
     return "client" if isinstance(source, Client) else "loop"
-
-
-def notify(text: bytes) -> None:
-    """Tells the manager of services, where there is one (`Type=notify` in systemd)."""
-    address = os.environ.get("NOTIFY_SOCKET")
-    if address:
-        with socket.socket(socket.AF_UNIX, socket.SOCK_DGRAM) as manager, suppress(OSError):
-            manager.sendto(text, address.replace("@", "\0", 1) if address.startswith("@") else address)
-
-
-def allow_files(clients: int) -> None:
-    """Lets the process open a file for each client, as far as the system does."""
-    _, most = resource.getrlimit(resource.RLIMIT_NOFILE)
-    wanted = clients + SPARE_FILES
-    with suppress(ValueError, OSError):
-        resource.setrlimit(
-            resource.RLIMIT_NOFILE, (wanted if most == resource.RLIM_INFINITY else min(wanted, most), most)
-        )
-
-
-def number(low: float, high: float, text: str) -> int:
-    """A whole number of the command line, in its range."""
-    value = int(text)
-    if not low <= value <= high:
-        raise argparse.ArgumentTypeError(f"{text} is not from {low:,} to {high:,}")
-    return value
-
-
-def duration(text: str) -> float:
-    value = float(text)
-    if not 0 <= value < 10**9:
-        raise argparse.ArgumentTypeError(f"{text} is no time")
-    return value
-
-
-def timeout(text: str) -> float:
-    value = duration(text)
-    if value < LEAST_TIMEOUT:
-        raise argparse.ArgumentTypeError(f"{text} is less than {LEAST_TIMEOUT} s")
-    return value
 
 
 def bound_listener(text: str) -> Listener:

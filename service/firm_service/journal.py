@@ -34,6 +34,7 @@ from .relief import SHORTAGES, Spare
 from .state import ID_BYTES, NEW_JOURNAL, OLD_ID_BYTES, OLD_JOURNAL, State
 
 SHORTAGE_TRIES, SHORTAGE_SECONDS = 200, 0.05
+SEGMENT_BYTES = 16 * 2**20  # of a segment, where nobody says how long it may be
 SEAL_BYTES = 65_536  # that are free where a segment is begun early
 Result = TypeVar("Result")
 

@@ -9,10 +9,9 @@ import sys
 import time
 from pathlib import Path
 
-from .daemon import SEGMENT_BYTES
 from .faults import Exit, Fault, say
 from .files import sync_folder
-from .journal import Journal, Room
+from .journal import SEGMENT_BYTES, Journal, Room
 from .kept import Kept, first_base, found_now, kept_lines
 from .lines import first_word
 from .logs import ERROR, add_form, begin

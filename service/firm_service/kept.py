@@ -12,6 +12,7 @@ from pathlib import Path
 
 from .extent import Extent
 from .faults import Exit, Fault
+from .lines import first_word
 from .records import BEGINNING, LINES, UNKNOWN, Base, record_at
 from .recovery import Found, damaged, extent_path, find, numbers_of, read_header, segment_path
 from .state import JOURNAL, StateFolder
@@ -27,6 +28,16 @@ class Kept:
     time: int  # in milliseconds since 1970, 0 where it is not known
     sender: bytes
     lines: list[bytes]  # without their ends
+
+
+@dataclass(frozen=True, slots=True)
+class Told:
+    """A line of the tenant or of the operator."""
+
+    number: int
+    time: int
+    text: bytes  # its first word alone, where memory was refused to it: it counts, and changes nothing
+    is_operators: bool
 
 
 def found_now(folder: Path, base: Base | None = None) -> Found:
@@ -84,3 +95,13 @@ def kept_lines(found: Found) -> Iterator[Kept]:
             if record.kind == LINES:
                 lines = data[place - int(record.fields[0]) : place].split(b"\n")[:-1]
                 yield Kept(int(record.fields[1]), int(record.fields[3]), record.fields[4], lines)
+
+
+def told(found: Found, tenant: str) -> Iterator[Told]:
+    """The lines of the tenant and of the operator."""
+    name = tenant.encode()
+    for kept in kept_lines(found):
+        for number, line in enumerate(kept.lines, kept.number):
+            word = first_word(line)
+            if word == name or word == b"+":
+                yield Told(number, kept.time, word if number in found.refused else line, word == b"+")

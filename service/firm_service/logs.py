@@ -9,7 +9,6 @@ words have no time: systemd's journal adds it. An object of JSON has `time`, `le
 
 from __future__ import annotations
 
-import argparse
 import json
 import logging
 import os
@@ -18,9 +17,12 @@ import threading
 import time
 from contextlib import suppress
 from logging import ERROR, INFO, WARNING
-from typing import Any
+from typing import TYPE_CHECKING, Any
 
 from .tables import printable
+
+if TYPE_CHECKING:
+    import argparse
 
 __all__ = ["ERROR", "INFO", "WARNING", "add_form", "begin", "tell"]
 

@@ -29,31 +29,33 @@ from contextlib import nullcontext, suppress
 from dataclasses import dataclass
 from functools import partial
 from pathlib import Path
-from typing import Any, NamedTuple, Protocol, TypeVar
+from typing import TYPE_CHECKING, Any, NamedTuple, Protocol, TypeVar
 
 from .books import Book, Books
 from .faults import Exit, Fault, Faults, reason, say
 from .feeder import Feeder
 from .files import PRIVATE, replace_synced, sync_folder
 from .joined import KEPT_MOVES, Joined, clear_texts
-from .kept import found_now, kept_lines
+from .kept import found_now, kept_lines, told
 from .kept_books import UNKNOWN, book_of, books_text, opening_books, rows_of
 from .lanes import OPERATORS, Share
 from .lines import first_word, is_name
 from .logs import INFO
-from .past import told
 from .programs import NotBuilt
 from .records import Base
 from .recovery import Found
 from .register import Register
+from .replicated.faults import NotLeading
 from .replicated.point import opening_point
-from .replicated.shared import NotLeading, Shared
 from .rounds import Rounds
 from .snapshots import Snapshot, Unusable, opening_of
 from .snapshotting import Change, Snapshots
 from .state import State
 from .states import Opening, Part, StateError, TenantRows, digest, fold, state_file, tenants_of
 from .stream import Stopping, Stream
+
+if TYPE_CHECKING:
+    from .replicated.shared import Shared
 
 SOCKET, MOVING = "moves", "moving"
 LONGEST_REQUEST = 2**27  # bytes: a state has at most 40 MiB

@@ -16,10 +16,10 @@ from dataclasses import dataclass
 from pathlib import Path
 
 from .book_states import book_of, text_of
-from .child import end_with
+from .child import OVER_TIME, end_with
 from .faults import Fault
-from .kept import first_base, found_now, kept_lines
-from .lines import first_word, is_round
+from .kept import Told, first_base, found_now, told
+from .lines import is_round
 from .programs import NotBuilt, program_of
 from .records import Base
 from .recovery import Found
@@ -28,17 +28,7 @@ from .snapshots import Snapshot, opening_of, usable
 from .state import StateFolder
 from .states import Opening, Part, StateError, fold, tenants_of
 from .tables import Row
-from .trials import OVER_TIME, stand_behind
-
-
-@dataclass(frozen=True, slots=True)
-class Told:
-    """A line of the tenant or of the operator."""
-
-    number: int
-    time: int
-    text: bytes  # its first word alone, where memory was refused to it: it counts, and changes nothing
-    is_operators: bool
+from .trials import stand_behind
 
 
 @dataclass(frozen=True, slots=True)
@@ -91,16 +81,6 @@ def before_now(folder: Path, tenant: str, number: int) -> Row:
         return before(folder, tenant, number)
     except (Fault, StateError):
         return before(folder, tenant, number)
-
-
-def told(found: Found, tenant: str) -> Iterator[Told]:
-    """The lines of the tenant and of the operator."""
-    name = tenant.encode()
-    for kept in kept_lines(found):
-        for number, line in enumerate(kept.lines, kept.number):
-            word = first_word(line)
-            if word == name or word == b"+":
-                yield Told(number, kept.time, word if number in found.refused else line, word == b"+")
 
 
 def lines_until(found: Found, tenant: str, number: int) -> Iterator[bytes]:

@@ -13,8 +13,8 @@ from collections import Counter
 from contextlib import suppress
 from pathlib import Path
 
+from .child import OVER_TIME
 from .refused import Refused
-from .trials import OVER_TIME
 
 MOST_SECONDS = 60.0  # for an answer, with the wait for its turn
 MOST_AT_A_TIME, MOST_OF_TENANT = 2, 8  # processes, and questions that wait for them

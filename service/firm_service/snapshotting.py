@@ -17,7 +17,7 @@ from dataclasses import dataclass
 from pathlib import Path
 from queue import Empty, SimpleQueue
 from threading import Thread
-from typing import NamedTuple
+from typing import TYPE_CHECKING, NamedTuple
 
 from .archive import Keeping, clear
 from .faults import Exit, Fault, Faults, say
@@ -32,11 +32,13 @@ from .records import Base
 from .recovery import Found
 from .rehearsal import Rehearsal
 from .replicated.point import has_point
-from .replicated.shared import Shared
 from .snapshots import KEPT, ROOM_BYTES, Snapshot, Unusable, keep_alone, of_journal, opening_of, usable
 from .state import try_opening
 from .states import Opening, digest
 from .stream import Stopping, Stream, Successor
+
+if TYPE_CHECKING:
+    from .replicated.shared import Shared
 
 PROGRAM = str(Path(__file__).resolve().parents[1] / "firm-snapshot")  # stands there where the package is not installed
 LOOK_SECONDS = 0.2

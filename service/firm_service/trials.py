@@ -18,6 +18,7 @@ from typing import IO
 from .book_states import copy_of, text_of
 from .books import Book, Books
 from .bounds import MEBIBYTE
+from .child import OVER_TIME
 from .lines import is_memory_refused
 from .programs import NotBuilt, program_of
 from .refused import Refused
@@ -29,7 +30,6 @@ MOST_SECONDS, MOST_PROCESSOR_SECONDS = 60.0, 20  # of one run
 MOST_MEMORY = 2048 * MEBIBYTE  # of address space
 MOST_WEIGHT = 1_000_000
 STATUS_OF_MEMORY = 6
-OVER_TIME = (-signal.SIGXCPU, -signal.SIGKILL)
 
 
 @dataclass(frozen=True, slots=True)

@@ -34,7 +34,6 @@ from collections.abc import AsyncIterator, Callable, Iterator, Sequence
 from dataclasses import asdict
 from pathlib import Path
 
-from .book_states import text_of
 from .books import Book, Books
 from .bounds import MEBIBYTE
 from .past_rounds import PastRounds
@@ -364,6 +363,8 @@ class Connection:
             return {"book": rows_of(self._book(request))}
         if ask == "state":
             book = self._book(request)
+            from .book_states import text_of  # here, as this takes a part of the start of any viewer
+
             return {"tenant": book.limits.tenant, "line": self._shown.books.lines, "text": text_of(book)}
         if ask == "lines":
             book = self._book(request)

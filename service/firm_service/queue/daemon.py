@@ -17,7 +17,7 @@ from typing import Any
 from .. import logs
 from ..accept import Acceptor
 from ..address import LOOPBACK, Address
-from ..daemon import allow_files, notify, number, timeout
+from ..daemons import allow_files, notify, number, timeout
 from ..faults import Exit, Fault, Faults
 from ..lines import is_name
 from ..relief import Relief

@@ -26,20 +26,10 @@ from zlib import crc32
 from ..faults import Exit, Fault
 from ..records import LINES, Batch, record_at
 from .etcd import Condition, Done, Put, Row
+from .point import Position
 
 MOST_BYTES = 512 * 1024  # of the lines of an entry; etcd takes requests of 1.5 MiB
 COPY = "copy the state's folder of another replica, which is stopped meanwhile"
-
-
-class Position(NamedTuple):
-    """How far a journal reaches."""
-
-    lines: int = 0
-    size: int = 0  # bytes
-    chain: int = 0  # their CRC-32
-
-    def behind(self, text: bytes) -> Position:
-        return Position(self.lines + text.count(b"\n"), self.size + len(text), crc32(text, self.chain))
 
 
 class Keys:

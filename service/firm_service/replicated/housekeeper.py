@@ -16,6 +16,7 @@ from .digests import Digest, Digests
 from .entries import Keys
 from .etcd import Condition, EtcdError, Put, after
 from .offers import offer_of
+from .options import RETAINED
 from .store import Store
 
 SECONDS = 1.0
@@ -25,7 +26,6 @@ AWAY_SECONDS = 86_400.0  # that etcd keeps lines for a replica that is away, and
 AWAY_SECONDS_HALF_FULL = 60.0
 QUIET_SECONDS = 10.0  # without a change of its key that the leader saw, since clocks of hosts may differ
 COMPACT_SECONDS = 30.0
-RETAINED = 64 * 2**20
 LOOK_SECONDS = 10.0  # between looks at the quota
 
 

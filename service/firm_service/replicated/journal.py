@@ -19,13 +19,14 @@ from ..journal import Journal, milliseconds
 from ..pieces import Piece, Place
 from ..records import Base, Batch, Block
 from .digests import Digest, Digests
-from .entries import Agreed, Append, Entry, Keys, Position, another_history, parts_of
+from .entries import Agreed, Append, Entry, Keys, another_history, parts_of
 from .etcd import Condition, Denied, EtcdError, Full, Put, Row, Unsure, after
+from .faults import Anew
 from .housekeeper import Housekeeper
 from .housekeeper import Journal as KeptJournal
 from .lease import Lease
 from .offers import offer_of
-from .point import Point
+from .point import Point, Position
 from .renewal import is_late
 from .shared import Shared
 from .store import Store
@@ -35,13 +36,6 @@ PAUSE = 0.05  # between two tries
 SILENT_SECONDS = 3.0  # without a change, as the leader makes one each second; then another member is asked
 ENTRIES = 8  # that are read at a time
 FULL = "etcd is full: raise its quota, or compact and defragment it, then `etcdctl alarm disarm`"
-
-
-class Anew(Fault):
-    """This process is to begin anew, from the snapshot in etcd."""
-
-    def __init__(self, why: str) -> None:
-        super().__init__(Exit.STATE, f"{why}: begins anew")
 
 
 @dataclass(frozen=True)

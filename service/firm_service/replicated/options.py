@@ -1,35 +1,26 @@
-"""The options of a replica, and its first words with etcd: whose state it is, and what that began with."""
+"""The options of a replica, which firmd's command line has."""
 
 from __future__ import annotations
 
 import argparse
-import secrets
-import ssl
-import time
-from collections.abc import Iterator, Sequence
 from functools import partial
 from pathlib import Path
+from typing import TYPE_CHECKING
 
-from ..faults import Exit, Fault, reason, say
-from ..files import is_open
-from ..journal import Journal
+from ..faults import Exit, Fault
 from ..lines import is_name
-from ..state import ID_BYTES, REPLICA, State, kind_of, read
-from ..states import Opening
-from .beginning import agree, agreed_of, beginning_of
-from .entries import Agreed, Keys, Position, another_history
-from .etcd import Access, Denied, Etcd, EtcdError, Full, Member, Unfit
-from .housekeeper import RETAINED
-from .journal import FULL, Link, ReplicatedJournal, position_of
-from .point import Point, opening_point
-from .renewal import renew
+from ..state import REPLICA, State
+
+if TYPE_CHECKING:
+    from .etcd import Member
 
 LEASE_SECONDS, LONGEST_LEASE = 3, 60
-START_SECONDS = 10.0  # for an answer of etcd at a start
-PAUSE = 0.2
+RETAINED = 64 * 2**20
 
 
 def members(text: str) -> tuple[Member, ...]:
+    from .etcd import Member  # here, as a firmd that is alone needs no client of etcd
+
     try:
         return tuple(map(Member.read, text.split(",")))
     except ValueError as error:
@@ -73,130 +64,8 @@ def add_options(found: argparse._ArgumentGroup) -> None:
     add("--etcd-retain", type=partial(whole, 0, 2**32), default=RETAINED, metavar="BYTES", help=told)
 
 
-def access_of(options: argparse.Namespace) -> Access:
-    """How etcd is asked; its options are checked before anything is."""
-    if options.name is None:
-        raise Fault(Exit.WORDS, "--etcd needs --name: each replica has one of its own")
-    if options.etcd_key is not None and options.etcd_cert is None:
-        raise Fault(Exit.WORDS, "--etcd-key needs --etcd-cert")
-    has_files = options.etcd_ca is not None or options.etcd_cert is not None
-    if has_files and not all(member.is_secure for member in options.etcd):
-        raise Fault(Exit.WORDS, "--etcd-ca and --etcd-cert are for members with https:// alone")
-    for warning in warnings_of(options):
-        say(f"warning: {warning}")
-    context = None
-    if any(member.is_secure for member in options.etcd):
-        try:
-            context = ssl.create_default_context(cafile=options.etcd_ca)
-            if options.etcd_cert is not None:
-                context.load_cert_chain(options.etcd_cert, options.etcd_key)
-        except OSError as error:  # also where they are no certificates
-            raise Fault(Exit.WORDS, f"cannot use the certificates of --etcd: {reason(error)}") from error
-    return Access(options.etcd, context, options.etcd_password)
-
-
-def warnings_of(options: argparse.Namespace) -> Iterator[str]:
-    """What others may learn of the secrets with which etcd is asked."""
-    for path in (options.etcd_password, options.etcd_key or options.etcd_cert):
-        if path is not None and is_open(path):
-            yield f"all users of this host may read {path}: chmod o-rwx"
-    if options.etcd_password is not None and not all(member.is_secure for member in options.etcd):
-        yield "the password of --etcd-password goes over the network as it is: name members with https://"
-
-
 def require_lone(state: State) -> None:
     """Asks that a state is no replica's: what a lone firmd answers there would be of another history."""
     path = state.folder / REPLICA
     if path.exists():
         raise Fault(Exit.STATE, f"{state.folder} is a replica's: name --etcd, or remove {path} to go on without others")
-
-
-class Replica:
-    """This firmd among those of one journal."""
-
-    def __init__(self, options: argparse.Namespace) -> None:
-        self._options, access = options, access_of(options)
-        self._keys = Keys(options.etcd_prefix)
-        self._agreed: Agreed | None = None
-        self._etcd = Etcd(access)
-        self._link = Link(partial(Etcd, access), self._keys, options.name, options.etcd_lease)
-
-    def begin(self, state: State, firm: Sequence[str]) -> bytes:
-        """What the state goes on from, which is etcd's where that has one."""
-        if opening_point(state.joined) is None:
-            told = f"a tenant has joined {state.folder} from another service, while it had no replicas"
-            raise Fault(Exit.STATE, f"{told}: begin them with its state, by `firm-journal state` and --restore")
-        try:
-            self._reach()
-            self._agreed = agreed_of(self._etcd, self._keys)
-            given: Opening | None = self._options.opening
-            if self._agreed is None:
-                text = state.begin(given, firm)
-                if state.id is None:
-                    self._agreed = self._agree(state, secrets.token_hex(ID_BYTES), Position())
-            else:
-                text = state.begin(given, firm, beginning_of(self._etcd, self._keys, self._agreed))
-            if self._agreed is not None:
-                self._require_same(state, self._agreed)
-                renew(self._etcd, self._keys, state, self._agreed)
-        except EtcdError as error:
-            raise fault_of(error) from error
-        return text if state.joined is None else state.read_opening()
-
-    def open(self, own: Journal, begin: Point) -> ReplicatedJournal:
-        """The replicated journal over the own files, which begin there; etcd goes on from these, where it has nothing
-        yet."""
-        if self._agreed is None:
-            if own.found.lines and not self._options.etcd_begin:
-                lines = f"{own.found.lines:,} lines, and etcd none of them"
-                raise Fault(Exit.JOURNAL, f"{own.state.folder} has {lines}: --etcd-begin has etcd go on from them")
-            try:
-                self._agreed = self._agree(own.state, own.state.id or "", position_of(own, begin.position))
-            except EtcdError as error:
-                raise fault_of(error) from error
-            self._require_same(own.state, self._agreed)
-        self._etcd.close()
-        try:
-            (own.state.folder / REPLICA).touch(mode=0o600)
-        except OSError as error:
-            raise Fault(Exit.STATE, f"cannot use the state {own.state.folder}: {reason(error)}") from error
-        journal = ReplicatedJournal(own, self._link, self._agreed, begin)
-        journal.housekeeper.retained = self._options.etcd_retain
-        return journal
-
-    def _agree(self, state: State, name: str, begin: Position) -> Agreed:
-        text = read(state.first)
-        if state.first.is_state:
-            return agree(self._etcd, self._keys, Agreed(name, b"", begin), text)
-        return agree(self._etcd, self._keys, Agreed(name, text, begin))
-
-    def _require_same(self, state: State, agreed: Agreed) -> None:
-        common, first = beginning_of(self._etcd, self._keys, agreed), state.first
-        if not common.is_text(first):
-            told = f"{first.path} is not the {kind_of(common.is_state)} that etcd has"
-            raise Fault(Exit.ROSTER, f"changed-{kind_of(first.is_state)}: {told}")
-        if state.id is None:
-            state.id_to_take = agreed.id
-        elif state.id != agreed.id:
-            raise another_history(f"{state.folder} is the state {state.id}, and etcd has the lines of {agreed.id}")
-
-    def _reach(self) -> None:
-        """Waits for a member that answers, and asks for its version."""
-        ends = time.monotonic() + START_SECONDS
-        while True:
-            try:
-                return self._etcd.require_version()
-            except (Unfit, Denied):
-                raise
-            except EtcdError:
-                if time.monotonic() > ends:
-                    raise
-                time.sleep(PAUSE)
-
-
-def fault_of(error: EtcdError) -> Fault:
-    if isinstance(error, Full):
-        return Fault(Exit.STATE, FULL)
-    if isinstance(error, (Denied, Unfit)):
-        return Fault(Exit.STATE, f"etcd: {error}")
-    return Fault(Exit.STATE, f"etcd is not reached: {error}")

@@ -4,15 +4,26 @@ from __future__ import annotations
 
 import json
 from collections.abc import Sequence
-from typing import Any
+from typing import Any, NamedTuple
+from zlib import crc32
 
 from ..joined import Joined
 from ..records import Base
 from ..snapshots import Snapshot
 from .digests import Chain, Digest
-from .entries import Position
 
 KEY = "replica"  # in what a snapshot has beside the state
+
+
+class Position(NamedTuple):
+    """How far a journal reaches."""
+
+    lines: int = 0
+    size: int = 0  # bytes
+    chain: int = 0  # their CRC-32
+
+    def behind(self, text: bytes) -> Position:
+        return Position(self.lines + text.count(b"\n"), self.size + len(text), crc32(text, self.chain))
 
 
 class Point:

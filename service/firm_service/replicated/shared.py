@@ -13,6 +13,7 @@ from ..joined import Joined
 from .chunks import others_of, put_chunks
 from .entries import Keys
 from .etcd import Condition, EtcdError, Put, Span, after
+from .faults import NotLeading
 from .housekeeper import Housekeeper
 from .offers import Offer, offer_of, packed
 from .store import Store
@@ -20,13 +21,6 @@ from .store import Store
 Result = TypeVar("Result")
 
 PATIENCE, PAUSE = 10.0, 0.05  # seconds that is asked again where no member answers, and between two tries
-
-
-class NotLeading(Fault):
-    """Another one leads, or may."""
-
-    def __init__(self) -> None:
-        super().__init__(Exit.STATE, "another firmd leads by now")
 
 
 class Shared:

@@ -15,7 +15,7 @@ from .. import command_line, logs
 from ..address import Address
 from ..agent_table import TableError
 from ..command_line import NOT_THERE, USAGE, Failure, Verbs
-from ..daemon import notify
+from ..daemons import notify
 from . import status
 from .bridge import Bridge, lock_alone
 from .check import Conf, advice, remarks
