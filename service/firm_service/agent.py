@@ -27,8 +27,8 @@ from .agent_words import OVER, Teller
 from .books import Book, Books, Task
 from .lines import is_name
 from .logs import ERROR, INFO, WARNING, add_form, begin, tell
-from .roster import Limits
 from .supervisor import RUN_FIRST_LINE, group_trouble
+from .viewed import books_of
 
 SUPERVISOR = Path(__file__).with_name("supervisor.py")
 PYTHON = ["-I", "-S", "-c"]
@@ -65,21 +65,6 @@ class Options:
 
 class Stop(Exception):
     """The agent is to end; what it has started goes on."""
-
-
-def books_of(tenant: str, rows: Event | None) -> Books:
-    """Books that have one tenant as the view tells of it, or none."""
-    books = Books()
-    if rows is not None:
-        record = Limits(tenant, **rows["limits"]).row()
-        books.replied(f"+ admit {record}".encode(), f"+ ok admitted {tenant}".encode(), None)
-        book = books.tenants[tenant]
-        book.machines = {row["machine"]: row["slots"] for row in rows["machines"]}
-        book.jobs = {row["job"]: row["weight"] for row in rows["jobs"]}
-        for row in rows["tasks"]:
-            book.tasks[row["task"]] = Task(row["job"], row["line"], tuple(row["prefers"]), 0, None, row["machine"])
-        book.waiting = sum(task.machine is None for task in book.tasks.values())
-    return books
 
 
 class Agent:

@@ -69,6 +69,11 @@ def show(options: argparse.Namespace, answer: Row, plain: Callable[[Row], str]) 
     sys.stdout.write(json.dumps(answer, indent=2) + "\n" if options.json else plain(answer))
 
 
+def add_queue(parser: argparse.ArgumentParser, default: str | None) -> None:
+    told = "the queue's socket (otherwise FIRM_QUEUE names it)"
+    parser.add_argument("--queue", metavar="PATH", default=default, help=told)
+
+
 def whole(low: int, high: int) -> Callable[[str], int]:
     """The type of an option that is a whole number in this range."""
     return partial(_whole, low, high)

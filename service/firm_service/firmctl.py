@@ -14,17 +14,17 @@ from pathlib import Path
 from typing import Any
 
 from . import tables
-from .command_line import NOT_THERE, USAGE, Failure, Verb, Verbs, show, whole
+from .command_line import NOT_THERE, USAGE, Failure, Verb, Verbs, add_queue, show, whole
 from .lines import is_name
 from .observers import WARNED_SHARE
 from .questions import add_questions
-from .queue.submitting import add_queue
-from .queue.verbs import add_verbs, of_queue
 from .tables import Column, Row, names, number, text
 from .view_client import Service, service_of
 
 # Verbs that are asked for often: the parsers of all others are not made for them.
-NAMES = frozenset("ps submit logs wait top history tasks machines jobs status agents cancel".split())
+OF_FIRMD = frozenset("tasks machines jobs status why what-if plan".split())
+NAMES = OF_FIRMD | frozenset("ps submit logs wait top history agents cancel".split())
+WITH_PATH = ("--state", "--queue")
 EXITS = """\
 exit statuses:
   0  it is printed
@@ -177,8 +177,11 @@ def either(name: str, verb: Verb) -> Verb:
 
     def run(options: argparse.Namespace) -> None:
         is_of_firmd = options.state or getattr(options, "tenant", None)
-        asks_queue = options.queue or "FIRM_QUEUE" in os.environ and not is_of_firmd
-        (of_queue(name) if asks_queue else verb)(options)
+        if not options.queue and ("FIRM_QUEUE" not in os.environ or is_of_firmd):
+            return verb(options)
+        from .queue.verbs import of_queue  # here, as this takes a third of the start of any other command
+
+        of_queue(name)(options)
 
     return run
 
@@ -194,9 +197,15 @@ def common(state: str | None, as_json: bool | str) -> argparse.ArgumentParser:
 
 
 def named_verb(words: Sequence[str]) -> str | None:
-    """The verb, where it comes first or behind --json alone; None where that is not sure."""
-    first = words[1:] if words[:1] == ["--json"] else words
-    return first[0] if first and first[0] in NAMES else None
+    """The verb, where it comes first or behind common options alone; None where that is not sure."""
+    match words:
+        case ["--json", *behind]:
+            return named_verb(behind)
+        case [option, _, *behind] if option in WITH_PATH:
+            return named_verb(behind)
+        case [verb, *_] if verb in NAMES:
+            return verb
+    return None
 
 
 def parser(only: str | None = None) -> argparse.ArgumentParser:
@@ -225,7 +234,10 @@ def parser(only: str | None = None) -> argparse.ArgumentParser:
     add("lines", lines, "the lines that give a new tenant the same rows").add_argument("tenant", metavar="TENANT")
     add("check-roster", check_roster, "every fault of a roster; asks no service").add_argument("file", metavar="FILE")
     add_make_roster(verbs)
-    add_verbs(verbs)
+    if only not in OF_FIRMD:
+        from .queue.verbs import add_verbs  # here, as above
+
+        add_verbs(verbs)
     command = add("move", move, "move a tenant to another shard of a door")
     command.add_argument("tenant", metavar="TENANT")
     command.add_argument("--to", required=True, metavar="SHARD")

@@ -8,24 +8,22 @@ it was ever answered.
 
 from __future__ import annotations
 
-import fcntl
-import os
 import re
 import subprocess
 from collections.abc import Callable, Sequence
 from dataclasses import dataclass
 from pathlib import Path
-from typing import IO
 from zlib import crc32
 
 from .faults import RESTORE, Exit, Fault, reason
-from .files import PRIVATE, make_folder, replace_synced, sync_folder, write_synced
+from .files import PRIVATE, replace_synced, sync_folder, write_synced
 from .joined import Joined, require_same
 from .joined import read as read_joined
+from .lock import lock_alone
 from .records import BEGINNING, Base
 from .states import MOST_BYTES, Opening, digest
 
-ROSTER, LOCK, JOURNAL, VIEW, ID = "roster.csv", "lock", "journal", "view", "id"
+ROSTER, JOURNAL, VIEW, ID = "roster.csv", "journal", "view", "id"
 RESTORED, SNAPSHOTS = "restored", "snapshots"
 REPLICA = "replica"  # is there where the lines stand in etcd too
 OLD_JOURNAL, NEW_JOURNAL = "journal.old", "journal.new"  # the one that was rewritten, and the one that is written
@@ -189,26 +187,6 @@ class State(StateFolder):
             sync_folder(self.folder)
         except OSError as error:
             raise Fault(Exit.STATE, f"cannot keep {given.path} in {self.folder}: {reason(error)}") from error
-
-
-def lock_alone(folder: Path, mode: int = 0o750) -> IO[bytes]:
-    """Has this process alone the folder, which is made where it is not there, until it ends or closes this file."""
-    try:
-        make_folder(folder, mode)
-        lock = open(os.open(folder / LOCK, os.O_RDWR | os.O_CREAT, 0o600), "r+b", buffering=0)
-    except OSError as error:
-        raise Fault(Exit.STATE, f"cannot use the state {folder}: {reason(error)}") from error
-    try:
-        fcntl.flock(lock, fcntl.LOCK_EX | fcntl.LOCK_NB)
-    except BlockingIOError as error:
-        holder = lock.read(20).decode(errors="replace").strip()
-        raise Fault(Exit.STATE, f"the state {folder} is in use by process {holder or 'unknown'}") from error
-    try:
-        lock.truncate(0)
-        lock.write(f"{os.getpid()}\n".encode())
-    except OSError as error:
-        raise Fault(Exit.STATE, f"cannot use the state {folder}: {reason(error)}") from error
-    return lock
 
 
 def try_opening(opening: Opening, given: Path, firm: Sequence[str]) -> None:

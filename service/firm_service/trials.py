@@ -7,7 +7,6 @@ from __future__ import annotations
 
 import os
 import resource
-import signal
 import subprocess
 from collections.abc import Iterable, Sequence
 from contextlib import ExitStack, suppress

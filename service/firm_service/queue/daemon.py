@@ -20,9 +20,9 @@ from ..address import LOOPBACK, Address
 from ..daemons import allow_files, notify, number, timeout
 from ..faults import Exit, Fault, Faults
 from ..lines import is_name
+from ..lock import lock_alone
 from ..relief import Relief
 from ..sockets import Names
-from ..state import lock_alone
 from .agents import Agents, Terms
 from .core import Bounds, Core
 from .firm import Doors, Firm

@@ -10,9 +10,9 @@ from dataclasses import dataclass
 from pathlib import Path
 from typing import Any, NamedTuple
 
-from ..agent import books_of
 from ..books import Book, Books
 from ..logs import INFO, WARNING, tell
+from ..viewed import books_of
 
 LONGEST_ANSWER = 1 << 26  # bytes of a line of the view
 FIRST_PAUSE, LONGEST_PAUSE = 0.1, 2.0  # seconds between two tries to reach firmd

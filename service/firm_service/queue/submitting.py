@@ -13,7 +13,7 @@ from functools import partial
 from pathlib import Path
 from typing import Any
 
-from ..command_line import NO_SERVICE, NOT_THERE, USAGE, Failure
+from ..command_line import NO_SERVICE, NOT_THERE, USAGE, Failure, add_queue
 from . import forms
 from .client import PATIENCE, NotThere, Queue, Refused, Submission, Submitted
 
@@ -196,11 +196,6 @@ def queue_path(options: argparse.Namespace) -> str:
     if not path:
         raise Failure(USAGE, "name the queue's socket: --queue PATH, or FIRM_QUEUE in the environment")
     return str(path)
-
-
-def add_queue(parser: argparse.ArgumentParser, default: str | None) -> None:
-    told = "the queue's socket (otherwise FIRM_QUEUE names it)"
-    parser.add_argument("--queue", metavar="PATH", default=default, help=told)
 
 
 def parser() -> argparse.ArgumentParser:

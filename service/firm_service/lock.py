@@ -1,0 +1,33 @@
+"""A folder that one process has alone."""
+
+from __future__ import annotations
+
+import fcntl
+import os
+from pathlib import Path
+from typing import IO
+
+from .faults import Exit, Fault, reason
+from .files import make_folder
+
+LOCK = "lock"
+
+
+def lock_alone(folder: Path, mode: int = 0o750) -> IO[bytes]:
+    """Has this process alone the folder, which is made where it is not there, until it ends or closes this file."""
+    try:
+        make_folder(folder, mode)
+        lock = open(os.open(folder / LOCK, os.O_RDWR | os.O_CREAT, 0o600), "r+b", buffering=0)
+    except OSError as error:
+        raise Fault(Exit.STATE, f"cannot use the state {folder}: {reason(error)}") from error
+    try:
+        fcntl.flock(lock, fcntl.LOCK_EX | fcntl.LOCK_NB)
+    except BlockingIOError as error:
+        holder = lock.read(20).decode(errors="replace").strip()
+        raise Fault(Exit.STATE, f"the state {folder} is in use by process {holder or 'unknown'}") from error
+    try:
+        lock.truncate(0)
+        lock.write(f"{os.getpid()}\n".encode())
+    except OSError as error:
+        raise Fault(Exit.STATE, f"cannot use the state {folder}: {reason(error)}") from error
+    return lock
