@@ -29,10 +29,10 @@ import struct
 import tempfile
 from collections import Counter
 from dataclasses import dataclass
-from functools import partial
+from functools import cache, partial
 from itertools import count, product
 from pathlib import Path
-from typing import Callable, Collection, Iterator, Mapping, NamedTuple
+from typing import Callable, Iterator, Mapping, NamedTuple
 
 from harness import program, service
 from harness.checks import Missed, Suite, require, run_script, run_suites
@@ -150,8 +150,14 @@ class Runs:
         return found, Counts._make(struct.unpack("5Q", self.counts_path.read_bytes()))
 
 
-def full_output(stream: Stream, marks: Collection[int] = frozenset()) -> bytes:
-    return b"".join(line + b"\n" for line in service.serve(stream.roster, stream.text, marks))
+def full_output(stream: Stream, marks: frozenset[int] = frozenset()) -> bytes:
+    return served(stream.roster, stream.text, marks)
+
+
+@cache
+def served(roster: bytes, text: bytes, marks: frozenset[int]) -> bytes:
+    """What the plain service writes, found once: most runs of a stream end alike."""
+    return b"".join(line + b"\n" for line in service.serve(roster, text, marks))
 
 
 def whole_run(stream: Stream) -> program.Run:

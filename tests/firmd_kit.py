@@ -21,6 +21,7 @@ from harness.checks import require
 from harness.deployed import SERVICE
 from harness.files import write_program
 from harness.small_streams import Stream
+from harness.waiting import pause_since
 
 NO_LIMITS = service.Limits(2, 0, 1, 0, 0)
 FIRMD = [sys.executable, str(SERVICE / "firmd")]
@@ -159,11 +160,11 @@ class Daemon:
 
     def start(self) -> Daemon:
         """Starts it and waits until it serves."""
-        process, ends = self.spawn(), time.monotonic() + START_SECONDS
+        process, began = self.spawn(), time.monotonic()
         while b"firmd: ready" not in self.said():
             require(process.poll() is None, f"it ended with status {process.poll()}: {self.said().decode()}")
-            require(time.monotonic() < ends, "it is not ready in time")
-            time.sleep(0.005)
+            require(time.monotonic() - began < START_SECONDS, "it is not ready in time")
+            pause_since(began)
         return self
 
     def said(self) -> bytes:
@@ -259,10 +260,10 @@ def stand_in(folder: Path, text: str) -> str:
 
 
 def wait_for(holds: Callable[[], bool], what: str, seconds: float = REPLY_SECONDS) -> None:
-    ends = time.monotonic() + seconds
+    began = time.monotonic()
     while not holds():
-        require(time.monotonic() < ends, f"{what}, in {seconds:g} s")
-        time.sleep(0.005)
+        require(time.monotonic() - began < seconds, f"{what}, in {seconds:g} s")
+        pause_since(began)
 
 
 def memory_kilobytes(pid: int) -> int:

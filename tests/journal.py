@@ -27,6 +27,7 @@ import journal_tool
 from firmd_kit import JOURNAL_TOOL, ROSTER, ROWS, Daemon, Setup
 from harness import program, service
 from harness.checks import Check, Missed, Suite, require, run_script, run_suites
+from harness.waiting import pause_since
 from journal_kit import MOVED, OLD, QUESTIONS, ROUNDS, answered, ask_all, serves, tool, write_old
 
 CHECKS_AT_A_TIME = 4
@@ -623,10 +624,10 @@ def random_damage(setup: Setup, part: int, trials: int) -> None:
 
 def is_told(daemon: Daemon, said: list[bytes], alone: list[bytes], what: str) -> bool:
     """Whether a start tells of a damage; where it doesn't, nothing may be lost or changed."""
-    process, ends = daemon.spawn(), time.monotonic() + firmd_kit.START_SECONDS
+    process, began = daemon.spawn(), time.monotonic()
     while process.poll() is None and b"firmd: ready" not in daemon.said():
-        require(time.monotonic() < ends, f"{what}: it neither starts nor ends")
-        time.sleep(0.005)
+        require(time.monotonic() - began < firmd_kit.START_SECONDS, f"{what}: it neither starts nor ends")
+        pause_since(began)
     if process.poll() is not None:
         require(process.poll() in (3, 5) and b"Traceback" not in daemon.said(), f"{what}: {daemon.said().decode()}")
         return True

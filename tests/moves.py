@@ -45,7 +45,7 @@ from harness import program
 from harness.checks import Check, Skipped, Suite, require, run_script, run_suites
 from harness.deployed import service_states
 from journal_kit import tool
-from snapshot_kit import asked as asked_of_firmctl
+from snapshot_kit import asked as asked_of_view
 
 CHECKS_AT_A_TIME = 2
 ANSWER_SECONDS = 60.0
@@ -94,7 +94,7 @@ def has(daemon: Daemon, tenant: str = "alpha") -> bool:
 
 def commands_of(daemon: Daemon, tenant: str = "alpha") -> int | None:
     """How many commands of a tenant are shown, where it is there."""
-    rows = asked_of_firmctl(daemon, "status")["tenants"]
+    rows = asked_of_view(daemon, "status")["tenants"]
     return next((int(row["commands"]) for row in rows if row["tenant"] == tenant), None)
 
 
@@ -126,7 +126,7 @@ class Pair:
         replies = [answered.reply for answered in self.tenants["alpha"].answered]
         last = max(int(reply.split()[1]) for reply in replies if reply.startswith(b"alpha "))
         wait_for(lambda: commands_of(self.here) == last, f"line {last} of alpha is shown")
-        return known([row for row in asked_of_firmctl(self.here, "tasks")["tasks"] if row["tenant"] == "alpha"])
+        return known([row for row in asked_of_view(self.here, "tasks")["tasks"] if row["tenant"] == "alpha"])
 
     def turn(self) -> None:
         self.here, self.there = self.there, self.here

@@ -24,6 +24,7 @@ from agent_kit import remove
 from firmd_kit import Daemon
 from harness.checks import Missed, require
 from harness.deployed import SERVICE, Doors, Firm
+from harness.waiting import pause_since
 
 QUEUE = [sys.executable, str(SERVICE / "firm-queue"), "run"]
 # A queue of which commits, reads of all rows, or all looks at the database fail while files of these names are there,
@@ -505,12 +506,12 @@ class Case:
         return subprocess.Popen(words, stdin=null, stdout=null, stderr=self.log)
 
     def start(self) -> Case:
-        before, ends = self.said().count("ready:"), time.monotonic() + LIMIT_SECONDS
+        before, began = self.said().count("ready:"), time.monotonic()
         self.queue = process = self.spawn()
         while self.said().count("ready:") == before:
             require(process.poll() is None, f"it ended with status {process.poll()}: {self.said()}")
-            require(time.monotonic() < ends, "the queue is not ready in time")
-            time.sleep(0.01)
+            require(time.monotonic() - began < LIMIT_SECONDS, "the queue is not ready in time")
+            pause_since(began)
         return self
 
     def said(self) -> str:
@@ -539,10 +540,10 @@ class Case:
         return Client(self.socket)
 
     def until(self, holds: Callable[[], object], what: str, seconds: float = LIMIT_SECONDS) -> None:
-        ends = time.monotonic() + seconds
+        began = time.monotonic()
         while not holds():
-            require(time.monotonic() < ends, f"{what}, in time; the queue said:\n{self.said()[-3000:]}")
-            time.sleep(LOOK_SECONDS)
+            require(time.monotonic() - began < seconds, f"{what}, in time; the queue said:\n{self.said()[-3000:]}")
+            pause_since(began)
 
     def until_state(self, client: Client, task: str, state: str) -> None:
         seen = [""]

@@ -3,16 +3,14 @@
 from __future__ import annotations
 
 import json
-import subprocess
-import sys
 from collections.abc import Iterator, Sequence
 from contextlib import contextmanager, suppress
 from pathlib import Path
 from typing import Any
 
-from firmd_kit import ROSTER, Daemon, Setup, wait_for
+from firmd_kit import ROSTER, Client, Daemon, Setup, wait_for
 from harness.checks import require
-from harness.deployed import SERVICE, Books, snapshots
+from harness.deployed import Books, snapshots
 from journal_kit import QUESTIONS, ROUNDS, ask_all
 
 LINES = 20  # of a segment, and so of a snapshot
@@ -107,11 +105,11 @@ def shown_now(daemon: Daemon) -> dict[str, Any]:
 
 
 def asked(daemon: Daemon, command: str) -> Any:
-    """What firmctl prints."""
-    words = [sys.executable, str(SERVICE / "firmctl"), "--state", str(daemon.state), "--json", command]
-    done = subprocess.run(words, capture_output=True, text=True)
-    require(done.returncode == 0, done.stderr)
-    return json.loads(done.stdout)
+    """What firmctl prints, which is the view's answer."""
+    with Client(daemon.state / "view") as view:
+        answer = json.loads(view.ask(json.dumps({"ask": command}).encode()))
+    require("error" not in answer, answer)
+    return answer
 
 
 def failures(daemon: Daemon) -> int:
