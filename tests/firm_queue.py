@@ -32,7 +32,7 @@ import queue_tables
 from harness import program
 from harness.checks import Check, Skipped, Suite, require, run_script, run_suites
 from harness.deployed import SERVICE, columns
-from queue_kit import FOREVER, Case, Client, Json, Setup, Size, asked_of_firm, claim_place, numbers
+from queue_kit import FOREVER, Case, Client, Firmd, Json, Setup, Size, asked_of_firm, claim_place, numbers
 
 CHECKS_AT_A_TIME = 8  # they mostly wait
 FIRMCTL = [sys.executable, "-E", "-S", str(SERVICE / "firmctl")]  # as its first line has it
@@ -66,8 +66,8 @@ def life(setup: Setup) -> None:
 def table_of_tasks(setup: Setup) -> None:
     """`ps` is the table of what `tasks` tells, whatever state the tasks are in."""
     with setup.case().start() as case, case.client() as client, case.firmd.client() as firm:
-        for line in (b"job j 3", b"task j mine"):
-            require(firm.ask(b"alpha " + line).endswith(b" ok"), line)
+        for line in ("job j 3", "task j mine"):
+            require(firm.ask(f"{case.tenant} {line}".encode()).endswith(b" ok"), line)
         client.submit(*FOREVER, array=[1, 3])
         client.submit(*FOREVER, "a b", "it's", array=[4, 6], hold=True)
         client.submit("0.01", after=["1"], job="late")
@@ -321,8 +321,8 @@ def small_arena(setup: Setup) -> None:
 def foreign(setup: Setup) -> None:
     """Tasks that others submit to firm are shown as foreign and left alone; what they take away is given again."""
     with setup.case().start() as case, case.client() as client, case.firmd.client() as firm:
-        for line in (b"job j 3", b"task j mine", b"task j 77", b"task j 78-1"):
-            require(firm.ask(b"alpha " + line).endswith(b" ok"), line)
+        for line in ("job j 3", "task j mine", "task j 77", "task j 78-1"):
+            require(firm.ask(f"{case.tenant} {line}".encode()).endswith(b" ok"), line)
         case.until(lambda: len(client.ask("tasks")) == 3, "they are shown")
         rows = client.ask("tasks")
         require({row["state"] for row in rows} == {"foreign"} and client.states() == {}, rows)
@@ -331,7 +331,7 @@ def foreign(setup: Setup) -> None:
         case.until(lambda: "79" in case.firm_tasks(), "it is in firm")
         case.agent("a1", m1=8)
         case.until_state(client, "79", "running")
-        firm.ask(b"alpha done 79")
+        firm.ask(f"{case.tenant} done 79".encode())
         case.until(lambda: len(client.ask("task", task="79")["attempts"]) == 2, "it runs again")
         case.until_state(client, "79", "running")
         case.world.require_single()
@@ -343,7 +343,7 @@ def foreign(setup: Setup) -> None:
 
 def away(setup: Setup) -> None:
     """Without firmd submissions are taken; they go on when it is back, also with a new state; nothing runs twice."""
-    with setup.case().start() as case, case.client() as client:
+    with setup.case_alone().start() as case, case.client() as client:
         case.agent("a1", m1=4)
         client.submit(*FOREVER, array=[1, 3])
         case.until(lambda: len(case.world.running()) == 3, "three run")
@@ -709,7 +709,9 @@ def checks(setup: Setup) -> dict[str, Check]:
     found: dict[str, Check] = dict(queue_tables.CHECKS)
     for check in CHECKS:
         found[check.__name__.replace("_", " ")] = partial(check, setup)
-    found["kills"] = partial(queue_kills.kills, setup.case, queue_kills.Plan(setup.seed, 3 if setup.is_quick else 60))
+    found["kills"] = partial(
+        queue_kills.kills, setup.case_alone, queue_kills.Plan(setup.seed, 3 if setup.is_quick else 60)
+    )
     failures = queue_kills.Plan(setup.seed, 3 if setup.is_quick else 30)
     found["disk failures"] = partial(queue_kills.disk_failures, setup.case, failures)
     if not setup.is_quick:
@@ -726,9 +728,10 @@ def main() -> int:
     parser.add_argument("--seed", type=int, default=random.randrange(10**6), metavar="N", help="of what is random")
     program.add_program(parser)
     given = parser.parse_args()
-    setup = Setup(given.program, given.quick, given.seed)
-    chosen = {name: check for name, check in checks(setup).items() if given.only in name}
-    return run_suites(Suite(chosen, CHECKS_AT_A_TIME))
+    with Firmd(given.program) as firmd:
+        setup = Setup(given.program, given.quick, given.seed, firmd)
+        chosen = {name: check for name, check in checks(setup).items() if given.only in name}
+        return run_suites(Suite(chosen, CHECKS_AT_A_TIME))
 
 
 if __name__ == "__main__":

@@ -172,7 +172,7 @@ def files_of_the_queue(setup: Setup) -> None:
     agent runs it, its files are that user's. Both hold after a restart too."""
     if os.geteuid():
         raise Skipped("it needs root, to be other users")
-    with setup.case("--socket-mode=666", "--lease=600") as case:
+    with setup.case_alone("--socket-mode=666", "--lease=600") as case:
         case.words = [sys.executable, "-c", BY_USER, str(CAROL), "run"]
         case.state.mkdir()
         secret = case.folder / "secret"

@@ -423,7 +423,7 @@ def numbers(setup: Setup) -> None:
         client.submit(*FOREVER, hold=True)
         with closing(socket.socket(socket.AF_UNIX)) as lines:
             lines.connect(str(case.doors.lines))
-            lines.sendall(b"alpha job others 1\nalpha task others 99999998\n")
+            lines.sendall(f"{case.tenant} job others 1\n{case.tenant} task others 99999998\n".encode())
             case.until(lambda: "99999998" in case.firm_tasks(), "it is in firm")
             case.until(lambda: client.ask("status")["last_number"] == 99_999_998, "it is known")
         require(client.submit(*FOREVER, hold=True) == 99_999_999, "the last one")

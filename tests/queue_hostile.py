@@ -218,7 +218,7 @@ def stops(setup: Setup) -> None:
 
 def hung_firmd(setup: Setup) -> None:
     """While firmd hangs requests are answered, and it is told; SIGTERM ends the queue. Then all goes on once."""
-    with setup.case().start() as case, case.client() as client:
+    with setup.case_alone().start() as case, case.client() as client:
         case.agent("a1", m1=2)
         client.submit("0.01")
         case.until_state(client, "1", "done")
@@ -306,7 +306,8 @@ def unread(setup: Setup) -> None:
     with setup.case().start_failing() as case, case.client() as client:
         with case.failure("looks"), closing(socket.socket(socket.AF_UNIX)) as lines:
             lines.connect(str(case.doors.lines))
-            lines.sendall(b"alpha job others 1\nalpha task others 77\n")  # whose name may be one of the queue's own
+            others = f"{case.tenant} job others 1\n{case.tenant} task others 77\n"  # a name that may be the queue's own
+            lines.sendall(others.encode())
             case.until(lambda: "cannot read" in case.said(), "it is told")
             client.refused("not-read", "history")
             require(client.submit(*FOREVER) == 78, "the next number")

@@ -3,6 +3,7 @@
 from __future__ import annotations
 
 import asyncio
+import itertools
 import json
 import os
 import secrets
@@ -21,6 +22,7 @@ from pathlib import Path
 from typing import Any, TypeVar
 
 from agent_kit import remove
+from firmd_kit import Client as FirmdClient
 from firmd_kit import Daemon
 from harness.checks import Missed, require
 from harness.deployed import SERVICE, Doors, Firm
@@ -55,7 +57,7 @@ sys.exit(daemon.main(sys.argv[1:]))
 """
 ANN, BOB = 61_101, 61_102  # users without names
 FOREVER = ["forever"]  # the command of a task that never ends by itself
-ROSTER = b"tenant,nodes,arcs,life,spread,churn\nalpha,%d,%d,1000000000,0,%d\n"
+HEADING = "tenant,nodes,arcs,life,spread,churn\n"
 LIMIT_SECONDS = 180.0  # for anything that is waited for
 LOOK_SECONDS = 0.02
 ASK_AGAIN_SECONDS = 0.2  # at most, by a stand-in for an agent
@@ -427,16 +429,55 @@ class Size:
     arcs: int = 65_536
     churn: int = 1_000_000
 
+    def row(self, tenant: str) -> str:
+        """Of a roster."""
+        return f"{tenant},{self.nodes},{self.arcs},1000000000,0,{self.churn}"
+
+
+class Firmd:
+    """A firmd for many cases, none of which does anything to it: each has a tenant of its own there."""
+
+    def __init__(self, program: str) -> None:
+        self.folder = Path(tempfile.mkdtemp(prefix="firm-queue-", dir=FAST))
+        (self.folder / "roster.csv").write_text(f"{HEADING}{Size(2, 0).row('none')}\n")
+        self.daemon = Daemon(self.folder, program)
+        self._numbers = itertools.count(1)
+
+    def __enter__(self) -> Firmd:
+        self.daemon.start()
+        return self
+
+    def __exit__(self, *_: object) -> None:
+        self.daemon.kill()
+        remove(self.folder)
+
+    def admit(self, size: Size) -> str:
+        """The name of a new tenant."""
+        name = f"t{next(self._numbers)}"
+        self._say(f"+ admit {size.row(name)}", f"+ ok admitted {name}")
+        return name
+
+    def retire(self, name: str) -> None:
+        self._say(f"+ retire {name}", f"+ ok retired {name}")
+
+    def _say(self, line: str, wanted: str) -> None:
+        with FirmdClient(self.daemon.operator) as operator:
+            reply = operator.ask(line.encode()).decode()
+        require(reply == wanted, f"{line}: {reply}")
+
 
 class Case:
-    """A folder with firmd, a queue, and stand-ins for agents."""
+    """A folder with a queue and stand-ins for agents, over a firmd of its own or a tenant of another one."""
 
-    def __init__(self, program: str, *options: str, size: Size = Size(), folder: Path = FAST) -> None:
-        self.folder = Path(tempfile.mkdtemp(prefix="firm-queue-", dir=folder))
-        (self.folder / "roster.csv").write_bytes(ROSTER % (size.nodes, size.arcs, size.churn))
-        self.firmd = Daemon(self.folder, program)
+    def __init__(
+        self, program: str, *options: str, size: Size = Size(), folder: Path = FAST, others: Firmd | None = None
+    ) -> None:
+        self.folder, self._others = Path(tempfile.mkdtemp(prefix="firm-queue-", dir=folder)), others
+        (self.folder / "roster.csv").write_text(f"{HEADING}{size.row('alpha')}\n")
+        self.firmd = Daemon(self.folder, program) if others is None else others.daemon
+        self.tenant = "alpha" if others is None else others.admit(size)
         self.socket, self.state = self.folder / "queue", self.folder / "queue-state"
-        self.doors = Doors("alpha", self.folder / "state" / "view", self.folder / "any")
+        self.doors = Doors(self.tenant, self.firmd.state / "view", self.firmd.any)
         self.options = list(options)
         self.words = list(QUEUE)
         self.world = World()
@@ -447,7 +488,8 @@ class Case:
         self.loop.set_exception_handler(lambda *_: None)  # connections of what is killed fail
         self.thread = threading.Thread(target=self.loop.run_forever, daemon=True)
         self.thread.start()
-        self.firmd.start()
+        if others is None:
+            self.firmd.start()
 
     def __enter__(self) -> Case:
         return self
@@ -456,7 +498,9 @@ class Case:
         for agent in self.agents:
             agent.kill()
         self.kill()
-        if self.firmd.process is not None:
+        if self._others is not None:
+            self._others.retire(self.tenant)
+        elif self.firmd.process is not None:
             self.firmd.kill()
         self.loop.call_soon_threadsafe(self.loop.stop)
         self.thread.join()
@@ -501,7 +545,7 @@ class Case:
     def spawn(self) -> subprocess.Popen[bytes]:
         places = {"state": self.state, "socket": self.socket, "firm": self.doors.lines, "view": self.doors.view}
         words = [f"--{name}={path}" for name, path in places.items()]
-        words = [*self.words, "--tenant=alpha", *words, *self.options]
+        words = [*self.words, f"--tenant={self.tenant}", *words, *self.options]
         null = subprocess.DEVNULL
         return subprocess.Popen(words, stdin=null, stdout=null, stderr=self.log)
 
@@ -562,7 +606,7 @@ class Case:
         with closing(socket.socket(socket.AF_UNIX)) as view:
             view.settimeout(LIMIT_SECONDS)
             view.connect(str(self.doors.view))
-            view.sendall(b'{"ask": "tasks", "tenant": "alpha"}\n')
+            view.sendall(json.dumps({"ask": "tasks", "tenant": self.tenant}).encode() + b"\n")
             return [row["task"] for row in json.loads(view.makefile("rb").readline())["tasks"]]
 
     def rows(self, words: str) -> list[Any]:
@@ -576,14 +620,19 @@ class Setup:
     program: str
     is_quick: bool
     seed: int
+    firmd: Firmd | None = None
 
     def case(self, *options: str, size: Size = Size()) -> Case:
+        """One that does nothing to firmd, which others ask too where there is such a one."""
+        return Case(self.program, *options, size=size, others=self.firmd)
+
+    def case_alone(self, *options: str, size: Size = Size()) -> Case:
         return Case(self.program, *options, size=size)
 
 
 def asked_of_firm(case: Case, what: str) -> list[Json]:
     with Client(case.doors.view) as view:
-        view.send({"ask": what, "tenant": "alpha"})
+        view.send({"ask": what, "tenant": case.tenant})
         return list(view.answer()[what])
 
 

@@ -179,8 +179,8 @@ def words_are_judged(found: Cluster) -> None:
     require(foreign.status == 3 and b"is no firm-queue; it says b'! unknown-tenant" in foreign.faults, foreign)
     for words, status in [(["ps", "--queue", "/nonexistent"], 3), (["logs", "99999"], 1), (["cancel"], 2)]:
         require(found.run("firmctl", *words).status == status, words)
-    keyed = [found.submit("--key", "mine", "--", "true") for _ in range(2)]
-    require(keyed[0] == keyed[1], keyed)
+    keyed = [found.run("firm-submit", "--dir", "/", "--key", "mine", "--", "true") for _ in range(2)]
+    require(keyed[0] == keyed[1] and keyed[0].status == 0 and keyed[0].output.strip().isdigit(), keyed)
 
 
 def logs(found: Cluster) -> None:

@@ -188,6 +188,7 @@ class Search:
         self.moves: dict[tuple[int, int], tuple[int, int]] = {}
         self.lessons: dict[tuple[int, object], int] = {}
         self.sleepers: dict[int, int] = {}
+        self.backward: set[int] = set()  # that step back
         self.following: list[list[int]] = []  # of each state those behind a step
         self.again: dict[int, list[int]] = {}  # and those behind a step back
         self.lost = 0
@@ -199,10 +200,11 @@ class Search:
             following: list[int] = []
             again: list[int] = []
             for other, is_again in self.steps(state[0], state[1:]):
-                if other not in numbers:
-                    numbers[other] = len(states)
+                found = numbers.get(other)
+                if found is None:
+                    found = numbers[other] = len(states)
                     states.append(other)
-                (again if is_again else following).append(numbers[other])
+                (again if is_again else following).append(found)
             self.following.append(following)
             if again:
                 self.again[number] = again
@@ -240,11 +242,18 @@ class Search:
 
     def steps(self, words: int, numbers: Numbers) -> Iterator[tuple[State, bool]]:
         """The states behind one step of one thread, and whether it is a step back."""
+        before = GONE
         for place, number in enumerate(numbers):
-            if place and number == numbers[place - 1]:
+            if number == before:
                 continue
-            others = numbers[:place] + numbers[place + 1 :]
+            before = number
+            move = self.moves.get((number, words))
+            if move is not None:
+                others = numbers[:place] + numbers[place + 1 :]
+                yield (move[1], *self.in_order((*others, move[0]))), number in self.backward
+                continue
             thread, step = self.threads[number]
+            others = numbers[:place] + numbers[place + 1 :]
             if isinstance(step, Wake):
                 for left in self.woken(step, others):
                     yield (words, *self.in_order((*left, self.behind(number, None)))), False
@@ -252,10 +261,10 @@ class Search:
                 if all(self.threads[other][0].turn is not step.turn for other in others):
                     yield (words, *self.in_order((*others, self.behind(number, None)))), False
             elif not thread.is_asleep:
-                move = self.moves.get((number, words))
-                if move is None:
-                    move = self.moves[number, words] = self.move(number, step, words)
-                yield (move[1], *self.in_order((*others, move[0]))), isinstance(step, Again)
+                move = self.moves[number, words] = self.move(number, step, words)
+                if isinstance(step, Again):
+                    self.backward.add(number)
+                yield (move[1], *self.in_order((*others, move[0]))), number in self.backward
 
     def behind(self, number: int, lesson: object) -> int:
         """The thread behind its step, by which it learns this."""
@@ -309,8 +318,10 @@ class Search:
     def ends(self) -> bool:
         """Whether each run ends in which a thread that steps back lets the others go on: no state leads back to itself
         without a step back, and each leads to an end."""
-        entering = Counter(chain.from_iterable(self.following))
-        left = [state for state in range(len(self.following)) if not entering[state]]
+        entering = [0] * len(self.following)
+        for state in chain.from_iterable(self.following):
+            entering[state] += 1
+        left = [state for state, count in enumerate(entering) if not count]
         ended = 0
         while left:
             ended += 1
