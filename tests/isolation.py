@@ -310,10 +310,9 @@ def socket_budget(setup: Setup) -> None:
 def own_replies(setup: Setup) -> None:
     """What firmd says in firm's place is what firm would have said, and each later line gets its right number."""
     draw = random.Random(setup.seed)
-    for _ in range(15 if setup.is_quick else 300):
+    for _ in range(3 if setup.is_quick else 60):
         seed = draw.randrange(10**6)
-        roster, text = random_stream(random.Random(seed), 5)
-        text = b"".join(line + b"\n" for line in text.split(b"\n"))
+        roster, text = streams(random.Random(seed), 5)
         with setup.daemon(roster=roster) as daemon:
             daemon.start()
             with Client(daemon.operator) as client:
@@ -332,6 +331,21 @@ def own_replies(setup: Setup) -> None:
             others = [reply for reply in wanted if reply not in left_out]
             require([reply for reply in kept if reply not in left_out] == others, f"seed {seed}: the journal's replies")
             daemon.stop()
+
+
+def streams(draw: random.Random, count: int) -> tuple[bytes, bytes]:
+    """A roster, and random streams behind one another: the tenants of each take the place of those before."""
+    roster, lines, names = b"", list[bytes](), set[bytes]()
+    for number in range(count):
+        rows, text = random_stream(draw, 5)
+        tenants = rows.splitlines()[1:]
+        if number:
+            lines += [*(b"+ retire " + name for name in sorted(names)), *(b"+ admit " + row for row in tenants)]
+        else:
+            roster = rows
+        lines += text.split(b"\n")
+        names |= {row.partition(b",")[0] for row in tenants} | {b"new", b"z"}  # which an operator of a stream admits
+    return roster, b"".join(line + b"\n" for line in lines)
 
 
 def first_difference(told: list[bytes], wanted: list[bytes]) -> str:
