@@ -4,17 +4,11 @@ ghost use Rattle.std.specs.Prelude.{IsTrue};
 mod arena;
 mod books;
 mod canon;
-mod flow;
 mod graph;
-mod net;
-mod paths;
+mod names;
+mod nets;
 mod proposals;
 mod random;
-mod restored;
-mod searches;
-mod seen;
-mod steps;
-mod worlds;
 
 use std::process::Abort;
 

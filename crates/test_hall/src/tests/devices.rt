@@ -43,13 +43,14 @@ static KINDS: [ErrorKind; 4] = [
 #[derive(Drop)]
 struct Device {
     kind: ErrorKind,
+    rows: &'static [Row],
     calls: usize,
 }
 
 impl Device {
     /// The most bytes that the next call moves.
     fn next_most(&mut self) -> io::Result<usize> {
-        let row = ROWS.get(self.calls);
+        let row = self.rows.get(self.calls);
         self.calls = self.calls.saturating_add(1);
         match row {
             Some((_, Some(most), _)) => Ok(*most),
@@ -86,19 +87,31 @@ fn made(device: &mut Bytes<Device>, call: &Call) -> Result<usize, Failed> {
     }
 }
 
-/// Makes each call in turn. The device is called as often.
-fn play(rt: &impl Abort, kind: ErrorKind) {
-    let mut device = Bytes::new(Device { kind, calls: 0 });
-    for (call, _, wanted) in &ROWS {
-        check(rt, made(&mut device, call) == *wanted, "a call");
+fn expect_calls(rt: &impl Abort, device: &mut Bytes<Device>, rows: &[Row]) {
+    for (call, _, wanted) in rows {
+        check(rt, made(device, call) == *wanted, "a call");
     }
+}
+
+/// Makes each call in turn. The device is called as often.
+fn play(rt: &impl Abort, kind: ErrorKind, rows: &'static [Row]) {
+    let mut device = Bytes::new(Device {
+        kind,
+        rows,
+        calls: 0,
+    });
+    expect_calls(rt, &mut device, rows);
     let calls = device.into_inner().calls;
-    check(rt, calls == ROWS.len(), "as many calls");
+    check(rt, calls == rows.len(), "as many calls");
+}
+
+fn play_all(rt: &impl Abort, kinds: &[ErrorKind], rows: &'static [Row]) {
+    for kind in kinds {
+        play(rt, *kind, rows);
+    }
 }
 
 #[test]
 fn each_call_reaches_the_device_once(rt: HostRuntime) {
-    for kind in &KINDS {
-        play(&rt, *kind);
-    }
+    play_all(&rt, &KINDS, &ROWS);
 }

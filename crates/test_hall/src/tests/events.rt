@@ -169,15 +169,19 @@ fn expect_step(rt: &impl Abort, is_expected: bool, step: usize) {
     assert!(rt; is_expected, "the answer of step {step}");
 }
 
+fn play(rt: &impl Abort, alloc: Global, table: &mut Table, rows: &[(Given, Wanted)]) {
+    let limits = Limits::check(2, 0, 2, 0, 0, 0).expect(rt, "limits");
+    let name = Name::read(b"t").expect(rt, "a name");
+    for (step, (given, wanted)) in rows.iter().enumerate() {
+        let answer = table.event(alloc, event(given, limits));
+        expect_step(rt, is_answered(alloc, name, &answer, wanted), step);
+    }
+}
+
 #[test]
 fn each_event_is_answered_where_it_fits(rt: HostRuntime) {
     let alloc = rt.alloc();
-    let limits = Limits::check(2, 0, 2, 0, 0, 0).expect(&rt, "limits");
-    let name = Name::read(b"t").expect(&rt, "a name");
     let roster = roster_of(&rt, alloc, "a,2,0,2,0,0\nb,2,0,2,0,0");
     let mut table = Table::open(alloc, &roster, 2).expect(&rt, "memory");
-    for (step, (given, wanted)) in ROWS.iter().enumerate() {
-        let answer = table.event(alloc, event(given, limits));
-        expect_step(&rt, is_answered(alloc, name, &answer, wanted), step);
-    }
+    play(&rt, alloc, &mut table, &ROWS);
 }

@@ -166,9 +166,16 @@ fn play<R: Alloc<A = Global> + Abort + Threads + Wait + Clone + Drop + Send + 's
     check(rt, Arc::strong_count(&meter) == 1, "the thread has ended");
 }
 
+fn play_all<R: Alloc<A = Global> + Abort + Threads + Wait + Clone + Drop + Send + 'static>(
+    rt: &R,
+    cases: &[Case],
+) {
+    for case in cases {
+        play(rt, case);
+    }
+}
+
 #[test]
 fn is_ready_once_a_piece_is_there_and_reads_each_byte_once(rt: HostRuntime) {
-    for case in &CASES {
-        play(&rt, case);
-    }
+    play_all(&rt, &CASES);
 }

@@ -210,11 +210,18 @@ t12 1 ok round cost 0
     },
 ];
 
+fn play_all<R: Alloc<A = Global> + Abort + Threads + Wait + Sync>(
+    rt: &R,
+    scenes: &'static [Scene],
+) {
+    for scene in scenes {
+        play(rt, scene);
+    }
+}
+
 #[test]
 fn no_reply_waits_for_the_round_of_another(rt: HostRuntime) {
-    for scene in &OF_NEIGHBOURS {
-        play(&rt, scene);
-    }
+    play_all(&rt, &OF_NEIGHBOURS);
 }
 
 /// Eight lines, 1,015 of one tenant, and a round of that one: there is room for their answers while the first round is

@@ -1,9 +1,8 @@
 //! Graphs of small books: what is added, removed and settled, and prices and room for searches in their nets.
-ghost use Rattle.std.specs.Prelude.{◌≡◌, ◌<◌};
+ghost use Rattle.std.specs.Prelude.{◌≡◌};
 ghost use Rattle.firm_paths.specs.NetArcs.{limits_of};
 
 use super::check;
-use super::random::Random;
 use firm_graph::Graph;
 use firm_net::Net;
 use firm_paths::{Prices, Scratch};
@@ -22,25 +21,6 @@ pub fn numbered(rt: &impl Abort, number: u32) -> Name {
     name(rt, &[tens, ones])
 }
 
-/// A number from 1 to the last.
-pub fn one_to(last: u32, random: &mut Random) -> u64
-    requires { 0 < last }
-{
-    u64::from(random.below(last)) + 1
-}
-
-/// Limits of a small spread, churn and remote, at which many placements cost as much.
-pub fn random_limits(
-    rt: &impl Abort,
-    random: &mut Random,
-    (nodes, arcs, life): (u64, u64, u64),
-) -> Limits {
-    let spread = u64::from(random.below(4));
-    let churn = u64::from(random.below(3));
-    let remote = u64::from(random.below(4));
-    Limits::check(nodes, arcs, life, spread, churn, remote).expect(rt, "limits")
-}
-
 /// The graph of an empty book, in a box: the proof of a function that owns it follows no field of it.
 pub fn opened(rt: &impl Abort, alloc: Global, limits: Limits) -> Box<Graph> {
     let graph = Graph::open(alloc, limits).expect(rt, "memory");
@@ -54,11 +34,8 @@ pub fn add_machine(rt: &impl Abort, alloc: Global, graph: &mut Graph, name: Name
         return;
     }
     check(rt, graph.asked() < 1_000, "few changes were asked for");
-    check(
-        rt,
-        graph.add_machine(alloc, name, slots).is_ok(),
-        "a machine has room",
-    );
+    let is_added = graph.add_machine(alloc, name, slots).is_ok();
+    check(rt, is_added, "a machine has room");
 }
 
 /// Adds a job that is not there.
@@ -71,35 +48,16 @@ pub fn add_job(rt: &impl Abort, graph: &mut Graph, name: Name, weight: u64) {
     check(rt, graph.add_job(name, weight).is_ok(), "a job has room");
 }
 
-/// Adds a task that is not there to a job that is.
+/// Adds a task that is not there to a job that is. The machines that it prefers are there.
 pub fn add_task(rt: &impl Abort, graph: &mut Graph, job: Name, name: Name, preferred: Preferred) {
     let rows = graph.rows();
     if !rows.has_job(job) || rows.has_task(name) {
         return;
     }
-    check(
-        rt,
-        rows.has_machines(preferred.as_slice()),
-        "the preferred machines are there",
-    );
+    check(rt, rows.has_machines(preferred.as_slice()), "the machines");
     check(rt, graph.asked() < 1_000, "few changes were asked for");
-    check(
-        rt,
-        graph.add_task(job, name, preferred).is_ok(),
-        "a task has room",
-    );
-}
-
-pub fn remove_machine(graph: &mut Graph, name: Name) {
-    if graph.rows().has_machine(name) {
-        graph.drop_machine(name);
-    }
-}
-
-pub fn remove_task(graph: &mut Graph, name: Name) {
-    if graph.rows().has_task(name) {
-        graph.drop_task(name);
-    }
+    let is_added = graph.add_task(job, name, preferred).is_ok();
+    check(rt, is_added, "a task has room");
 }
 
 /// A placement becomes that of the book.

@@ -3,7 +3,7 @@ ghost use Rattle.std.specs.Prelude.{◌≡◌};
 ghost use Rattle.firm_paths.specs.NetArcs.{limits_of};
 
 use super::books::{Workspace, add_job, add_machine, add_task, name, numbered, opened};
-use super::check;
+use super::{check, expect};
 use firm_canon::{first_best, first_by_search};
 use firm_graph::Graph;
 use firm_rules::{Choice, Limits, Preferred};
@@ -15,13 +15,6 @@ use std::process::Abort;
 enum Way {
     Proposed,
     Searched,
-}
-
-/// The placement of a round, its searches and their looks, and the looks of its proposal.
-#[derive(Drop)]
-struct Chosen {
-    placement: Vec<Choice>,
-    counts: (u64, u64, u64),
 }
 
 fn choose_in(
@@ -42,31 +35,31 @@ fn choose_in(
     placement.expect(rt, "memory")
 }
 
-fn choose(rt: &impl Abort, alloc: Global, graph: &mut Graph, way: Way) -> Chosen {
+/// Searches, their looks, and the looks of proposals.
+type Counts = (u64, u64, u64);
+
+// The placement of a round, and what it took.
+fn choose(rt: &impl Abort, alloc: Global, graph: &mut Graph, way: Way) -> (Vec<Choice>, Counts) {
     let mut space = Workspace::new(rt, alloc, graph.net());
     let placement = choose_in(rt, alloc, graph, &mut space, way);
     let scratch = &space.scratch;
     let counts = (scratch.searches(), scratch.looks(), scratch.proposed());
-    Chosen { placement, counts }
+    (placement, counts)
+}
+
+// By searches the placement is this one.
+fn expect_searched(rt: &impl Abort, alloc: Global, graph: &mut Graph, wanted: &[Choice]) {
+    let (placement, counts) = choose(rt, alloc, graph, Way::Searched);
+    check(rt, placement.as_slice() == wanted, "both are the same");
+    expect(rt, counts.2, 0);
 }
 
 /// The placement of a round, proposed; by searches it is the same.
 pub fn placement_of(rt: &impl Abort, alloc: Global, graph: &mut Graph) -> Vec<Choice> {
-    let first = choose(rt, alloc, graph, Way::Proposed);
-    let (searches, looks, _) = first.counts;
-    check(
-        rt,
-        searches == 0 && looks == 0,
-        "a proposal takes no search",
-    );
-    let searched = choose(rt, alloc, graph, Way::Searched);
-    check(rt, searched.counts.2 == 0, "a search takes no proposal");
-    check(
-        rt,
-        first.placement.as_slice() == searched.placement.as_slice(),
-        "both are the same",
-    );
-    first.placement
+    let (placement, counts) = choose(rt, alloc, graph, Way::Proposed);
+    expect(rt, (counts.0, counts.1), (0, 0));
+    expect_searched(rt, alloc, graph, &placement);
+    placement
 }
 
 /// Machines of two slots and waiting tasks, with names of two digits.
@@ -81,46 +74,52 @@ fn add_many(rt: &impl Abort, alloc: Global, graph: &mut Graph, machines: u32, ta
     }
 }
 
-/// Checks what a first round takes if its proposal may take so many looks: its searches, their looks, and the looks of
-/// its proposal.
-fn expect_counts(
-    rt: &impl Abort,
-    alloc: Global,
-    graph: &mut Graph,
-    allowed: u64,
-    counts: (u64, u64, u64),
-) {
+/// What a first round takes if its proposal may take so many looks.
+fn expect_counts(rt: &impl Abort, alloc: Global, graph: &mut Graph, allowed: u64, wanted: Counts) {
     graph.allow_proposals(allowed);
-    let chosen = choose(rt, alloc, graph, Way::Proposed);
-    check(
-        rt,
-        chosen.counts == counts,
-        "a round takes so many searches and looks",
-    );
+    expect(rt, choose(rt, alloc, graph, Way::Proposed).1, wanted);
 }
 
-/// Checks what a first round takes: its searches and their looks without a proposal, or else the looks of that. One
-/// that is allowed a look less comes to nothing.
-fn expect_counts_of(
-    rt: &impl Abort,
-    alloc: Global,
-    limits: Option<Limits>,
-    rows: (u32, u32),
-    (searches, looks, proposed): (u64, u64, u64),
-) {
-    let mut graph = opened(rt, alloc, limits.expect(rt, "limits"));
-    let (machines, tasks) = rows;
-    add_many(rt, alloc, &mut graph, machines, tasks);
-    expect_counts(rt, alloc, &mut graph, u64::MAX, (0, 0, proposed));
-    expect_counts(rt, alloc, &mut graph, 0, (searches, looks, 0));
-    let fewer = proposed.saturating_sub(1);
-    expect_counts(rt, alloc, &mut graph, fewer, (searches, looks, fewer));
+/// A tenant's nodes and arcs, its machines and tasks, and what its first round takes, by the looks that are allowed.
+type Counted = ([u64; 2], [u32; 2], &'static [(u64, Counts)]);
+
+fn expect_all(rt: &impl Abort, alloc: Global, graph: &mut Graph, wanted: &[(u64, Counts)]) {
+    for (allowed, counts) in wanted {
+        expect_counts(rt, alloc, graph, *allowed, *counts);
+    }
 }
+
+fn play(rt: &impl Abort, alloc: Global, (room, rows, wanted): &Counted) {
+    let [nodes, arcs] = *room;
+    let [machines, tasks] = *rows;
+    let limits = Limits::check(nodes, arcs, 100, 1, 2, 7).expect(rt, "limits");
+    let mut graph = opened(rt, alloc, limits);
+    add_many(rt, alloc, &mut graph, machines, tasks);
+    expect_all(rt, alloc, &mut graph, wanted);
+}
+
+// A round is proposed by so many looks, or takes these searches and their looks. A proposal that is allowed a look less
+// comes to nothing.
+static COUNTED: [Counted; 2] = [
+    (
+        [9, 24],
+        [2, 2],
+        &[(u64::MAX, (0, 0, 5)), (0, (3, 47, 0)), (4, (3, 47, 4))],
+    ),
+    (
+        [33, 91],
+        [10, 20],
+        &[
+            (u64::MAX, (0, 0, 40)),
+            (0, (20, 1321, 0)),
+            (39, (20, 1321, 39)),
+        ],
+    ),
+];
 
 #[test]
 fn what_a_round_takes_is_counted(rt: HostRuntime) {
-    let small = Limits::check(9, 24, 100, 1, 2, 7);
-    expect_counts_of(&rt, rt.alloc(), small, (2, 2), (3, 47, 5));
-    let large = Limits::check(33, 91, 100, 1, 2, 7);
-    expect_counts_of(&rt, rt.alloc(), large, (10, 20), (20, 1321, 40));
+    for counted in &COUNTED {
+        play(&rt, rt.alloc(), counted);
+    }
 }

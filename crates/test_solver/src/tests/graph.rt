@@ -1,373 +1,425 @@
-//! Worked tenants, their networks arc by arc, and the refusals in their order.
-use super::restored::expect_alike;
-use super::seen::Counted::{Asked, Flow, Nothing, Room};
-use super::seen::Seen::{Apart, OneJob, TwoSlots, TwoSources};
-use super::seen::TaskSeen::{Exit, Prefers, Runs, Waits};
-use super::steps::Leaving::{Close, Done, Drain, DrainBefore, DrainFirst};
-use super::steps::OfArc::{Hold, Push};
-use super::steps::Row::{Job, Machine, Task};
-use super::steps::Step::{Add, Count, Go, Least, Prepare, Refuse, See, SeeTask, Settle, Through};
-use super::steps::{Step, opened, take_all};
+//! Worked tenants: their networks arc by arc, all placements of a round in their order, and what slots are worth.
+ghost use Rattle.std.specs.Prelude.{◌≡◌, length};
+
+use super::books::{add_job, add_machine, add_task, name, opened, settle};
+use super::nets::{Link, TWO_RUNNING_TASKS, TWO_WAITING_TASKS};
+use super::{check, expect};
 use Choice::{On, Wait};
-use firm_graph::{Graph, GraphRefusal};
-use firm_net::Way;
-use firm_rules::Choice;
+use Step::{Costs, Job, Machine, Network, NotLegal, Settle, Slots, Task};
+use firm_graph::Graph;
+use firm_net::NodeId;
+use firm_rents::{Rents, high_rents, lost_by_slot, low_rents, saved_by_slot};
+use firm_rules::{Case, Choice, Limits, Preferred, Rows, cost_of, legal, ranks_before};
 use std::alloc::Global;
 use std::process::Abort;
 
-// Takes the steps with a graph of these limits. Each graph here ends by a call of `drop`, so that the proof follows the
-// drop of all it holds only once.
-fn play(rt: &impl Abort, alloc: Global, nodes: u64, arcs: u64, steps: &[Step]) {
-    let mut graph = opened(rt, alloc, nodes, arcs);
-    take_all(rt, alloc, &mut graph, steps);
-    drop(graph);
+/// A placement of all tasks, and what it costs.
+type Priced = (&'static [Choice], i64);
+
+/// A change of a tenant's rows, or what is seen of them then.
+enum Step {
+    /// A machine and the number of its slots.
+    Machine(&'static [u8], u64),
+    /// A job and its weight.
+    Job(&'static [u8], u64),
+    /// A task's job, its name, and the machines that it prefers.
+    Task(&'static [u8], &'static [u8], &'static [&'static [u8]]),
+    Settle(&'static [Choice]),
+    /// All arcs of the network, in the order in which they were added. Nodes are the sink, the hub, and those of rows.
+    Network(&'static [Link]),
+    /// These are legal, each with its cost, and each comes before the next one.
+    Costs(&'static [Priced]),
+    NotLegal(&'static [Choice]),
+    /// By this placement, which costs least: of each machine, what a slot more saves, and what one less costs.
+    Slots(&'static [Choice], &'static [(u64, u64)]),
 }
 
-// Two machines of two slots, a job of weight 10, and two tasks of it.
-static WORKED: [Step; 7] = [
-    Count(Asked(0)),
-    Add(Machine(b"m1", 2)),
-    Add(Machine(b"m2", 2)),
-    Add(Job(b"j")),
-    Add(Task(b"j", b"a", &[])),
-    Add(Task(b"j", b"b", &[])),
-    Count(Asked(5)),
-];
-
-// Takes the steps with that tenant's graph.
-fn play_worked(rt: &impl Abort, alloc: Global, steps: &[Step]) {
-    let mut graph = opened(rt, alloc, 9, 24);
-    take_all(rt, alloc, &mut graph, &WORKED);
-    take_all(rt, alloc, &mut graph, steps);
-    drop(graph);
+fn preferring(rt: &impl Abort, machines: &[&[u8]]) -> Preferred {
+    let mut preferred = Preferred::new();
+    for bytes in machines {
+        check(rt, preferred.len() < 4, "four machines at most");
+        preferred.add(name(rt, bytes));
+    }
+    preferred
 }
 
-// 7 nodes of 9, and 13 arcs of 24.
-static TWO_WAIT: [Step; 9] = [
-    Count(Room(2, 11)),
-    See(TwoSlots(0)),
-    See(TwoSlots(1)),
-    See(Apart(0, 1)),
-    SeeTask(0, Waits(0, 10)),
-    SeeTask(1, Waits(0, 10)),
-    See(OneJob(&[0, 1])),
-    SeeTask(0, Exit(9)),
-    See(TwoSources),
-];
-
-#[test]
-fn the_network_of_two_waiting_tasks(rt: HostRuntime) {
-    play_worked(&rt, rt.alloc(), &TWO_WAIT);
-}
-
-static TWO_RUN: [Step; 9] = [
-    Settle(&[On(0), On(1)]),
-    Add(Task(b"j", b"c", &[])),
-    Count(Room(1, 8)),
-    See(TwoSlots(0)),
-    See(TwoSlots(1)),
-    SeeTask(0, Runs(0, 2, 12)),
-    SeeTask(1, Runs(1, 2, 12)),
-    SeeTask(2, Waits(0, 10)),
-    See(OneJob(&[0, 1, 2])),
-];
-
-#[test]
-fn the_network_of_two_running_tasks_and_a_waiting_one(rt: HostRuntime) {
-    play_worked(&rt, rt.alloc(), &TWO_RUN);
-}
-
-static ONE_IS_THROWN_OUT: [Step; 7] = [
-    Settle(&[On(1), On(0)]),
-    Go(Drain(b"m1", 1)),
-    Count(Room(3, 14)),
-    See(TwoSlots(0)),
-    SeeTask(0, Runs(0, 2, 12)),
-    SeeTask(1, Waits(0, 10)),
-    See(OneJob(&[0, 1])),
-];
-
-#[test]
-fn tasks_of_a_drained_machine_wait(rt: HostRuntime) {
-    play_worked(&rt, rt.alloc(), &ONE_IS_THROWN_OUT);
-}
-
-static TWO_ROUNDS: [Step; 6] = [
-    Settle(&[Wait, Wait]),
-    Settle(&[Wait, On(0)]),
-    See(TwoSlots(0)),
-    SeeTask(0, Waits(0, 12)),
-    SeeTask(1, Runs(0, 2, 12)),
-    See(OneJob(&[0, 1])),
-];
-
-#[test]
-fn a_wait_costs_more_after_each_round(rt: HostRuntime) {
-    play_worked(&rt, rt.alloc(), &TWO_ROUNDS);
-}
-
-static PREFERRING_TWO: [Step; 11] = [
-    Add(Task(b"j", b"c", &[b"m2", b"m1", b"m2"])),
-    Count(Room(1, 6)),
-    See(TwoSlots(0)),
-    See(TwoSlots(1)),
-    SeeTask(2, Waits(7, 10)),
-    SeeTask(2, Prefers(&[1, 0], 0)),
-    Settle(&[Wait, Wait, On(1)]),
-    SeeTask(2, Runs(1, 9, 12)),
-    SeeTask(2, Prefers(&[1, 0], 2)),
-    Go(Done(b"c")),
-    Count(Room(2, 11)),
-];
-
-#[test]
-fn arcs_to_preferred_machines_follow_their_task(rt: HostRuntime) {
-    play_worked(&rt, rt.alloc(), &PREFERRING_TWO);
-}
-
-// A machine that is added under the name later is preferred by none.
-static PREFERRING_A_DRAINED_ONE: [Step; 10] = [
-    Add(Task(b"j", b"c", &[b"m2"])),
-    Add(Task(b"j", b"d", &[b"m1", b"m2"])),
-    Settle(&[Wait, Wait, On(0), On(1)]),
-    Go(Drain(b"m2", 1)),
-    Add(Machine(b"m2", 2)),
-    See(TwoSlots(0)),
-    SeeTask(2, Runs(0, 2, 12)),
-    SeeTask(2, Prefers(&[], 2)),
-    SeeTask(3, Waits(7, 10)),
-    SeeTask(3, Prefers(&[0], 0)),
-];
-
-#[test]
-fn no_task_prefers_a_drained_machine(rt: HostRuntime) {
-    play_worked(&rt, rt.alloc(), &PREFERRING_A_DRAINED_ONE);
-}
-
-static PREFERRING_THREE: [Step; 7] = [
-    Add(Machine(b"m3", 1)),
-    Add(Task(b"j", b"c", &[b"m3", b"m1", b"m2"])),
-    Go(DrainBefore(b"m1", 2, 1)),
-    See(TwoSlots(0)),
-    SeeTask(2, Prefers(&[1, 0], 0)),
-    Go(DrainBefore(b"m3", 0, 0)),
-    SeeTask(2, Prefers(&[0], 0)),
-];
-
-#[test]
-fn preferences_keep_their_order_where_one_goes(rt: HostRuntime) {
-    play_worked(&rt, rt.alloc(), &PREFERRING_THREE);
-}
-
-static SIX_ARCS: [Step; 5] = [
-    Add(Machine(b"m1", 1)),
-    Add(Job(b"j")),
-    Refuse(Task(b"j", b"x", &[b"m1"]), GraphRefusal::Arcs),
-    Add(Task(b"j", b"x", &[])),
-    Count(Room(4, 0)),
-];
-
-#[test]
-fn an_arc_is_asked_for_each_preference(rt: HostRuntime) {
-    play(&rt, rt.alloc(), 9, 6, &SIX_ARCS);
-}
-
-static ALL_GO: [Step; 10] = [
-    Go(Done(b"a")),
-    SeeTask(0, Waits(0, 10)),
-    Go(Done(b"b")),
-    Go(Close(b"j")),
-    Go(Drain(b"m1", 0)),
-    See(TwoSlots(0)),
-    Go(Drain(b"m2", 0)),
-    Count(Nothing),
-    Count(Room(7, 24)),
-    Count(Asked(5)),
-];
-
-#[test]
-fn what_comes_may_go(rt: HostRuntime) {
-    play_worked(&rt, rt.alloc(), &ALL_GO);
-}
-
-// At last neither nodes nor arcs are left.
-static FOUR_NODES_AND_THREE_ARCS: [Step; 8] = [
-    Add(Job(b"j")),
-    Refuse(Machine(b"m", 2), GraphRefusal::Arcs),
-    Refuse(Task(b"j", b"a", &[]), GraphRefusal::Arcs),
-    Add(Machine(b"m", 1)),
-    Count(Room(0, 0)),
-    Refuse(Machine(b"more", 1), GraphRefusal::Nodes),
-    Refuse(Job(b"more"), GraphRefusal::Nodes),
-    Refuse(Task(b"j", b"more", &[]), GraphRefusal::Nodes),
-];
-
-#[test]
-fn nodes_are_refused_before_arcs(rt: HostRuntime) {
-    play(&rt, rt.alloc(), 4, 3, &FOUR_NODES_AND_THREE_ARCS);
-}
-
-static ONE_ARC: [Step; 4] = [
-    Add(Job(b"j")),
-    Refuse(Machine(b"more", 64), GraphRefusal::Arcs),
-    Refuse(Job(b"more"), GraphRefusal::Arcs),
-    Refuse(Task(b"j", b"more", &[]), GraphRefusal::Arcs),
-];
-
-#[test]
-fn arcs_are_refused_where_nodes_are_left(rt: HostRuntime) {
-    play(&rt, rt.alloc(), 9, 1, &ONE_ARC);
-}
-
-// A least flow sends one task to each machine.
-static HELD: [Step; 11] = [
-    Prepare,
-    Least(0),
-    Count(Flow(0, 1)),
-    Count(Flow(1, 1)),
-    Through(0, Hold(2), false),
-    Through(0, Hold(1), true),
-    Through(0, Push(Way::Backward), false),
-    Through(0, Push(Way::Forward), true),
-    Through(0, Push(Way::Forward), false),
-    Through(0, Push(Way::Backward), true),
-    Count(Flow(0, 1)),
-];
-
-#[test]
-fn a_least_flow_is_held_and_moved(rt: HostRuntime) {
-    play_worked(&rt, rt.alloc(), &HELD);
-}
-
-static TWO_PREFER_ONE: [Step; 8] = [
-    Add(Machine(b"m1", 1)),
-    Add(Machine(b"m2", 1)),
-    Add(Job(b"j")),
-    Add(Task(b"j", b"x", &[b"m2"])),
-    Add(Task(b"j", b"y", &[b"m2"])),
-    Least(7),
-    Count(Flow(0, 1)),
-    Count(Flow(1, 0)),
-];
-
-#[test]
-fn the_way_by_the_hub_costs_remote(rt: HostRuntime) {
-    play(&rt, rt.alloc(), 9, 30, &TWO_PREFER_ONE);
-}
-
-// What is held is no longer once the graph is prepared anew.
-static PREPARED_ANEW: [Step; 10] = [
-    Prepare,
-    Least(0),
-    Count(Flow(0, 1)),
-    Count(Flow(1, 1)),
-    Through(0, Hold(1), true),
-    Prepare,
-    See(TwoSlots(0)),
-    Through(0, Hold(1), false),
-    Through(0, Push(Way::Backward), false),
-    Go(DrainFirst(b"m1")),
-];
-
-#[test]
-fn nothing_flows_once_prepared(rt: HostRuntime) {
-    play_worked(&rt, rt.alloc(), &PREPARED_ANEW);
-}
-
-/// Steps of that tenant's graph, and those of the graph of its rows then.
-type InTwo = (&'static [Step], &'static [Step]);
-
-// The graph of a graph's rows shows the same, and takes steps of its own.
-fn play_in_two(rt: &impl Abort, alloc: Global, (steps, others): &InTwo) {
-    let mut graph = opened(rt, alloc, 9, 24);
-    take_all(rt, alloc, &mut graph, &WORKED);
-    take_all(rt, alloc, &mut graph, steps);
-    let again = Graph::of_rows(alloc, graph.rows());
-    let mut again = again.expect(rt, "memory");
-    expect_alike(rt, alloc, &again, &graph);
-    take_all(rt, alloc, &mut again, others);
-    drop(again);
-    drop(graph);
-}
-
-fn play_tables(rt: &impl Abort, alloc: Global, tables: &[InTwo]) {
-    for table in tables {
-        play_in_two(rt, alloc, table);
+// The number of a node: the sink is 0, the hub 1, and the others stand at the places of their numbers.
+fn number_of(graph: &Graph, node: NodeId) -> Option<u32> {
+    if node == graph.sink() {
+        Some(0)
+    } else if node == graph.hub() {
+        Some(1)
+    } else {
+        graph.net().place(node)
     }
 }
 
-static IN_TWO: [InTwo; 6] = [
-    (
-        &[Settle(&[On(0), On(1)]), Add(Task(b"j", b"c", &[]))],
+fn expect_network(rt: &impl Abort, graph: &Graph, links: &[Link]) {
+    let mut place = 0_u32;
+    for (tail, head, numbers) in links {
+        let (_, row) = graph.net().arc_at(place).expect(rt, "the arc is there");
+        let ends = (number_of(graph, row.tail()), number_of(graph, row.head()));
+        expect(rt, ends, (Some(*tail), Some(*head)));
+        expect(rt, [row.low(), row.cap(), row.cost()] == *numbers, true);
+        place = place.wrapping_add(1);
+    }
+    expect(rt, graph.net().used(), place);
+}
+
+fn expect_cost(rt: &impl Abort, rows: &Rows, placement: &[Choice], cost: i64) {
+    check(rt, legal(rows, placement), "a legal placement");
+    expect(rt, cost_of(rows, placement), cost);
+}
+
+fn expect_order(rt: &impl Abort, rows: &Rows, one: &[Choice], other: &[Choice], before: bool) {
+    check(rt, legal(rows, one), "a legal placement");
+    check(rt, legal(rows, other), "another one");
+    expect(rt, ranks_before(rows, one, other), before);
+}
+
+// Of this one and those listed it comes before just those from this place on.
+fn expect_rank(
+    rt: &impl Abort,
+    rows: &Rows,
+    placement: &[Choice],
+    place: usize,
+    wanted: &[Priced],
+) {
+    for (other_place, (other, _)) in wanted.iter().enumerate() {
+        expect_order(rt, rows, placement, other, place < other_place);
+    }
+}
+
+fn expect_placements(rt: &impl Abort, rows: &Rows, wanted: &[Priced]) {
+    for (place, (placement, cost)) in wanted.iter().enumerate() {
+        expect_cost(rt, rows, placement, *cost);
+        expect_rank(rt, rows, placement, place, wanted);
+    }
+}
+
+fn expect_one_each(rt: &impl Abort, case: &Case, rents: &Rents)
+    ensures { length rents.now ≡ length case.now.slots }
+{
+    let machines = case.machine_count();
+    check(rt, rents.as_slice().len() == machines, "a rent of each");
+}
+
+fn expect_slot(
+    rt: &impl Abort,
+    case: &Case,
+    (low, high): (&Rents, &Rents),
+    place: usize,
+    wanted: (u64, u64),
+) {
+    check(rt, place < case.machine_count(), "a machine");
+    expect_one_each(rt, case, low);
+    expect_one_each(rt, case, high);
+    let saved = saved_by_slot(case, low, place);
+    expect(rt, (saved, lost_by_slot(case, high, place)), wanted);
+}
+
+fn expect_slots(
+    rt: &impl Abort,
+    alloc: Global,
+    case: &Case,
+    placement: &[Choice],
+    wanted: &[(u64, u64)],
+) {
+    check(rt, case.is_legal(placement), "a legal placement");
+    let low = low_rents(alloc, case, placement).expect(rt, "memory");
+    let high = high_rents(alloc, case, placement).expect(rt, "memory");
+    for (place, slot) in wanted.iter().enumerate() {
+        expect_slot(rt, case, (&low, &high), place, *slot);
+    }
+}
+
+fn take(rt: &impl Abort, alloc: Global, graph: &mut Graph, step: &Step) {
+    match step {
+        Machine(bytes, slots) => add_machine(rt, alloc, graph, name(rt, bytes), *slots),
+        Job(bytes, weight) => add_job(rt, graph, name(rt, bytes), *weight),
+        Task(job, bytes, machines) => {
+            let preferred = preferring(rt, machines);
+            add_task(rt, graph, name(rt, job), name(rt, bytes), preferred);
+        }
+        Settle(placement) => settle(rt, graph, placement),
+        Network(links) => expect_network(rt, graph, links),
+        Costs(wanted) => expect_placements(rt, graph.rows(), wanted),
+        NotLegal(placement) => expect(rt, legal(graph.rows(), placement), false),
+        Slots(placement, wanted) => {
+            expect_slots(rt, alloc, graph.rows().case(), placement, wanted);
+        }
+    }
+}
+
+fn take_all(rt: &impl Abort, alloc: Global, graph: &mut Graph, steps: &[Step]) {
+    for step in steps {
+        take(rt, alloc, graph, step);
+    }
+}
+
+/// A tenant's nodes, arcs, spread, churn, remote and patience, and what is done with its rows.
+type Worked = ([u64; 6], &'static [Step]);
+
+fn play(rt: &impl Abort, alloc: Global, (numbers, steps): &Worked) {
+    let [nodes, arcs, spread, churn, remote, patience] = *numbers;
+    let limits = Limits::check(nodes, arcs, 100, spread, churn, remote);
+    let limits = limits.expect(rt, "limits").with_patience(patience);
+    let mut graph = opened(rt, alloc, limits.expect(rt, "a patience"));
+    take_all(rt, alloc, &mut graph, steps);
+}
+
+const LONGEST: u64 = 1_000_000;
+
+static PLAYED: [&Worked; 11] = [
+    // Two machines of two slots, a job of weight 10, and tasks of it.
+    &(
+        [9, 24, 1, 2, 7, LONGEST],
         &[
-            Count(Asked(6)),
-            See(TwoSlots(1)),
-            SeeTask(0, Runs(0, 2, 12)),
-            SeeTask(1, Runs(1, 2, 12)),
-            SeeTask(2, Waits(0, 10)),
-            See(OneJob(&[0, 1, 2])),
-            SeeTask(0, Exit(9)),
+            Machine(b"m1", 2),
+            Machine(b"m2", 2),
+            Job(b"j", 10),
+            Task(b"j", b"a", &[]),
+            Task(b"j", b"b", &[]),
+            Network(&TWO_WAITING_TASKS),
+            Settle(&[On(0), On(1)]),
+            Task(b"j", b"c", &[]),
+            Network(&TWO_RUNNING_TASKS),
         ],
     ),
-    (
-        &[Settle(&[Wait, Wait]), Settle(&[Wait, On(0)])],
+    // A task that prefers both machines, waits once and then runs on one.
+    &(
+        [9, 24, 1, 2, 7, LONGEST],
         &[
-            Count(Asked(5)),
-            SeeTask(0, Waits(0, 12)),
-            SeeTask(1, Runs(0, 2, 12)),
+            Machine(b"m1", 2),
+            Machine(b"m2", 1),
+            Job(b"j", 10),
+            Task(b"j", b"c", &[b"m2", b"m1", b"m2"]),
+            Network(&[
+                (1, 2, [0, 2, 0]),
+                (2, 0, [0, 1, 0]),
+                (2, 0, [0, 1, 1]),
+                (1, 3, [0, 1, 0]),
+                (3, 0, [0, 1, 0]),
+                (4, 0, [0, 9, 0]),
+                (5, 3, [0, 1, 0]),
+                (5, 2, [0, 1, 0]),
+                (5, 4, [0, 1, 10]),
+                (5, 1, [0, 0, 0]),
+                (5, 1, [0, 1, 7]),
+            ]),
+            Settle(&[Wait]),
+            Settle(&[On(1)]),
+            Network(&[
+                (1, 2, [0, 2, 0]),
+                (2, 0, [0, 1, 0]),
+                (2, 0, [0, 1, 1]),
+                (1, 3, [0, 1, 0]),
+                (3, 0, [0, 1, 0]),
+                (4, 0, [0, 9, 0]),
+                (5, 3, [0, 1, 2]),
+                (5, 2, [0, 1, 2]),
+                (5, 4, [0, 1, 12]),
+                (5, 3, [0, 1, 0]),
+                (5, 1, [0, 1, 9]),
+            ]),
         ],
     ),
-    // A machine has left, and another came under its name.
-    (
+    // The round by hand of docs/PLACEMENT.md.
+    &(
+        [9, 24, 3, 2, 0, LONGEST],
         &[
-            Add(Task(b"j", b"c", &[b"m2", b"m1"])),
-            Settle(&[Wait, Wait, On(1)]),
-            Go(Drain(b"m2", 1)),
-            Add(Machine(b"m2", 2)),
-            Go(Done(b"a")),
-            Count(Asked(7)),
-        ],
-        &[
-            Count(Asked(5)),
-            SeeTask(1, Prefers(&[0], 0)),
-            SeeTask(1, Waits(7, 10)),
-        ],
-    ),
-    // What flowed does so no longer, and a least flow costs what it did.
-    (
-        &[Settle(&[Wait, On(0)]), Least(0), Count(Flow(1, 1))],
-        &[
-            Count(Flow(1, 0)),
-            Through(1, Hold(1), false),
-            Least(0),
-            Through(1, Hold(1), true),
-            Through(1, Push(Way::Backward), false),
-        ],
-    ),
-    (
-        &[Settle(&[On(0), Wait])],
-        &[
-            Add(Task(b"j", b"c", &[b"m2"])),
-            SeeTask(2, Prefers(&[1], 0)),
-            Go(Drain(b"m1", 1)),
-            Go(Done(b"a")),
-            Count(Asked(6)),
-            Count(Room(3, 13)),
+            Machine(b"m2", 2),
+            Job(b"web", 10),
+            Task(b"web", b"web-1", &[]),
+            Task(b"web", b"web-3", &[]),
+            Settle(&[On(0), On(0)]),
+            Machine(b"m1", 2),
+            Costs(&[
+                (&[On(0), On(0)], 3),
+                (&[On(0), On(1)], 2),
+                (&[On(0), Wait], 12),
+                (&[On(1), On(0)], 2),
+                (&[On(1), On(1)], 7),
+                (&[On(1), Wait], 14),
+                (&[Wait, On(0)], 12),
+                (&[Wait, On(1)], 14),
+                (&[Wait, Wait], 24),
+            ]),
+            NotLegal(&[]),
+            NotLegal(&[On(0)]),
+            NotLegal(&[On(0), On(1), Wait]),
+            NotLegal(&[On(0), On(2)]),
+            NotLegal(&[On(u32::MAX), Wait]),
         ],
     ),
-    (
+    // Its other tenant: a task that waits for more preempts.
+    &(
+        [9, 24, 0, 3, 0, LONGEST],
         &[
-            Go(Done(b"a")),
-            Go(Done(b"b")),
-            Go(Close(b"j")),
-            Go(Drain(b"m1", 0)),
-            Go(Drain(b"m2", 0)),
+            Machine(b"m1", 1),
+            Job(b"low", 2),
+            Task(b"low", b"l", &[]),
+            Settle(&[On(0)]),
+            Job(b"high", 20),
+            Task(b"high", b"h", &[]),
+            Costs(&[
+                (&[On(0), Wait], 20),
+                (&[Wait, On(0)], 5),
+                (&[Wait, Wait], 25),
+            ]),
+            NotLegal(&[On(0), On(0)]),
         ],
-        &[Count(Nothing), Count(Asked(0)), Add(Job(b"j"))],
+    ),
+    // Its tie, and preferences; then both run, and staying is free.
+    &(
+        [9, 24, 0, 3, 7, LONGEST],
+        &[
+            Machine(b"m1", 1),
+            Machine(b"m2", 1),
+            Job(b"j", 20),
+            Task(b"j", b"x", &[b"m2"]),
+            Task(b"j", b"y", &[b"m2"]),
+            Costs(&[
+                (&[On(0), On(1)], 7),
+                (&[On(0), Wait], 27),
+                (&[On(1), On(0)], 7),
+                (&[On(1), Wait], 20),
+                (&[Wait, On(0)], 27),
+                (&[Wait, On(1)], 20),
+                (&[Wait, Wait], 40),
+            ]),
+            Settle(&[On(0), On(1)]),
+            Costs(&[
+                (&[On(0), On(1)], 0),
+                (&[On(0), Wait], 23),
+                (&[On(1), On(0)], 13),
+                (&[On(1), Wait], 26),
+                (&[Wait, On(1)], 23),
+                (&[Wait, On(0)], 33),
+                (&[Wait, Wait], 46),
+            ]),
+        ],
+    ),
+    // Two equal tasks, of which one runs. The other waits longer than the patience, as long, and without one.
+    &(
+        [9, 24, 0, 2, 0, 2],
+        &[
+            Machine(b"m1", 1),
+            Job(b"j", 1),
+            Task(b"j", b"x", &[]),
+            Task(b"j", b"y", &[]),
+            Settle(&[On(0), Wait]),
+            Settle(&[On(0), Wait]),
+            Settle(&[On(0), Wait]),
+            Costs(&[(&[On(0), Wait], 3), (&[Wait, On(0)], 3), (&[Wait, Wait], 6)]),
+        ],
+    ),
+    &(
+        [9, 24, 0, 2, 0, 3],
+        &[
+            Machine(b"m1", 1),
+            Job(b"j", 1),
+            Task(b"j", b"x", &[]),
+            Task(b"j", b"y", &[]),
+            Settle(&[On(0), Wait]),
+            Settle(&[On(0), Wait]),
+            Settle(&[On(0), Wait]),
+            Costs(&[(&[On(0), Wait], 4), (&[Wait, On(0)], 3), (&[Wait, Wait], 7)]),
+        ],
+    ),
+    &(
+        [9, 24, 0, 0, 0, 0],
+        &[
+            Machine(b"m1", 1),
+            Job(b"j", 1),
+            Task(b"j", b"x", &[]),
+            Task(b"j", b"y", &[]),
+            Settle(&[On(0), Wait]),
+            Settle(&[On(0), Wait]),
+            Costs(&[(&[On(0), Wait], 1), (&[Wait, On(0)], 1), (&[Wait, Wait], 2)]),
+        ],
+    ),
+    // Waits that grow to the cost of a load.
+    &(
+        [9, 24, 10, 20, 0, LONGEST],
+        &[
+            Machine(b"m1", 2),
+            Job(b"j", 1),
+            Task(b"j", b"x", &[]),
+            Task(b"j", b"y", &[]),
+            Costs(&[
+                (&[On(0), On(0)], 10),
+                (&[On(0), Wait], 1),
+                (&[Wait, On(0)], 1),
+                (&[Wait, Wait], 2),
+            ]),
+            Settle(&[On(0), Wait]),
+            Settle(&[On(0), Wait]),
+            Settle(&[On(0), Wait]),
+            Settle(&[On(0), Wait]),
+            Settle(&[On(0), Wait]),
+            Settle(&[On(0), Wait]),
+            Settle(&[On(0), Wait]),
+            Settle(&[On(0), Wait]),
+            Settle(&[On(0), Wait]),
+            Costs(&[
+                (&[On(0), On(0)], 10),
+                (&[On(0), Wait], 10),
+                (&[Wait, On(0)], 21),
+                (&[Wait, Wait], 31),
+            ]),
+        ],
+    ),
+    // Without churn a move costs nothing, and the own machine ranks first.
+    &(
+        [9, 24, 10, 0, 0, LONGEST],
+        &[
+            Machine(b"m1", 2),
+            Machine(b"m2", 2),
+            Job(b"j", 50),
+            Task(b"j", b"p", &[]),
+            Task(b"j", b"q", &[]),
+            Settle(&[On(1), On(0)]),
+            Costs(&[
+                (&[On(1), On(0)], 0),
+                (&[On(1), On(1)], 10),
+                (&[On(0), On(0)], 10),
+                (&[On(0), On(1)], 0),
+            ]),
+        ],
+    ),
+    // The round by hand of docs/EXPLAIN.md: rents are 9 to 12, and a further task on a machine costs 3.
+    &(
+        [60, 400, 3, 5, 0, LONGEST],
+        &[
+            Machine(b"m1", 2),
+            Machine(b"m2", 1),
+            Job(b"web", 12),
+            Job(b"batch", 4),
+            Task(b"web", b"w1", &[]),
+            Task(b"batch", b"b1", &[]),
+            Task(b"batch", b"b2", &[]),
+            Settle(&[On(0), On(0), On(1)]),
+            Task(b"web", b"w2", &[]),
+            Task(b"web", b"w3", &[]),
+            NotLegal(&[On(0), On(0), On(0), Wait, Wait]),
+            Costs(&[
+                (&[On(0), On(0), On(1), Wait, Wait], 27),
+                (&[On(0), Wait, Wait, On(0), On(1)], 21),
+                (&[On(0), Wait, Wait, On(1), On(0)], 21),
+            ]),
+            Slots(&[On(0), Wait, Wait, On(0), On(1)], &[(3, 9), (6, 12)]),
+        ],
     ),
 ];
 
+fn play_all(rt: &impl Abort, alloc: Global, tables: &[&Worked]) {
+    for worked in tables {
+        play(rt, alloc, worked);
+    }
+}
+
 #[test]
-fn the_graph_of_rows_is_that_of_their_commands(rt: HostRuntime) {
-    play_tables(&rt, rt.alloc(), &IN_TWO);
+fn worked_tenants(rt: HostRuntime) {
+    play_all(&rt, rt.alloc(), &PLAYED);
 }

@@ -23,4 +23,10 @@ impl Random {
             .wrapping_add(1_442_695_040_888_963_407);
         (self.state >> 33) as u32 % bound
     }
+    /// A number from 1 to the last.
+    pub fn one_to(&mut self, last: u32) -> u64
+        requires { 0 < last }
+    {
+        u64::from(self.below(last)) + 1
+    }
 }

@@ -1,7 +1,7 @@
 use Rattle.std.proofs.Common.{◌≡◌, ◌<◌, ℕ, get_or}
 use Rattle.firm_net.specs.Net.{IsNode}
 use Rattle.firm_net.specs.declared.row.NodeId.{NodeId}
-use Rattle.test_solver.proofs.tests.flow.are_distinct.Given as goal
+use Rattle.test_solver.proofs.tests.nets.are_distinct.Given as goal
 
 abbrev pub invariant-loop-i : goal.invariant-loop-i
 invariant-loop-i l = record {
