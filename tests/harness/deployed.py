@@ -25,8 +25,7 @@ from firm_service.follower import Follower
 from firm_service.kept import found_now, kept_lines
 from firm_service.lines import gets_reply
 from firm_service.observers import Status
-from firm_service.queue import async_client, backlog, client, columns, forms, reports, rows, shares, states
-from firm_service.queue import submitting
+from firm_service.queue import async_client, backlog, client, columns, forms, reports, rows, shares, states, submitting
 from firm_service.queue.fields import Refused as QueueRefused
 from firm_service.queue.firm import Doors, Firm
 from firm_service.refused import Refused
