@@ -4,10 +4,10 @@
 usage: tests/gate [--all] [--anew] [--record]
 It works on a copy of the files that git tracks, and of new ones that it does not ignore, so it needs nothing that an
 earlier run left. Its parts: `rt ci`, which proves every crate and its tests and builds and runs every program;
-tests/edits, on the crates that have changed and a quarter of the others, with --all on all of them; tests/quick. What
-an earlier run proved on this machine, the same files over the same libraries, `rt ci` keeps beside the kit and takes as
-proved, but not with --anew. The edits of must-fail/ are set aside for `rt ci`, which would try them one by one:
-tests/edits tries them with the others, many in one check.
+tests/edits, on the crates that have changed and a quarter of the others, with --all on all of them; tests/quick. Some
+kits keep what `rt ci` has proved on a machine, and take the same files over the same libraries as proved: with --anew
+they prove these again; other kits prove all each time. The edits of must-fail/ are set aside for `rt ci`, which would
+try them one by one: tests/edits tries them with the others, many in one check.
 
 At its start it says how long that takes by the processors here and the minutes in docs/results/gate.csv, and behind
 each crate how far it is. --record keeps the record of tests/edits. The last line is 'N passed, M failed' over all
@@ -32,7 +32,7 @@ from typing import Callable, NamedTuple
 from harness.checks import CannotRun, run_script
 from harness.files import commit_here, tracked_files
 from harness.program import ROOT
-from harness.proving import free_bytes
+from harness.proving import crates_of_repository, free_bytes
 
 MINUTES = ROOT / "docs" / "results" / "gate.csv"
 EARLY = 0.3  # of the proofs: until then the table alone says how long they take
@@ -43,6 +43,7 @@ COUNT = re.compile(r"^(\d+) passed, (\d+) failed$")
 PROVED = re.compile(r"^rt: (\w+)(: its tests are)? proved$")
 MUST_FAIL = "must-fail"
 RECORD = "tests/edits.tried"
+ANEW = "--anew"  # the word of `rt ci` for it, in the kits that keep proofs
 
 
 class Count(NamedTuple):
@@ -72,6 +73,17 @@ def lanes() -> int:
     return max(1, min(len(os.sched_getaffinity(0)), int(MEMORY_PART * free_bytes()) // CHECK_BYTES))
 
 
+def proof_minutes(minutes: dict[str, Minutes]) -> float:
+    """How long the proofs and tests take by the clock, no less than the longest chain of crates, each upon the last."""
+    ends: dict[str, float] = {}
+    chain = 0.0
+    for crate in crates_of_repository().values():
+        own = minutes.get(crate.name, Minutes(OTHER_MINUTES, OTHER_MINUTES, 0))
+        ends[crate.name] = own.proof + max((ends[below.name] for below in crate.below), default=0.0)
+        chain = max(chain, ends[crate.name], ends[crate.name] - own.proof + own.tests)
+    return max(chain, sum(crate.proof + crate.tests for crate in minutes.values()) / lanes())
+
+
 def say(text: str) -> None:
     print(f"gate: {text}", flush=True)
 
@@ -80,7 +92,7 @@ class Progress:
     """How far `rt ci` is, by what it has proved and how long that took where it was measured."""
 
     def __init__(self, minutes: dict[str, Minutes]) -> None:
-        self.minutes, self.began, self.lanes = minutes, time.monotonic(), lanes()
+        self.minutes, self.began, self.whole = minutes, time.monotonic(), proof_minutes(minutes)
         self.all = sum(crate.proof + crate.tests for crate in minutes.values())
         self.done = 0.0
 
@@ -95,7 +107,7 @@ class Progress:
         passed = (time.monotonic() - self.began) / 60
         # The lowest crates are proved one after another, so that what they took tells little of the others.
         is_early = self.done < EARLY * self.all
-        whole = self.all / self.lanes if is_early else passed * self.all / self.done
+        whole = self.whole if is_early else passed * self.all / self.done
         left = max(whole - passed, 0)
         what = f"{name}'s tests are" if are_tests else f"{name} is"
         say(f"{what} proved after {passed:.0f} min; {self.done / self.all:.0%} of the proofs, some {left:.0f} min left")
@@ -124,6 +136,12 @@ def run_part(words: list[str], folder: Path, note: Callable[[str], None] = lambd
     return Count(int(count[1]), int(count[2]))
 
 
+def keeps_proofs() -> bool:
+    """Whether the kit's `rt ci` takes what an earlier run proved as proved, unless it is told not to."""
+    done = subprocess.run(["rt", "help"], stdin=subprocess.DEVNULL, stdout=subprocess.PIPE, stderr=subprocess.STDOUT)
+    return ANEW.encode() in done.stdout
+
+
 def prove(copy: Path, minutes: dict[str, Minutes], is_anew: bool) -> Count:
     """Runs `rt ci`, without the edits."""
     aside = copy.parent / "aside"
@@ -132,7 +150,7 @@ def prove(copy: Path, minutes: dict[str, Minutes], is_anew: bool) -> Count:
         (aside / folder.parent.name).mkdir(parents=True)
         folder.rename(aside / folder.parent.name / MUST_FAIL)
     try:
-        words = ["rt", "ci", *(["--anew"] if is_anew else [])]
+        words = ["rt", "ci", *([ANEW] if is_anew and keeps_proofs() else [])]
         os.environ.setdefault("RT_JOBS", str(lanes()))
         return run_part(words, copy, Progress(minutes).note)
     finally:
@@ -143,16 +161,16 @@ def prove(copy: Path, minutes: dict[str, Minutes], is_anew: bool) -> Count:
 def say_plan(minutes: dict[str, Minutes]) -> None:
     """Says how long the gate takes here, as far as the table tells."""
     processors = len(os.sched_getaffinity(0))
-    proofs = sum(crate.proof + crate.tests for crate in minutes.values()) / lanes()
+    proofs = proof_minutes(minutes)
     edits = sum(crate.edits for crate in minutes.values()) / processors
-    say(f"on {processors} processors proofs and tests take some {proofs:.0f} minutes, on a slow host twice as long")
-    say(f"behind them come the edits, {edits:.0f} minutes if all are tried, and the program from outside, 5 minutes")
+    say(f"on {processors} processors proofs and tests take some {proofs:.0f} minutes, elsewhere half or twice that")
+    say(f"behind them come the edits, {edits:.0f} minutes if all are tried, and the program from outside, ten minutes")
 
 
 def main() -> int:
     parser = argparse.ArgumentParser(description=(__doc__ or "").splitlines()[0])
     parser.add_argument("--all", action="store_true", help="try the edits of all crates")
-    parser.add_argument("--anew", action="store_true", help="prove again what an earlier run proved")
+    parser.add_argument(ANEW, action="store_true", help="prove again what an earlier run proved")
     parser.add_argument("--record", action="store_true", help="write down which crates' edits were all refused")
     options = parser.parse_args()
     if shutil.which("rt") is None:
