@@ -1,6 +1,7 @@
 //! The classes of places by which prices differ behind their amounts.
 ghost use Rattle.std.specs.Prelude.{◌≡◌, ◌+◌, length, IfOk};
 
+use crate::memory::Memory;
 use crate::numbers::{Numbers, Stack};
 use crate::table::Table;
 use firm_rents::Class;
@@ -24,19 +25,23 @@ pub(crate) struct Classes {
 }
 
 impl Classes {
-    /// Room for this many tasks and machines together.
-    pub(crate) fn new(alloc: Global, nodes: usize) -> Result<Classes, AllocError> {
+    /// No classes, and no room for any.
+    pub(crate) fn empty(alloc: Global) -> Classes {
+        Classes {
+            of: Numbers::empty(alloc),
+            parents: Stack::empty(alloc),
+            times: Stack::empty(alloc),
+            numbers: Stack::empty(alloc),
+        }
+    }
+
+    /// Takes room for this many tasks and machines together.
+    pub(crate) fn take_room(&mut self, memory: &mut Memory, nodes: usize) {
         let most = most_classes(nodes);
-        let of = Numbers::new(alloc, nodes)?;
-        let parents = Stack::new(alloc, most)?;
-        let times = Stack::new(alloc, most)?;
-        let numbers = Stack::new(alloc, most)?;
-        Ok(Classes {
-            of,
-            parents,
-            times,
-            numbers,
-        })
+        self.of.take_room(memory, nodes);
+        self.parents.take_room(memory, most);
+        self.times.take_room(memory, most);
+        self.numbers.take_room(memory, most);
     }
 
     /// All places are of one class.

@@ -1,8 +1,9 @@
 //! A placement while it is made: the way that each task takes, what stands on each machine, and the places' prices.
 
+use crate::memory::Memory;
 use crate::numbers::{NONE, Numbers};
 use crate::table::{Span, Table, TaskRow, Way};
-use std::alloc::{AllocError, Global};
+use std::alloc::Global;
 use std::mem;
 
 /// A price that no task pays: that of a full machine until a task on it had rather go.
@@ -69,38 +70,46 @@ pub(crate) struct Aside {
 }
 
 impl Aside {
-    /// Room for this many tasks and machines together.
-    pub(crate) fn new(alloc: Global, nodes: usize) -> Result<Aside, AllocError> {
-        let taken = Numbers::new(alloc, nodes)?;
-        let prices = Numbers::new(alloc, nodes)?;
-        let loads = Numbers::new(alloc, nodes)?;
-        Ok(Aside {
-            taken,
-            prices,
-            loads,
-        })
+    /// Nothing, and no room for any.
+    pub(crate) fn empty(alloc: Global) -> Aside {
+        Aside {
+            taken: Numbers::empty(alloc),
+            prices: Numbers::empty(alloc),
+            loads: Numbers::empty(alloc),
+        }
+    }
+
+    /// Takes room for this many tasks and machines together.
+    pub(crate) fn take_room(&mut self, memory: &mut Memory, nodes: usize) {
+        self.taken.take_room(memory, nodes);
+        self.prices.take_room(memory, nodes);
+        self.loads.take_room(memory, nodes);
     }
 }
 
 impl Draft {
-    /// A draft for this many tasks and machines together.
-    pub(crate) fn new(alloc: Global, nodes: usize) -> Result<Draft, AllocError> {
-        let taken = Numbers::new(alloc, nodes)?;
-        let prices = Numbers::new(alloc, nodes)?;
-        let loads = Numbers::new(alloc, nodes)?;
-        let through = Numbers::new(alloc, nodes)?;
-        let held = Numbers::new(alloc, nodes)?;
-        let first = Numbers::new(alloc, nodes)?;
-        let spots = vec![in alloc; Spot::NONE; nodes]?;
-        Ok(Draft {
-            taken,
-            prices,
-            loads,
-            through,
-            held,
-            first,
-            spots,
-        })
+    /// A draft without tasks and machines, and no room for any.
+    pub(crate) fn empty(alloc: Global) -> Draft {
+        Draft {
+            taken: Numbers::empty(alloc),
+            prices: Numbers::empty(alloc),
+            loads: Numbers::empty(alloc),
+            through: Numbers::empty(alloc),
+            held: Numbers::empty(alloc),
+            first: Numbers::empty(alloc),
+            spots: Vec::new(alloc),
+        }
+    }
+
+    /// Takes room for this many tasks and machines together.
+    pub(crate) fn take_room(&mut self, memory: &mut Memory, nodes: usize) {
+        self.taken.take_room(memory, nodes);
+        self.prices.take_room(memory, nodes);
+        self.loads.take_room(memory, nodes);
+        self.through.take_room(memory, nodes);
+        self.held.take_room(memory, nodes);
+        self.first.take_room(memory, nodes);
+        memory.fill(&mut self.spots, Spot::NONE, nodes);
     }
 
     #[inline(always)]

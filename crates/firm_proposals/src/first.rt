@@ -5,11 +5,12 @@ ghost use Rattle.std.specs.Prelude.{◌≡◌};
 use crate::classes::Classes;
 use crate::draft::{Draft, Step, UNIT};
 use crate::links::Links;
+use crate::memory::Memory;
 use crate::numbers::{NONE, Numbers};
 use crate::sides::{Found, MOST_IN_TURN, Side, View};
 use crate::table::{Span, Table};
 use crate::work::Work;
-use std::alloc::{AllocError, Global};
+use std::alloc::Global;
 
 /// A place from which a unit is to go to another one, and the time of the choice for which it is.
 #[derive(Clone, Copy)]
@@ -34,6 +35,15 @@ enum AtHub {
     No,
 }
 
+/// How a search from both ends came out: they met at a place, or one side saw all that it could.
+#[derive(Clone, Copy)]
+enum Outcome {
+    Met(u32),
+    ClosedAhead,
+    ClosedBehind,
+    Short,
+}
+
 /// What making a least placement the first needs beside the draft.
 #[derive(Drop)]
 pub(crate) struct First {
@@ -51,22 +61,27 @@ pub(crate) struct First {
 }
 
 impl First {
-    pub(crate) fn new(alloc: Global, nodes: usize, ways: usize) -> Result<First, AllocError> {
-        let links = Links::new(alloc, nodes, ways)?;
-        let classes = Classes::new(alloc, nodes)?;
-        let ahead = Side::new(alloc, nodes, true)?;
-        let behind = Side::new(alloc, nodes, false)?;
-        let chosen = Numbers::new(alloc, nodes)?;
-        Ok(First {
-            links,
-            classes,
-            ahead,
-            behind,
-            chosen,
+    /// No tasks and machines, and no room for any.
+    pub(crate) fn empty(alloc: Global) -> First {
+        First {
+            links: Links::empty(alloc),
+            classes: Classes::empty(alloc),
+            ahead: Side::empty(alloc, true),
+            behind: Side::empty(alloc, false),
+            chosen: Numbers::empty(alloc),
             search: 0,
             now: 0,
             alive: 0,
-        })
+        }
+    }
+
+    /// Takes room for this many tasks and machines together, and this many ways.
+    pub(crate) fn take_room(&mut self, memory: &mut Memory, nodes: usize, ways: usize) {
+        self.links.take_room(memory, nodes, ways);
+        self.classes.take_room(memory, nodes);
+        self.ahead.take_room(memory, nodes);
+        self.behind.take_room(memory, nodes);
+        self.chosen.take_room(memory, nodes);
     }
 
     /// The machine or the outside that was chosen for a task.
@@ -82,25 +97,37 @@ impl First {
     pub(crate) fn choose(&mut self, table: &Table, draft: &mut Draft, work: &mut Work) -> bool
         ensures most { work.new.most ≡ work.old.most }
     {
+        self.clear(table);
+        for task in 0..table.tasks() {
+            if !work.look() || !self.choose_for(table, draft, task, work) {
+                return false;
+            }
+        }
+        true
+    }
+
+    // Nothing is chosen.
+    fn clear(&mut self, table: &Table) {
         self.links.clear();
         self.classes.clear(table);
         self.search = 0;
         self.alive = 0;
-        for task in 0..table.tasks() {
-            if !work.look() {
-                return false;
-            }
-            self.now = task;
-            let mut place = self.told_place(table, draft, task);
-            if place == NONE {
-                place = self.place_for(table, draft, task, work);
-            }
-            if place == NONE || work.is_short() {
-                return false;
-            }
-            self.chosen.set(task, place);
-            self.links.leave(draft, task);
+    }
+
+    // Chooses for the task that is next, and says whether it was able to.
+    fn choose_for(&mut self, table: &Table, draft: &mut Draft, task: u32, work: &mut Work) -> bool
+        ensures most { work.new.most ≡ work.old.most }
+    {
+        self.now = task;
+        let mut place = self.told_place(table, draft, task);
+        if place == NONE {
+            place = self.place_for(table, draft, task, work);
         }
+        if place == NONE || work.is_short() {
+            return false;
+        }
+        self.chosen.set(task, place);
+        self.links.leave(draft, task);
         true
     }
 
@@ -301,9 +328,7 @@ impl First {
             return false;
         }
         if !self.links.are_read() {
-            self.links.read(table, draft, self.now);
-            self.ahead.read(table, draft, &self.links);
-            self.behind.read(table, draft, &self.links);
+            self.read(table, draft);
         }
         if self.is_dead_end(table, draft, wish.from) {
             // A search would see no other place.
@@ -314,9 +339,21 @@ impl First {
         if met == NONE {
             return false;
         }
+        self.make(table, draft, met);
+        true
+    }
+
+    // Reads the links of the round.
+    fn read(&mut self, table: &Table, draft: &mut Draft) {
+        self.links.read(table, draft, self.now);
+        self.ahead.read(table, draft, &self.links);
+        self.behind.read(table, draft, &self.links);
+    }
+
+    // Makes the steps of both sides to where they met.
+    fn make(&self, table: &Table, draft: &mut Draft, met: u32) {
         self.ahead.make(table, draft, met);
         self.behind.make(table, draft, met);
-        true
     }
 
     // Whether this is a machine from which nothing leads on: no task, and no unit to the outside or the hub.
@@ -328,11 +365,11 @@ impl First {
             && (draft.price(place) != draft.price(hub) || !draft.is_loose(place))
     }
 
-    // Looks from both ends in turn. Gives the place where they meet; `NONE` if they don't.
+    // Searches from both ends. Gives the place where they meet; `NONE` if they don't.
     fn meet(&mut self, table: &Table, draft: &Draft, wish: Wish, work: &mut Work) -> u32
         ensures most { work.new.most ≡ work.old.most }
     {
-        let mut view = View {
+        let view = View {
             table,
             draft,
             links: &self.links,
@@ -342,32 +379,57 @@ impl First {
             turn: 1,
             now: self.now,
         };
-        self.ahead.begin(&view, wish.from);
-        self.behind.begin(&view, wish.to);
-        // Once more than looks are left, so that a lack of them is told.
-        for _ in 0..work.left().saturating_add(1) {
-            match self.ahead.look(&view, &self.behind, work) {
-                Found::On => {}
-                Found::Met(place) => return place,
-                Found::Closed => {
-                    self.classes.part(self.ahead.seen(), wish.time, true);
-                    return NONE;
-                }
-                Found::Short => return NONE,
-            }
-            match self.behind.look(&view, &self.ahead, work) {
-                Found::On => {}
-                Found::Met(place) => return place,
-                Found::Closed => {
-                    self.classes.part(self.behind.seen(), wish.time, false);
-                    return NONE;
-                }
-                Found::Short => return NONE,
-            }
-            view.turn = view.turn.saturating_mul(2).min(MOST_IN_TURN);
-        }
-        NONE
+        let outcome = look_in_turn(&view, wish, &mut self.ahead, &mut self.behind, work);
+        self.end(outcome, wish.time)
     }
+
+    // Gives the place where a search ended, and parts a class where it did not.
+    fn end(&mut self, outcome: Outcome, time: u32) -> u32 {
+        match outcome {
+            Outcome::Met(place) => place,
+            Outcome::ClosedAhead => {
+                self.classes.part(self.ahead.seen(), time, true);
+                NONE
+            }
+            Outcome::ClosedBehind => {
+                self.classes.part(self.behind.seen(), time, false);
+                NONE
+            }
+            Outcome::Short => NONE,
+        }
+    }
+}
+
+// Begins at both ends, and looks from them in turn, up to where they meet or one has nothing more to look at.
+fn look_in_turn(
+    begun: &View,
+    wish: Wish,
+    ahead: &mut Side,
+    behind: &mut Side,
+    work: &mut Work,
+) -> Outcome
+    ensures most { work.new.most ≡ work.old.most }
+{
+    let mut view = *begun;
+    ahead.begin(&view, wish.from);
+    behind.begin(&view, wish.to);
+    // Once more than looks are left, so that a lack of them is told.
+    for _ in 0..work.left().saturating_add(1) {
+        match ahead.look(&view, behind, work) {
+            Found::On => {}
+            Found::Met(place) => return Outcome::Met(place),
+            Found::Closed => return Outcome::ClosedAhead,
+            Found::Short => return Outcome::Short,
+        }
+        match behind.look(&view, ahead, work) {
+            Found::On => {}
+            Found::Met(place) => return Outcome::Met(place),
+            Found::Closed => return Outcome::ClosedBehind,
+            Found::Short => return Outcome::Short,
+        }
+        view.turn = view.turn.saturating_mul(2).min(MOST_IN_TURN);
+    }
+    Outcome::Short
 }
 
 impl AtHub {

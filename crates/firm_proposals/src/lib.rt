@@ -43,6 +43,7 @@ mod first;
 mod least;
 mod links;
 mod market;
+mod memory;
 mod nearest;
 mod numbers;
 mod paths;

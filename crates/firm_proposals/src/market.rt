@@ -2,10 +2,11 @@
 ghost use Rattle.std.specs.Prelude.{◌≡◌};
 
 use crate::draft::{Aside, Draft, FULL};
+use crate::memory::Memory;
 use crate::numbers::{NONE, Stack};
 use crate::table::{Span, Table, TaskRow};
 use crate::work::Work;
-use std::alloc::{AllocError, Global};
+use std::alloc::Global;
 use std::mem;
 
 /// How often prices fall at most; then the tasks that prefer machines are left out.
@@ -116,21 +117,26 @@ pub(crate) struct Traders {
 }
 
 impl Traders {
-    pub(crate) fn new(alloc: Global, nodes: usize) -> Result<Traders, AllocError> {
-        let movers = Stack::new(alloc, nodes)?;
-        let near = Stack::new(alloc, nodes)?;
-        let waiting = Stack::new(alloc, nodes)?;
-        let stands = vec![in alloc; Stand::Settled; nodes]?;
-        let other_stands = vec![in alloc; Stand::Settled; nodes]?;
-        let aside = Aside::new(alloc, nodes)?;
-        Ok(Traders {
-            movers,
-            near,
-            waiting,
-            stands,
-            other_stands,
-            aside,
-        })
+    /// No tasks, and no room for any.
+    pub(crate) fn empty(alloc: Global) -> Traders {
+        Traders {
+            movers: Stack::empty(alloc),
+            near: Stack::empty(alloc),
+            waiting: Stack::empty(alloc),
+            stands: Vec::new(alloc),
+            other_stands: Vec::new(alloc),
+            aside: Aside::empty(alloc),
+        }
+    }
+
+    /// Takes room for this many tasks and machines together.
+    pub(crate) fn take_room(&mut self, memory: &mut Memory, nodes: usize) {
+        self.movers.take_room(memory, nodes);
+        self.near.take_room(memory, nodes);
+        self.waiting.take_room(memory, nodes);
+        memory.fill(&mut self.stands, Stand::Settled, nodes);
+        memory.fill(&mut self.other_stands, Stand::Settled, nodes);
+        self.aside.take_room(memory, nodes);
     }
 
     /// Sets aside what the last trade made, and brings back what was set aside before.

@@ -1,7 +1,8 @@
 //! The places that a search has reached, the nearest first.
 
+use crate::memory::Memory;
 use crate::numbers::{NONE, Numbers, Stack};
-use std::alloc::{AllocError, Global};
+use std::alloc::Global;
 
 /// How deep the heap is at most.
 const MOST_DEPTH: u32 = 32;
@@ -16,15 +17,20 @@ pub(crate) struct Nearest {
 }
 
 impl Nearest {
-    pub(crate) fn new(alloc: Global, places: usize) -> Result<Nearest, AllocError> {
-        let heap = Stack::new(alloc, places)?;
-        let distances = Numbers::new(alloc, places)?;
-        let indices = Numbers::new(alloc, places)?;
-        Ok(Nearest {
-            heap,
-            distances,
-            indices,
-        })
+    /// No place, and no room for any.
+    pub(crate) fn empty(alloc: Global) -> Nearest {
+        Nearest {
+            heap: Stack::empty(alloc),
+            distances: Numbers::empty(alloc),
+            indices: Numbers::empty(alloc),
+        }
+    }
+
+    /// Takes room for this many places.
+    pub(crate) fn take_room(&mut self, memory: &mut Memory, places: usize) {
+        self.heap.take_room(memory, places);
+        self.distances.take_room(memory, places);
+        self.indices.take_room(memory, places);
     }
 
     /// Forgets all distances.

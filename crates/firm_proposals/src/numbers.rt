@@ -1,6 +1,7 @@
 //! Tables of numbers whose size is set once: after that they take no memory, and nothing in them fails.
 
-use std::alloc::{AllocError, Global};
+use crate::memory::Memory;
+use std::alloc::Global;
 
 /// No task, place, way or class.
 pub(crate) const NONE: u32 = u32::MAX;
@@ -12,9 +13,16 @@ pub(crate) struct Numbers {
 }
 
 impl Numbers {
-    pub(crate) fn new(alloc: Global, length: usize) -> Result<Numbers, AllocError> {
-        let items = vec![in alloc; NONE; length]?;
-        Ok(Numbers { items })
+    /// No numbers, and no room for any.
+    pub(crate) fn empty(alloc: Global) -> Numbers {
+        Numbers {
+            items: Vec::new(alloc),
+        }
+    }
+
+    /// Takes room for this many.
+    pub(crate) fn take_room(&mut self, memory: &mut Memory, length: usize) {
+        memory.fill(&mut self.items, NONE, length);
     }
 
     #[inline(always)]
@@ -65,9 +73,17 @@ pub(crate) struct Stack {
 }
 
 impl Stack {
-    pub(crate) fn new(alloc: Global, length: usize) -> Result<Stack, AllocError> {
-        let items = Numbers::new(alloc, length)?;
-        Ok(Stack { items, count: 0 })
+    /// No numbers, and no room for any.
+    pub(crate) fn empty(alloc: Global) -> Stack {
+        Stack {
+            items: Numbers::empty(alloc),
+            count: 0,
+        }
+    }
+
+    /// Takes room for this many.
+    pub(crate) fn take_room(&mut self, memory: &mut Memory, length: usize) {
+        self.items.take_room(memory, length);
     }
 
     pub(crate) fn count(&self) -> u32 {

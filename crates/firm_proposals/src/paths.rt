@@ -2,11 +2,18 @@
 ghost use Rattle.std.specs.Prelude.{◌≡◌};
 
 use crate::draft::{Draft, Step, UNIT};
+use crate::memory::Memory;
 use crate::nearest::Nearest;
 use crate::numbers::{NONE, Numbers, Stack};
-use crate::table::Table;
+use crate::table::{LEVELS, Table};
 use crate::work::Work;
-use std::alloc::{AllocError, Global};
+use std::alloc::Global;
+
+/// From this sweep on those that find few ways are given up for searches from one task each.
+const FEWEST_SWEEPS: u32 = 6;
+
+/// Sweeps that send fewer than one in this many tasks send few.
+const FEW: u32 = 12;
 
 /// Searches from tasks that are left out, or from the outside, to the outside or to the hub while units are lacking
 /// there.
@@ -23,8 +30,8 @@ pub(crate) struct Paths {
     sweep: u32,
     queue: Stack,
     settled: Stack,
-    /// How many units are lacking at the hub.
-    pub(crate) lacks: u32,
+    // How many units are lacking at the hub.
+    lacks: u32,
     // The place where the search ends, and the hub if it ends there too.
     goal: u32,
     hub_goal: u32,
@@ -33,29 +40,34 @@ pub(crate) struct Paths {
 }
 
 impl Paths {
-    pub(crate) fn new(alloc: Global, nodes: usize) -> Result<Paths, AllocError> {
-        let nearest = Nearest::new(alloc, nodes)?;
-        let from = Numbers::new(alloc, nodes)?;
-        let by = Numbers::new(alloc, nodes)?;
-        let seen = Numbers::new(alloc, nodes)?;
-        let dead = Numbers::new(alloc, nodes)?;
-        let queue = Stack::new(alloc, nodes)?;
-        let settled = Stack::new(alloc, nodes)?;
-        Ok(Paths {
-            nearest,
-            from,
-            by,
-            seen,
-            dead,
+    /// No places, and no room for any.
+    pub(crate) fn empty(alloc: Global) -> Paths {
+        Paths {
+            nearest: Nearest::empty(alloc),
+            from: Numbers::empty(alloc),
+            by: Numbers::empty(alloc),
+            seen: Numbers::empty(alloc),
+            dead: Numbers::empty(alloc),
             search: 0,
             sweep: 0,
-            queue,
-            settled,
+            queue: Stack::empty(alloc),
+            settled: Stack::empty(alloc),
             lacks: 0,
             goal: 0,
             hub_goal: NONE,
             end: NONE,
-        })
+        }
+    }
+
+    /// Takes room for this many tasks and machines together.
+    pub(crate) fn take_room(&mut self, memory: &mut Memory, nodes: usize) {
+        self.nearest.take_room(memory, nodes);
+        self.from.take_room(memory, nodes);
+        self.by.take_room(memory, nodes);
+        self.seen.take_room(memory, nodes);
+        self.dead.take_room(memory, nodes);
+        self.queue.take_room(memory, nodes);
+        self.settled.take_room(memory, nodes);
     }
 
     /// Nothing is seen, and this many units are lacking at the hub.
@@ -67,23 +79,127 @@ impl Paths {
         self.lacks = lacks;
     }
 
-    /// Begins a sweep, if a search is left: prices have changed, so what led nowhere may lead on again. A sweep
-    /// counts as one search, since no place that led nowhere is seen in it twice.
-    pub(crate) fn begin_sweep(&mut self, work: &mut Work)
+    /// Sends the tasks that were left out: first over ways that cost nothing more, and where none is left by the
+    /// cheapest path, which has prices rise.
+    pub(crate) fn send_rest(
+        &mut self,
+        table: &Table,
+        draft: &mut Draft,
+        rest: &mut Stack,
+        work: &mut Work,
+    )
+        ensures most { work.new.most ≡ work.old.most }
+    {
+        for sweep in 0..=table.tasks() {
+            let before = rest.count();
+            self.send_all_free(table, draft, rest, work);
+            let left = rest.count();
+            if left == 0 || work.is_short() {
+                return;
+            }
+            if sweep >= FEWEST_SWEEPS && before.saturating_sub(left).saturating_mul(FEW) < before {
+                break;
+            }
+            self.send_nearest(table, draft, rest, work);
+        }
+        self.send_each(table, draft, rest, work);
+    }
+
+    // Sends what can be sent over ways that cost nothing more.
+    fn send_all_free(&mut self, table: &Table, draft: &mut Draft, rest: &mut Stack, work: &mut Work)
+        ensures most { work.new.most ≡ work.old.most }
+    {
+        self.begin_sweep(work);
+        for at in 0..rest.count() {
+            self.send_free(table, draft, rest.at(at), work);
+        }
+        keep_rest(rest, draft);
+    }
+
+    // Sends the task that has the cheapest path of all.
+    fn send_nearest(&mut self, table: &Table, draft: &mut Draft, rest: &mut Stack, work: &mut Work)
+        ensures most { work.new.most ≡ work.old.most }
+    {
+        self.begin_send(table, work);
+        for at in 0..rest.count() {
+            self.start_at(table, draft, rest.at(at), work);
+        }
+        self.end_send(table, draft, work);
+        keep_rest(rest, draft);
+    }
+
+    // Sends each task by its cheapest path.
+    fn send_each(&mut self, table: &Table, draft: &mut Draft, rest: &mut Stack, work: &mut Work)
+        ensures most { work.new.most ≡ work.old.most }
+    {
+        for at in 0..rest.count() {
+            self.begin_send(table, work);
+            self.start_at(table, draft, rest.at(at), work);
+            self.end_send(table, draft, work);
+        }
+        keep_rest(rest, draft);
+    }
+
+    /// Brings to the hub what it lacks: first over ways that cost nothing more, and where none is left by the cheapest
+    /// path, which has prices fall.
+    pub(crate) fn pull_lacking(&mut self, table: &Table, draft: &mut Draft, work: &mut Work)
+        ensures most { work.new.most ≡ work.old.most }
+    {
+        for _ in 0..=table.tasks() {
+            if !self.is_lacking() || work.is_short() {
+                return;
+            }
+            self.begin_sweep(work);
+            for machine in 0..table.machines() {
+                self.pull_slots(table, draft, machine, work);
+            }
+            self.pull_tasks(table, draft, work);
+            if self.is_lacking() {
+                self.pull(table, draft, work);
+            }
+        }
+    }
+
+    // Brings tasks that wait, or others in their place.
+    fn pull_tasks(&mut self, table: &Table, draft: &mut Draft, work: &mut Work)
+        ensures most { work.new.most ≡ work.old.most }
+    {
+        for task in 0..table.tasks() {
+            if self.is_lacking() && draft.taken(task) == table.row(task).wait_way() {
+                self.pull_task(table, draft, task, work);
+            }
+        }
+    }
+
+    // Brings units from the slots of a machine that it as well gives up.
+    fn pull_slots(&mut self, table: &Table, draft: &mut Draft, machine: u32, work: &mut Work)
+        ensures most { work.new.most ≡ work.old.most }
+    {
+        for _ in 0..LEVELS {
+            if !self.is_lacking() || self.is_dead(machine) || !draft.may_leave(table, machine) {
+                return;
+            }
+            self.pull_slot(table, draft, machine, work);
+        }
+    }
+
+    // Whether units are lacking at the hub.
+    #[inline(always)]
+    fn is_lacking(&self) -> bool {
+        self.lacks > 0
+    }
+
+    // Begins a sweep, if a search is left: prices have changed, so what led nowhere may lead on again. A sweep
+    // counts as one search, since no place that led nowhere is seen in it twice.
+    fn begin_sweep(&mut self, work: &mut Work)
         ensures most { work.new.most ≡ work.old.most }
     {
         work.begin_search();
         self.sweep = self.sweep.saturating_add(1);
     }
 
-    /// Sends a task that is left out over ways that cost nothing more, and says whether it found one.
-    pub(crate) fn send_free(
-        &mut self,
-        table: &Table,
-        draft: &mut Draft,
-        task: u32,
-        work: &mut Work,
-    ) -> bool
+    // Sends a task that is left out over ways that cost nothing more, and says whether it found one.
+    fn send_free(&mut self, table: &Table, draft: &mut Draft, task: u32, work: &mut Work) -> bool
         ensures most { work.new.most ≡ work.old.most }
     {
         self.begin(table, table.outside());
@@ -101,14 +217,8 @@ impl Paths {
         self.follow(table, draft, work)
     }
 
-    /// Brings a unit to the hub from a machine that as well gives up a slot, over ways that cost nothing more.
-    pub(crate) fn pull_slot(
-        &mut self,
-        table: &Table,
-        draft: &mut Draft,
-        machine: u32,
-        work: &mut Work,
-    ) -> bool
+    // Brings a unit to the hub from a machine that as well gives up a slot, over ways that cost nothing more.
+    fn pull_slot(&mut self, table: &Table, draft: &mut Draft, machine: u32, work: &mut Work) -> bool
         ensures most { work.new.most ≡ work.old.most }
     {
         self.begin(table, table.hub());
@@ -124,14 +234,8 @@ impl Paths {
         self.follow(table, draft, work)
     }
 
-    /// Brings a task that waits to the hub, or another in its place, over ways that cost nothing more.
-    pub(crate) fn pull_task(
-        &mut self,
-        table: &Table,
-        draft: &mut Draft,
-        task: u32,
-        work: &mut Work,
-    ) -> bool
+    // Brings a task that waits to the hub, or another in its place, over ways that cost nothing more.
+    fn pull_task(&mut self, table: &Table, draft: &mut Draft, task: u32, work: &mut Work) -> bool
         ensures most { work.new.most ≡ work.old.most }
     {
         self.begin(table, table.hub());
@@ -142,8 +246,8 @@ impl Paths {
         self.follow(table, draft, work)
     }
 
-    /// Whether this machine led nowhere in this sweep.
-    pub(crate) fn is_dead(&self, place: u32) -> bool {
+    // Whether this machine led nowhere in this sweep.
+    fn is_dead(&self, place: u32) -> bool {
         self.dead.at(place) == self.sweep
     }
 
@@ -288,15 +392,15 @@ impl Paths {
         }
     }
 
-    /// Begins a search for the cheapest path of some tasks, all left out.
-    pub(crate) fn begin_send(&mut self, table: &Table, work: &mut Work)
+    // Begins a search for the cheapest path of some tasks, all left out.
+    fn begin_send(&mut self, table: &Table, work: &mut Work)
         ensures most { work.new.most ≡ work.old.most }
     {
         self.begin_far(table, table.outside(), work);
     }
 
-    /// Has the search start from this task too.
-    pub(crate) fn start_at(&mut self, table: &Table, draft: &Draft, task: u32, work: &mut Work)
+    // Has the search start from this task too.
+    fn start_at(&mut self, table: &Table, draft: &Draft, task: u32, work: &mut Work)
         ensures most { work.new.most ≡ work.old.most }
     {
         let paid = draft.cheapest(table, table.ways_of(task), NONE).paid;
@@ -304,41 +408,56 @@ impl Paths {
         self.reach_ways(table, draft, Leaving { task, paid, from }, work);
     }
 
-    /// Sends the task that finds the cheapest path, and has prices rise by what it costs.
-    pub(crate) fn end_send(&mut self, table: &Table, draft: &mut Draft, work: &mut Work)
+    // Sends the task that finds the cheapest path, and has prices rise by what it costs.
+    fn end_send(&mut self, table: &Table, draft: &mut Draft, work: &mut Work)
         ensures most { work.new.most ≡ work.old.most }
     {
         let end = self.find(table, draft, work);
         if end == NONE {
             return;
         }
+        self.raise_prices(table, draft, end);
+        self.make(table, draft, end);
+    }
+
+    // Has the prices of places nearer than this one rise by what they are nearer.
+    fn raise_prices(&self, table: &Table, draft: &mut Draft, end: u32) {
         let far = self.nearest.distance(end);
         for at in 0..self.settled.count().min(table.places()) {
             let place = self.settled.at(at);
             let rise = far.saturating_sub(self.nearest.distance(place));
             draft.set_price(place, draft.price(place).saturating_add(rise));
         }
-        self.make(table, draft, end);
     }
 
-    /// Brings a unit to the hub from the outside by the cheapest path, and has prices fall by what it costs.
-    pub(crate) fn pull(&mut self, table: &Table, draft: &mut Draft, work: &mut Work)
+    // Brings a unit to the hub from the outside by the cheapest path, and has prices fall by what it costs.
+    fn pull(&mut self, table: &Table, draft: &mut Draft, work: &mut Work)
         ensures most { work.new.most ≡ work.old.most }
     {
         self.begin_far(table, table.hub(), work);
-        self.from.set(table.outside(), NONE);
-        self.by.set(table.outside(), NONE);
-        self.nearest.bring(table.outside(), 0);
+        self.start_outside(table.outside());
         let end = self.find(table, draft, work);
         if end == NONE {
             return;
         }
+        self.lower_prices(table, draft, end);
+        self.make(table, draft, end);
+    }
+
+    // Has the search start from the outside.
+    fn start_outside(&mut self, outside: u32) {
+        self.from.set(outside, NONE);
+        self.by.set(outside, NONE);
+        self.nearest.bring(outside, 0);
+    }
+
+    // Has the prices of places fall by how far they are, but by no more than this one is.
+    fn lower_prices(&self, table: &Table, draft: &mut Draft, end: u32) {
         let far = self.nearest.distance(end);
         for place in 0..table.outside() {
             let fall = far.min(self.nearest.distance(place));
             draft.set_price(place, draft.price(place).saturating_sub(fall));
         }
-        self.make(table, draft, end);
     }
 
     fn begin_far(&mut self, table: &Table, goal: u32, work: &mut Work)
@@ -356,18 +475,20 @@ impl Paths {
     {
         for _ in 0..table.places() {
             let place = self.nearest.take();
-            if place == NONE {
-                return NONE;
-            }
-            if self.is_end(place) {
+            if place == NONE || self.is_end(place) {
                 return place;
             }
-            self.settled.push(place);
-            self.seen.set(place, self.search);
+            self.settle(place);
             self.reach_units(table, draft, place, work);
             self.reach_tasks(table, draft, place, work);
         }
         NONE
+    }
+
+    #[inline(always)]
+    fn settle(&mut self, place: u32) {
+        self.settled.push(place);
+        self.seen.set(place, self.search);
     }
 
     // Reaches a place from another one that is settled, by a step that costs this much.
@@ -471,6 +592,19 @@ struct Leaving {
     task: u32,
     paid: u32,
     from: u32,
+}
+
+// Forgets the tasks that are no longer left out.
+fn keep_rest(rest: &mut Stack, draft: &Draft) {
+    let mut kept = 0u32;
+    for at in 0..rest.count() {
+        let task = rest.at(at);
+        if draft.taken(task) == NONE {
+            rest.set(kept, task);
+            kept = kept.saturating_add(1);
+        }
+    }
+    rest.truncate(kept);
 }
 
 fn unit(from: u32, to: u32) -> Step {

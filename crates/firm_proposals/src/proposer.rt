@@ -6,6 +6,7 @@ ghost use Rattle.firm_proposals.specs.Proposed.{nothing_proposed, IsInForm};
 use crate::draft::Draft;
 use crate::first::First;
 use crate::least::Least;
+use crate::memory::Memory;
 use crate::numbers::NONE;
 use crate::proposal::Proposal;
 use crate::table::Table;
@@ -16,7 +17,6 @@ use std::alloc::{AllocError, Global};
 use std::marker::Model;
 
 /// Tables in which rounds are proposed. They are as large as a tenant's limits ask, and take no memory after that.
-#[derive(Drop)]
 pub struct Proposer {
     limits: Limits,
     table: Table,
@@ -24,6 +24,25 @@ pub struct Proposer {
     least: Least,
     first: First,
     proposal: Proposal,
+}
+
+impl Drop for Proposer {
+    // Written out so that who owns a proposer has one call where it is dropped, and not one for each of its tables.
+    fn drop(self) {
+        let Proposer {
+            limits: _,
+            table,
+            draft,
+            least,
+            first,
+            proposal,
+        } = self;
+        drop(table);
+        drop(draft);
+        drop(least);
+        drop(first);
+        drop(proposal);
+    }
 }
 
 impl Model for Proposer {
@@ -46,20 +65,32 @@ impl Proposer {
     pub fn new(alloc: Global, limits: Limits) -> Result<Proposer, AllocError>
         ensures { IfOk result (λ proposer. proposer ≡ nothing_proposed limits) }
     {
-        let (nodes, arcs) = (limits.nodes() as usize, limits.arcs() as usize);
-        let table = Table::new(alloc, nodes, arcs)?;
-        let draft = Draft::new(alloc, nodes)?;
-        let least = Least::new(alloc, nodes)?;
-        let first = First::new(alloc, nodes, arcs)?;
-        let proposal = Proposal::new(alloc, nodes)?;
-        Ok(Proposer {
+        let proposal = Proposal::new(alloc, limits.nodes() as usize)?;
+        let mut proposer = Proposer {
             limits,
-            table,
-            draft,
-            least,
-            first,
+            table: Table::empty(alloc),
+            draft: Draft::empty(alloc),
+            least: Least::empty(alloc),
+            first: First::empty(alloc),
             proposal,
-        })
+        };
+        proposer.take_room(alloc)?;
+        Ok(proposer)
+    }
+
+    // Takes all memory that the tables will need. It does so for tables that a proposer has already, empty ones, so
+    // that it has no table to drop where memory is refused.
+    fn take_room(&mut self, alloc: Global) -> Result<(), AllocError>
+        ensures { self.new ≡ self.old }
+    {
+        let nodes = self.limits.nodes() as usize;
+        let arcs = self.limits.arcs() as usize;
+        let mut memory = Memory::new(alloc);
+        self.table.take_room(&mut memory, nodes, arcs);
+        self.draft.take_room(&mut memory, nodes);
+        self.least.take_room(&mut memory, nodes);
+        self.first.take_room(&mut memory, nodes, arcs);
+        memory.was_enough()
     }
 
     /// The round's placement, if one is proposed with the work that is left and shown to be it; the price of going to

@@ -4,10 +4,11 @@ ghost use Rattle.std.specs.Prelude.{◌≡◌};
 use crate::classes::Classes;
 use crate::draft::{Draft, Step, UNIT};
 use crate::links::{Link, Links, UnitLinks, Walk};
+use crate::memory::Memory;
 use crate::numbers::{NONE, Stack};
 use crate::table::Table;
 use crate::work::Work;
-use std::alloc::{AllocError, Global};
+use std::alloc::Global;
 
 /// How many looks a side has at most before it is the other's turn.
 pub(crate) const MOST_IN_TURN: u32 = 8;
@@ -51,13 +52,13 @@ struct Circle {
 }
 
 impl Circle {
-    fn new(alloc: Global, nodes: usize) -> Result<Circle, AllocError> {
-        let machines = Stack::new(alloc, nodes)?;
-        Ok(Circle {
-            machines,
+    // No machines, and no room for any.
+    fn empty(alloc: Global) -> Circle {
+        Circle {
+            machines: Stack::empty(alloc),
             start: 0,
             next: 0,
-        })
+        }
     }
 
     fn clear(&mut self) {
@@ -147,29 +148,34 @@ pub(crate) struct Side {
 }
 
 impl Side {
-    pub(crate) fn new(alloc: Global, nodes: usize, is_ahead: bool) -> Result<Side, AllocError> {
-        let seen = Stack::new(alloc, nodes)?;
-        let marks = vec![in alloc; Mark::NONE; nodes]?;
-        let near = Stack::new(alloc, nodes)?;
-        let far = Stack::new(alloc, 2)?;
-        let at_hub = Circle::new(alloc, nodes)?;
-        let at_edge = Circle::new(alloc, nodes)?;
-        Ok(Side {
+    /// No places, and no room for any.
+    pub(crate) fn empty(alloc: Global, is_ahead: bool) -> Side {
+        Side {
             is_ahead,
-            seen,
-            marks,
+            seen: Stack::empty(alloc),
+            marks: Vec::new(alloc),
             saw_hub: false,
             saw_outside: false,
             last: NONE,
             units: UnitLinks::NONE,
-            near,
+            near: Stack::empty(alloc),
             entered: 0,
             walk: Walk::NONE,
-            far,
+            far: Stack::empty(alloc),
             far_walk: Walk::NONE,
-            at_hub,
-            at_edge,
-        })
+            at_hub: Circle::empty(alloc),
+            at_edge: Circle::empty(alloc),
+        }
+    }
+
+    /// Takes room for this many tasks and machines together.
+    pub(crate) fn take_room(&mut self, memory: &mut Memory, nodes: usize) {
+        self.seen.take_room(memory, nodes);
+        self.near.take_room(memory, nodes);
+        self.at_hub.machines.take_room(memory, nodes);
+        self.at_edge.machines.take_room(memory, nodes);
+        self.far.take_room(memory, 2);
+        memory.fill(&mut self.marks, Mark::NONE, nodes);
     }
 
     /// Forgets all searches, and reads between which machines and the hub or the outside units may go.

@@ -6,9 +6,10 @@
 ghost use Rattle.std.specs.Prelude.{◌≡◌, ◌<◌, length};
 ghost use Rattle.firm_proposals.specs.inner.Written.{SameSize};
 
+use crate::memory::Memory;
 use crate::numbers::{NONE, Numbers};
 use firm_rules::{Case, Choice, MOST_PREFERENCES, slot_cost};
-use std::alloc::{AllocError, Global};
+use std::alloc::Global;
 
 /// What a task can do: go to a place, at a cost of its own.
 #[derive(Clone, Copy)]
@@ -58,7 +59,10 @@ impl Span {
 }
 
 /// The most slots of a machine.
-pub(crate) const MOST_SLOTS: u32 = 64;
+const MOST_SLOTS: u32 = 64;
+
+/// How many slots a machine can have: the most, or fewer, or none.
+pub(crate) const LEVELS: u32 = MOST_SLOTS + 1;
 
 /// How often a count of slots can be halved.
 const SLOT_HALVINGS: u32 = 6;
@@ -147,26 +151,30 @@ pub(crate) struct Table {
 }
 
 impl Table {
-    /// Tables for this many tasks and machines together, and this many ways.
-    pub(crate) fn new(alloc: Global, nodes: usize, ways: usize) -> Result<Table, AllocError> {
-        let table = vec![in alloc; Way::NONE; ways]?;
-        let rows = vec![in alloc; TaskRow::NONE; nodes]?;
-        let waits = Numbers::new(alloc, nodes)?;
-        let slots = Numbers::new(alloc, nodes)?;
-        let demands = Numbers::new(alloc, nodes)?;
-        let slot_costs = Numbers::new(alloc, MOST_SLOTS as usize)?;
-        Ok(Table {
-            ways: table,
+    /// Tables without tasks and machines, and no room for any.
+    pub(crate) fn empty(alloc: Global) -> Table {
+        Table {
+            ways: Vec::new(alloc),
             way_count: 0,
-            rows,
+            rows: Vec::new(alloc),
             none: TaskRow::NONE,
-            waits,
-            slots,
-            demands,
+            waits: Numbers::empty(alloc),
+            slots: Numbers::empty(alloc),
+            demands: Numbers::empty(alloc),
             tasks: 0,
             machines: 0,
-            slot_costs,
-        })
+            slot_costs: Numbers::empty(alloc),
+        }
+    }
+
+    /// Takes room for this many tasks and machines together, and this many ways.
+    pub(crate) fn take_room(&mut self, memory: &mut Memory, nodes: usize, ways: usize) {
+        memory.fill(&mut self.ways, Way::NONE, ways);
+        memory.fill(&mut self.rows, TaskRow::NONE, nodes);
+        self.waits.take_room(memory, nodes);
+        self.slots.take_room(memory, nodes);
+        self.demands.take_room(memory, nodes);
+        self.slot_costs.take_room(memory, MOST_SLOTS as usize);
     }
 
     pub(crate) fn tasks(&self) -> u32
