@@ -7,10 +7,10 @@ use Rattle.std.proofs.Math.Seq.{drop-cons}
 use Rattle.std.specs.List.{All, flat_map, list_all, position_or_len}
 use Rattle.std.proofs.Math.Bool.{and-true}
 use Rattle.std.proofs.lemmas.Bool.{cases_lt, eq-eqb, le-ltb, ltb-false}
-use Rattle.std.proofs.lemmas.List.{take_more, map_push, get_or-map, get_or_past, length-map}
+use Rattle.std.proofs.lemmas.List.{take_all, take_more, map_push, get_or-map, get_or_past, length-map}
 use Rattle.std.proofs.lemmas.List.Folds.{list_all-append}
 use Rattle.std.proofs.lemmas.List.Sums.{prefix_len-le-length}
-use Rattle.std.proofs.lemmas.Option.{slice_get_within, get_or_from_slice_get}
+use Rattle.std.proofs.lemmas.Option.{slice_get_within, slice_get-get_or, get_or_from_slice_get}
 use Rattle.firm_rules.specs.declared.book.Job.{Job}
 use Rattle.firm_rules.specs.declared.rounds.Choice.{Choice}
 use Rattle.firm_rules.specs.declared.rounds.Choice.TheVariants.{On, Wait}
@@ -58,6 +58,16 @@ pub grown_by : {X Y : Type 0} (f : X → Y) (xs : List X) (i : ℕ) (x : X) (ys 
 grown_by {X} {Y} f xs i x ys new y at before is read =
     is ∙ (ap (λ (l : List Y). l ++ y ∷ []) before ∙ (ap (λ (z : Y). map f (take i xs) ++ z ∷ []) read
     ∙ sym (map_more f xs i x at)))
+
+-- once all are read
+pub grown_all : {X Y : Type 0} (f : X → Y) (xs : List X) (ys : List Y) (i n : ℕ) → ys ≡ map f (take i xs)
+    → n ≡ length xs → n ≤ i → ys ≡ map f xs
+grown_all f xs ys i n made all past = made ∙ ap (map f) (take_all i xs (omega (arith, all, past)))
+
+-- a place below the count is read
+pub read_below : {X : Type 0} (xs : List X) (i n : ℕ) (d : X) → i < n → n ≡ length xs
+    → slice_get xs i ≡ Some (slice_index_or xs i d)
+read_below xs i n d below all = slice_get-get_or xs i d (omega (arith, below, all))
 
 -- no weight is above a million
 pub weight-le : (rows : TenantRows) (place : ℕ)

@@ -5,8 +5,8 @@ use Rattle.std.proofs.Common.{Some, ⊎_elim}
 use Rattle.std.proofs.Common.{true≢false, refl, sym, ap, subst, ◌∙◌, arith}
 use Rattle.std.specs.Prelude.{slice_index_or}
 use Rattle.std.proofs.lemmas.Bool.{cases_lt, cond-true, cond-false, lt-ltb, le-ltb, eq-eqb}
-use Rattle.std.proofs.lemmas.List.{length-map, length-set, map-set, get_or-map}
-use Rattle.std.proofs.lemmas.List.Elements.{All-nil, All-cons, All-head, All-tail, All-map, All-set}
+use Rattle.std.proofs.lemmas.List.{length-map, length-set, length_push, map-set, map_push, get_or-map}
+use Rattle.std.proofs.lemmas.List.Elements.{All-nil, All-cons, All-head, All-tail, All-map, All-push, All-set}
 use Rattle.indexmap.proofs.SetLemmas.{map-remove}
 use Rattle.firm_rules.specs.Limits.{TenantLimits}
 use Rattle.firm_rules.specs.Placement.{Case, Demand as RoundDemand, task_at}
@@ -75,6 +75,29 @@ fits-without_task limits jobs slots old new i fits is =
         fits.few_tasks,
         ap (λ (l : List RoundDemand). length l) less,
         length-remove-le (map seen old) i,
+      );
+    }
+
+-- one task more
+pub fits-with_task : (limits : TenantLimits) (jobs : ℕ) (slots : List ℕ) (old new : List Demand) (it : Demand)
+    (case : Case) → CaseFits (case_seen limits jobs slots old) → case_seen limits jobs slots old ≡ case
+    → new ≡ old ++ it ∷ [] → Fits (length case.slots) (seen it) → length case.tasks < 4096
+    → CaseFits (case_seen limits jobs slots new)
+fits-with_task limits jobs slots old new it case fits view is fit room =
+    let all : map seen new ≡ map seen old ++ seen it ∷ [] = ap (map seen) is ∙ map_push seen old it in
+    let here : Fits (length slots) (seen it) =
+    subst (λ (k : Case). Fits (length k.slots) (seen it)) (sym view) fit in
+    record {
+      tasks = subst (All (Fits (length slots))) (sym all)
+          (All-push (Fits (length slots)) (map seen old) (seen it) fits.tasks here);
+      slots = fits.slots;
+      few_machines = fits.few_machines;
+      few_tasks = omega (
+        arith,
+        room,
+        ap (λ (k : Case). length k.tasks) view,
+        ap (λ (l : List RoundDemand). length l) all,
+        length_push (map seen old) (seen it),
       );
     }
 

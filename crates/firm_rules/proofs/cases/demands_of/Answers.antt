@@ -1,6 +1,6 @@
-use Rattle.std.proofs.Common.{◌≡◌, ◌≤◌, arith, true, IfSome, List, length, map, sym, ap, subst, ◌∙◌}
+use Rattle.std.proofs.Common.{◌≡◌, ◌≤◌, arith, true, IfSome, List, [], None, length, map, sym, ap, subst, ◌∙◌}
 use Rattle.std.proofs.lemmas.List.{map_push}
-use Rattle.std.proofs.lemmas.List.Elements.{All-push}
+use Rattle.std.proofs.lemmas.List.Elements.{All-nil, All-push}
 use Rattle.std.specs.List.{All}
 use Rattle.firm_rules.specs.Book.{machine_names}
 use Rattle.firm_rules.specs.Names.{is_among}
@@ -8,7 +8,7 @@ use Rattle.firm_rules.specs.Round.{demand_of}
 use Rattle.firm_rules.specs.declared.book.Task.{Task}
 use Rattle.firm_rules.specs.Placement.{Demand as RoundDemand}
 use Rattle.firm_rules.specs.inner.Demands.{seen, Fits}
-use Rattle.firm_rules.proofs.CaseLists.{known, grown_by}
+use Rattle.firm_rules.proofs.CaseLists.{known, grown_all, grown_by, read_below}
 use Rattle.firm_rules.proofs.cases.demands_of.Goals as goal
 
 pub demand_of-requires-clause-machine : goal.demand_of-requires-clause-machine
@@ -45,3 +45,25 @@ loop-number-preserved c = record {
       (All-push (Fits (length c.args.rows.now.machines)) (map seen c.loop-number.demands.items)
       (seen c.demand_of.result) c.loop-number.invariant.fit c.demand_of.ensures.fits);
 }
+
+pub loop-number-init : goal.loop-number-init
+loop-number-init c = record {
+  made = ap (map seen) c.in_ok-demands.ensures.items;
+  fit = subst (λ (xs : List RoundDemand). All (Fits (length c.args.rows.now.machines)) xs)
+      (sym (ap (map seen) c.in_ok-demands.ensures.items)) (All-nil (Fits (length c.args.rows.now.machines)));
+}
+
+pub unreachable-requires : goal.unreachable-requires
+unreachable-requires c =
+    let none : Task = record { name = []; job = []; preferred = []; machine = None; waited = 0 } in
+    c.in_default.not-Some _ (c.task_at.ensures ∙ read_below c.args.rows.now.tasks c.loop-number.number
+    c.task_count-number-end.result none c.loop-number-test.true c.task_count-number-end.ensures)
+
+pub returns-clause-seen : goal.returns-clause-seen
+returns-clause-seen c =
+    grown_all (demand_of c.args.rows.now) c.args.rows.now.tasks (map seen c.loop-number.demands.items)
+    c.loop-number.number c.task_count-number-end.result c.loop-number.invariant.made c.task_count-number-end.ensures
+    c.loop-number-test.false
+
+pub returns-clause-fit : goal.returns-clause-fit
+returns-clause-fit c = c.loop-number.invariant.fit
