@@ -1,10 +1,14 @@
 -- The case beside the tables stays that of their rows.
-use Rattle.std.proofs.Common.{◌≡◌, ℕ, ◌+◌, ◌<◌, ◌≤◌, true, List, ◌++◌, ◌∷◌, [], length, map, remove, set, All, Option}
+use Rattle.std.proofs.Common.{◌≡◌, ℕ, ◌+◌, ◌<◌, ◌≤◌, true, List, ◌++◌, ◌∷◌, [], length, map, remove, set, All, Option, is_some}
 use Rattle.std.proofs.Common.{sym, ap, subst, ◌∙◌, arith}
+use mir.Syntax.{w64}
+use mir.Val.{Fits}
 use Rattle.std.specs.Map.{values_of}
-use Rattle.std.proofs.lemmas.List.{length-map}
+use Rattle.std.proofs.lemmas.List.{length-map, length_push}
+use Rattle.std.proofs.lemmas.List.Sums.{count_by-le-length}
 use Rattle.firm_rules.specs.Limits.{TenantLimits, longest_patience}
-use Rattle.firm_rules.specs.Book.{TenantRows}
+use Rattle.firm_rules.specs.ArenaUse.{FitsLimits}
+use Rattle.firm_rules.specs.Book.{TenantRows, with_machine, with_restored}
 use Rattle.firm_rules.specs.Sound.{AreSound}
 use Rattle.firm_rules.specs.SoundBook.{AreInForm}
 use Rattle.firm_rules.specs.Placement.{Case, Demand, IsPlace, is_legal}
@@ -57,3 +61,52 @@ module _ {limits : TenantLimits} {machines : List (List ℕ × Machine)} {jobs :
   -- the rows are few
   pub few-rows : length rows.machines + length rows.jobs + length rows.tasks ≤ 4096
   few-rows = omega (arith, sound-rows.fits.nodes, sound-rows.most_nodes)
+
+  -- nor are the counts that are kept of them large
+  pub running-few : running ≤ 4096
+  running-few =
+      omega (
+        arith,
+        few-rows,
+        were.tables.running_kept,
+        count_by-le-length (λ (task : Task). is_some task.machine) (values_of tasks),
+        ap (λ (r : TenantRows). length r.tasks) view,
+      )
+
+  pub preferences-few : preferences ≤ 65536
+  preferences-few =
+      omega (arith, were.tables.preferences_kept, were.tables.sound.fits.arcs, were.tables.sound.most_arcs)
+
+  pub arcs-few : arcs ≤ 65536
+  arcs-few = omega (arith, were.tables.arcs_kept, were.tables.sound.fits.arcs, were.tables.sound.most_arcs)
+
+  -- where one more row fits the limits, the case has room for it
+  pub room-for_machine : (name : List ℕ) (slots : ℕ) → FitsLimits (with_machine rows name slots)
+      → length case.slots < 4096
+  room-for_machine name slots fits =
+      let machine : Machine = record { name = name; slots = slots } in
+      omega (arith, fits.nodes, sound-rows.most_nodes, slots-counted, length_push rows.machines machine)
+
+  pub room-for_task : (task : Task) → FitsLimits (with_restored rows task) → length case.tasks < 4096
+  room-for_task task fits =
+      omega (arith, fits.nodes, sound-rows.most_nodes, tasks-counted, length_push rows.tasks task)
+
+-- a few more are counted in a word
+pub few-fit : (a b : ℕ) → a ≤ 65536 → b ≤ 65536 → Fits w64 (a + b)
+few-fit a b a-few b-few = omega (arith, a-few, b-few)
+
+-- the same entries, and the same case
+pub unchanged : {limits : TenantLimits} {machines new-machines : List (List ℕ × Machine)}
+    {jobs new-jobs : List (List ℕ × Job)} {tasks new-tasks : List (List ℕ × Task)} {arcs preferences running : ℕ}
+    {case new-case : Case} → AreTablesAndCase limits machines jobs tasks arcs preferences running case
+    → new-machines ≡ machines → new-jobs ≡ jobs → new-tasks ≡ tasks → new-case ≡ case
+    → AreTablesAndCase limits new-machines new-jobs new-tasks arcs preferences running new-case
+unchanged {limits} {machines} {new-machines} {jobs} {new-jobs} {tasks} {new-tasks} {arcs} {preferences} {running} {case}
+    {new-case} were m j t k =
+    subst (λ (l : List (List ℕ × Machine)). AreTablesAndCase limits l new-jobs new-tasks arcs preferences running
+    new-case) (sym m)
+    (subst (λ (l : List (List ℕ × Job)). AreTablesAndCase limits machines l new-tasks arcs preferences running
+    new-case) (sym j)
+    (subst (λ (l : List (List ℕ × Task)). AreTablesAndCase limits machines jobs l arcs preferences running new-case)
+    (sym t)
+    (subst (λ (c : Case). AreTablesAndCase limits machines jobs tasks arcs preferences running c) (sym k) were)))
