@@ -8,7 +8,7 @@ use Rattle.std.proofs.lemmas.List.{length-map, length_push}
 use Rattle.std.proofs.lemmas.List.Sums.{count_by-le-length}
 use Rattle.firm_rules.specs.Limits.{TenantLimits, longest_patience}
 use Rattle.firm_rules.specs.ArenaUse.{FitsLimits}
-use Rattle.firm_rules.specs.Book.{TenantRows, with_machine, with_restored}
+use Rattle.firm_rules.specs.Book.{TenantRows, with_job, with_machine, with_restored}
 use Rattle.firm_rules.specs.Sound.{AreSound}
 use Rattle.firm_rules.specs.SoundBook.{AreInForm}
 use Rattle.firm_rules.specs.Placement.{Case, Demand, IsPlace, is_legal}
@@ -86,6 +86,11 @@ module _ {limits : TenantLimits} {machines : List (List ℕ × Machine)} {jobs :
   room-for_machine name slots fits =
       let machine : Machine = record { name = name; slots = slots } in
       omega (arith, fits.nodes, sound-rows.most_nodes, slots-counted, length_push rows.machines machine)
+
+  pub room-for_job : (name : List ℕ) (weight : ℕ) → FitsLimits (with_job rows name weight) → case.jobs < 4096
+  room-for_job name weight fits =
+      let job : Job = record { name = name; weight = weight } in
+      omega (arith, fits.nodes, sound-rows.most_nodes, jobs-counted, length_push rows.jobs job)
 
   pub room-for_task : (task : Task) → FitsLimits (with_restored rows task) → length case.tasks < 4096
   room-for_task task fits =

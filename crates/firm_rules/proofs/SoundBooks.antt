@@ -1,16 +1,18 @@
 -- Which books are sound.
 use Rattle.std.proofs.Common.{◌≡◌, ℕ, pos, ◌≤◌, ◌&&◌, Bool, true, false, List, [], ◌∷◌, length, All, bytes_eq}
-use Rattle.std.proofs.Common.{true≢false, refl, sym, ◌∙◌, arith}
+use Rattle.std.proofs.Common.{true≢false, refl, sym, ap, ◌∙◌, arith, ◌<◌, not, cond, ltb, Option, Some, None}
 use Rattle.std.specs.Prelude.{nat_le}
 use Rattle.std.specs.List.{IsDistinct, list_all}
-use Rattle.std.proofs.lemmas.Bool.{and_from, and_parts, le-leb, leb-true}
+use Rattle.std.proofs.lemmas.Bool.{and_from, and_parts, cond-true, cond-false, le-leb, leb-true, lt-ltb, le-ltb}
 use Rattle.std.proofs.lemmas.List.Elements.{All-nil, All-cons, All-head, All-tail}
 use Rattle.firm_rules.specs.Limits.{TenantLimits, are_limits, is_within, longest_patience}
 use Rattle.firm_rules.specs.Book.{Book, opening_rows}
 use Rattle.firm_rules.specs.Sound.{AreSound}
 use Rattle.firm_rules.specs.SoundBook.{AreInForm, IsSoundBook, OpeningBooksAreSound, is_cost, most_cost, entry_count}
-use Rattle.firm_rules.specs.SoundBook.{MayStand, may_stand, most_rounds, rounds_shown}
+use Rattle.firm_rules.specs.SoundBook.{MayStand, book_fault, may_stand, most_rounds, rounds_shown}
 use Rattle.firm_rules.specs.declared.book.Task.{Task}
+use Rattle.firm_rules.specs.declared.books.BookFault.{BookFault}
+use Rattle.firm_rules.specs.declared.books.BookFault.TheVariants.{Cost, Life, Count, Rounds, Crowded}
 
 -- what passes a test throughout
 pub all-pass : {X : Type 0} (p : X → Bool) (xs : List X) → list_all p xs ≡ true → All (λ x. p x ≡ true) xs
@@ -139,3 +141,61 @@ other-standing book failed sound =
 -- one whose costs do not pass the test is not sound
 pub other-costs : (book : Book) → list_all is_cost book.costs ≡ false → IsSoundBook book → ⊥
 other-costs book failed sound = true≢false (sym (pass-all is_cost book.costs sound.costs) ∙ failed)
+
+-- what first keeps a book from being sound, fault by fault
+module _ (book : Book) where
+  abbrev shown : Bool
+  shown = list_all (λ task. nat_le (rounds_shown task) (most_rounds book)) book.rows.tasks
+
+  abbrev stands : Bool
+  stands = list_all (λ task. may_stand book.rows (most_rounds book) task task.machine) book.rows.tasks
+
+  abbrev standing_fault : Option BookFault
+  standing_fault = cond stands None (Some Crowded)
+
+  abbrev rounds_fault : Option BookFault
+  rounds_fault = cond (not shown) (Some Rounds) standing_fault
+
+  abbrev count_fault : Option BookFault
+  count_fault = cond (ltb book.given (entry_count book)) (Some Count) rounds_fault
+
+  abbrev life_fault : Option BookFault
+  life_fault = cond (ltb book.rows.limits.life book.given) (Some Life) count_fault
+
+  pub fault-costs : list_all is_cost book.costs ≡ false → Some Cost ≡ book_fault book
+  fault-costs is = sym (ap (λ (b : Bool). cond (not b) (Some Cost) life_fault) is)
+
+  module _ (costs : list_all is_cost book.costs ≡ true) where
+    to-life : book_fault book ≡ life_fault
+    to-life = ap (λ (b : Bool). cond (not b) (Some Cost) life_fault) costs
+
+    pub fault-life : book.rows.limits.life < book.given → Some Life ≡ book_fault book
+    fault-life is =
+        sym (to-life ∙ cond-true (ltb book.rows.limits.life book.given) (Some Life) count_fault
+        (lt-ltb book.rows.limits.life book.given is))
+
+    module _ (life : book.given ≤ book.rows.limits.life) where
+      to-count : book_fault book ≡ count_fault
+      to-count =
+          to-life ∙ cond-false (ltb book.rows.limits.life book.given) (Some Life) count_fault
+          (le-ltb book.rows.limits.life book.given life)
+
+      pub fault-count : book.given < entry_count book → Some Count ≡ book_fault book
+      fault-count is =
+          sym (to-count ∙ cond-true (ltb book.given (entry_count book)) (Some Count) rounds_fault
+          (lt-ltb book.given (entry_count book) is))
+
+      module _ (count : entry_count book ≤ book.given) where
+        to-rounds : book_fault book ≡ rounds_fault
+        to-rounds =
+            to-count ∙ cond-false (ltb book.given (entry_count book)) (Some Count) rounds_fault
+            (le-ltb book.given (entry_count book) count)
+
+        pub fault-rounds : shown ≡ false → Some Rounds ≡ book_fault book
+        fault-rounds is = sym (to-rounds ∙ ap (λ (b : Bool). cond (not b) (Some Rounds) standing_fault) is)
+
+        pub fault-standing : (passed : Bool) → shown ≡ true → stands ≡ passed
+            → cond passed None (Some Crowded) ≡ book_fault book
+        fault-standing passed rounds is =
+            sym (to-rounds ∙ ap (λ (b : Bool). cond (not b) (Some Rounds) standing_fault) rounds
+            ∙ ap (λ (b : Bool). cond b None (Some Crowded)) is)

@@ -96,7 +96,8 @@ fn fault_of(rows: &Rows, costs: RecentCosts, given: u64) -> Option<BookFault>
     if !are_costs(costs.as_slice()) {
         return Some(BookFault::Cost);
     }
-    if rows.limits().life() < given {
+    let life = rows.limits().life();
+    if life < given {
         return Some(BookFault::Life);
     }
     if given < entries_of(rows, costs) {
