@@ -1,19 +1,19 @@
 -- The case beside the tables stays that of their rows.
-use Rattle.std.proofs.Common.{◌≡◌, ℕ, ◌+◌, ◌<◌, ◌≤◌, true, List, ◌++◌, ◌∷◌, [], length, map, remove, set, All, Option, is_some}
+use Rattle.std.proofs.Common.{◌≡◌, ℕ, ◌+◌, ◌<◌, ◌≤◌, true, List, length, is_some}
 use Rattle.std.proofs.Common.{sym, ap, subst, ◌∙◌, arith}
 use mir.Syntax.{w64}
 use mir.Val.{Fits}
 use Rattle.std.specs.Map.{values_of}
 use Rattle.std.proofs.lemmas.List.{length-map, length_push}
 use Rattle.std.proofs.lemmas.List.Sums.{count_by-le-length}
-use Rattle.firm_rules.specs.Limits.{TenantLimits, longest_patience}
+use Rattle.firm_rules.specs.Limits.{TenantLimits}
 use Rattle.firm_rules.specs.ArenaUse.{FitsLimits}
 use Rattle.firm_rules.specs.Book.{TenantRows, with_job, with_machine, with_restored}
 use Rattle.firm_rules.specs.Sound.{AreSound}
 use Rattle.firm_rules.specs.SoundBook.{AreInForm}
-use Rattle.firm_rules.specs.Placement.{Case, Demand, IsPlace, is_legal}
+use Rattle.firm_rules.specs.Placement.{Case, is_legal}
 use Rattle.firm_rules.specs.Round.{case_of, demand_of, rows_after, task_after}
-use Rattle.firm_rules.specs.inner.Tables.{AreTablesAndCase, rows_in, seated, weight_in}
+use Rattle.firm_rules.specs.inner.Tables.{AreTablesAndCase, rows_in}
 use Rattle.firm_rules.specs.declared.book.Machine.{Machine}
 use Rattle.firm_rules.specs.declared.book.Job.{Job}
 use Rattle.firm_rules.specs.declared.book.Task.{Task}

@@ -1,6 +1,6 @@
 -- What keeps the numbers of a case in their ranges.
-use Rattle.std.proofs.Common.{◌≡◌, ℕ, zero, suc, ◌+◌, ◌-◌, ◌<◌, ◌≤◌, Bool, true, false, not, cond, eqb, ltb, List, []}
-use Rattle.std.proofs.Common.{◌∷◌, ◌++◌, length, map, filter, remove, set, take, drop, All, IfSome, Option, None}
+use Rattle.std.proofs.Common.{◌≡◌, ℕ, zero, suc, ◌-◌, ◌<◌, ◌≤◌, true, false, not, cond, eqb, ltb, List, []}
+use Rattle.std.proofs.Common.{◌∷◌, ◌++◌, length, map, filter, remove, set, take, All, IfSome, Option, None}
 use Rattle.std.proofs.Common.{Some, ⊎_elim}
 use Rattle.std.proofs.Common.{true≢false, refl, sym, ap, subst, ◌∙◌, arith}
 use Rattle.std.specs.Prelude.{slice_index_or}
@@ -9,7 +9,7 @@ use Rattle.std.proofs.lemmas.List.{length-map, length-set, length_push, map-set,
 use Rattle.std.proofs.lemmas.List.Elements.{All-nil, All-cons, All-head, All-tail, All-map, All-push, All-set}
 use Rattle.indexmap.proofs.SetLemmas.{map-remove}
 use Rattle.firm_rules.specs.Limits.{TenantLimits}
-use Rattle.firm_rules.specs.Placement.{Case, Demand as RoundDemand, task_at}
+use Rattle.firm_rules.specs.Placement.{Case, Demand as RoundDemand}
 use Rattle.firm_rules.specs.inner.Demands.{seen, case_seen, Fits, CaseFits, placed, place_without, home_without}
 use Rattle.firm_rules.specs.inner.Demands.{preferred_without, without_machine_at, without_job_at}
 use Rattle.firm_rules.specs.declared.demands.Demand.{Demand}

@@ -9,7 +9,7 @@ use Rattle.firm_rules.specs.Limits.{TenantLimits, are_limits, is_within, longest
 use Rattle.firm_rules.specs.Book.{Book, opening_rows}
 use Rattle.firm_rules.specs.Sound.{AreSound}
 use Rattle.firm_rules.specs.SoundBook.{AreInForm, IsSoundBook, OpeningBooksAreSound, is_cost, most_cost, entry_count}
-use Rattle.firm_rules.specs.SoundBook.{MayStand, book_fault, may_stand, most_rounds, rounds_shown}
+use Rattle.firm_rules.specs.SoundBook.{book_fault, may_stand, most_rounds, rounds_shown}
 use Rattle.firm_rules.specs.declared.book.Task.{Task}
 use Rattle.firm_rules.specs.declared.books.BookFault.{BookFault}
 use Rattle.firm_rules.specs.declared.books.BookFault.TheVariants.{Cost, Life, Count, Rounds, Crowded}

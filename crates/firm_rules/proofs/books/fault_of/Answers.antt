@@ -14,7 +14,8 @@ shown : (book : Book) (most : ℕ) (passed b : Bool) → most ≡ most_rounds bo
     → passed ≡ list_all (λ task. nat_le (rounds_shown task) most) book.rows.tasks → passed ≡ b
     → list_all (λ task. nat_le (rounds_shown task) (most_rounds book)) book.rows.tasks ≡ b
 shown book most passed b is made answer =
-    ap (λ (n : ℕ). list_all (λ (task : Task). nat_le (rounds_shown task) n) book.rows.tasks) (sym is) ∙ sym made ∙ answer
+    ap (λ (n : ℕ). list_all (λ (task : Task). nat_le (rounds_shown task) n) book.rows.tasks) (sym is) ∙ sym made
+    ∙ answer
 
 stands : (book : Book) (most : ℕ) (passed b : Bool) → most ≡ most_rounds book
     → passed ≡ list_all (λ task. may_stand book.rows most task task.machine) book.rows.tasks → passed ≡ b
@@ -40,8 +41,8 @@ returns-then-given-entries_of-clause-fault c =
     let book : Book = record { rows = c.args.rows.now; costs = c.args.costs; given = c.args.given } in
     fault-count book
     (ap (list_all is_cost) (sym c.as_slice.ensures.costs) ∙ sym c.are_costs.ensures ∙ c.if-not-are_costs.false)
-    (subst (λ n. c.args.given ≤ n) (c.life-life.ensures.value ∙ ap (λ (l : TenantLimits). l.life) c.limits.ensures.limits)
-    c.if-life-given.false)
+    (subst (λ n. c.args.given ≤ n)
+    (c.life-life.ensures.value ∙ ap (λ (l : TenantLimits). l.life) c.limits.ensures.limits) c.if-life-given.false)
     (subst (λ n. c.args.given < n) c.entries_of.ensures c.if-given-entries_of.true)
 
 pub returns-then-not-are_shown-clause-fault : goal.returns-then-not-are_shown-clause-fault
@@ -49,8 +50,8 @@ returns-then-not-are_shown-clause-fault c =
     let book : Book = record { rows = c.args.rows.now; costs = c.args.costs; given = c.args.given } in
     fault-rounds book
     (ap (list_all is_cost) (sym c.as_slice.ensures.costs) ∙ sym c.are_costs.ensures ∙ c.if-not-are_costs.false)
-    (subst (λ n. c.args.given ≤ n) (c.life-life.ensures.value ∙ ap (λ (l : TenantLimits). l.life) c.limits.ensures.limits)
-    c.if-life-given.false)
+    (subst (λ n. c.args.given ≤ n)
+    (c.life-life.ensures.value ∙ ap (λ (l : TenantLimits). l.life) c.limits.ensures.limits) c.if-life-given.false)
     (subst (λ n. n ≤ c.args.given) c.entries_of.ensures c.if-given-entries_of.false)
     (shown book c.most_rounds-rounds.result c.are_shown.result false c.most_rounds-rounds.ensures c.are_shown.ensures
     c.if-not-are_shown.true)
@@ -66,8 +67,8 @@ returns-then-not-may_stand-clause-fault c =
     let book : Book = record { rows = c.args.rows.now; costs = c.args.costs; given = c.args.given } in
     fault-standing book
     (ap (list_all is_cost) (sym c.as_slice.ensures.costs) ∙ sym c.are_costs.ensures ∙ c.if-not-are_costs.false)
-    (subst (λ n. c.args.given ≤ n) (c.life-life.ensures.value ∙ ap (λ (l : TenantLimits). l.life) c.limits.ensures.limits)
-    c.if-life-given.false)
+    (subst (λ n. c.args.given ≤ n)
+    (c.life-life.ensures.value ∙ ap (λ (l : TenantLimits). l.life) c.limits.ensures.limits) c.if-life-given.false)
     (subst (λ n. n ≤ c.args.given) c.entries_of.ensures c.if-given-entries_of.false) false
     (shown book c.most_rounds-rounds.result c.are_shown.result true c.most_rounds-rounds.ensures c.are_shown.ensures
     c.if-not-are_shown.false)
@@ -86,8 +87,8 @@ returns c =
     let costs : list_all is_cost book.costs ≡ true =
     ap (list_all is_cost) (sym c.as_slice.ensures.costs) ∙ sym c.are_costs.ensures ∙ c.if-not-are_costs.false in
     let life : c.args.given ≤ c.args.rows.now.limits.life =
-    subst (λ n. c.args.given ≤ n) (c.life-life.ensures.value ∙ ap (λ (l : TenantLimits). l.life) c.limits.ensures.limits)
-    c.if-life-given.false in
+    subst (λ n. c.args.given ≤ n)
+    (c.life-life.ensures.value ∙ ap (λ (l : TenantLimits). l.life) c.limits.ensures.limits) c.if-life-given.false in
     let count : entry_count book ≤ c.args.given =
     subst (λ n. n ≤ c.args.given) c.entries_of.ensures c.if-given-entries_of.false in
     let rounds : list_all (λ task. nat_le (rounds_shown task) (most_rounds book)) book.rows.tasks ≡ true =

@@ -16,7 +16,8 @@ use Rattle.firm_rules.proofs.changes.changes_of.Goals as goal
 -- there is one choice for each task
 one_each : (rows : TenantRows) (placement : List Choice) → is_legal (case_of rows) placement ≡ true
     → length placement ≡ length rows.tasks
-one_each rows placement legal = (to_legal (case_of rows) placement legal).one_each ∙ length-map rows.tasks (demand_of rows)
+one_each rows placement legal =
+    (to_legal (case_of rows) placement legal).one_each ∙ length-map rows.tasks (demand_of rows)
 
 below : (task count long : ℕ) → task < count → count ≡ long → task < long
 below task count long l is = omega (arith, l, is)

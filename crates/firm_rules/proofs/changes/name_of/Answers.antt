@@ -1,4 +1,4 @@
-use Rattle.std.proofs.Common.{◌≡◌, ℕ, [], Option, Some, None, refl, length, sym, ap, ◌∙◌}
+use Rattle.std.proofs.Common.{◌≡◌, [], Option, Some, None, refl, length, sym, ap, ◌∙◌}
 use Rattle.std.proofs.lemmas.List.{get_or-map}
 use Rattle.std.proofs.lemmas.Option.{get_or_from_slice_get}
 use Rattle.firm_rules.specs.declared.book.Machine.{Machine}

@@ -1,14 +1,15 @@
-use Rattle.std.proofs.Common.{◌≡◌, List, [], ◌∷◌, ◌++◌, length, map, sym, ap, subst, ◌∙◌}
+use Rattle.std.proofs.Common.{List, [], ◌∷◌, ◌++◌, map, sym, ap, subst, ◌∙◌}
 use Rattle.std.proofs.lemmas.List.{map_push}
-use Rattle.firm_rules.specs.Placement.{Case, Demand as RoundDemand}
-use Rattle.firm_rules.specs.inner.Demands.{seen, case_seen, Fits, CaseFits}
+use Rattle.firm_rules.specs.Placement.{Case}
+use Rattle.firm_rules.specs.inner.Demands.{seen, case_seen, CaseFits}
 use Rattle.firm_rules.specs.declared.demands.Demand.{Demand}
 use Rattle.firm_rules.proofs.CaseSteps.{fits-with_task, seen-as}
 use Rattle.firm_rules.proofs.cases.Case.add_task.Goals as goal
 
 pub invariant_of-self : goal.invariant_of-self
 invariant_of-self g c =
-    subst (λ (l : List Demand). CaseFits (case_seen c.self.inside.limits c.self.inside.jobs c.self.inside.slots.items l))
+    subst
+    (λ (l : List Demand). CaseFits (case_seen c.self.inside.limits c.self.inside.jobs c.self.inside.slots.items l))
     (sym c.in_err-push.ensures.items) c.self.invariant
 
 pub invariant_of-self-2 : goal.invariant_of-self-2

@@ -1,4 +1,4 @@
-use Rattle.std.proofs.Common.{ℕ, ◌≡◌, ◌<◌, ◌≤◌, ◌+◌, List, ◌++◌, ◌∷◌, [], refl, ap, subst, arith, ◌∙◌}
+use Rattle.std.proofs.Common.{ℕ, ◌≡◌, ◌≤◌, ◌+◌, List, ◌++◌, ◌∷◌, [], refl, ap, subst, arith, ◌∙◌}
 use Rattle.std.specs.Map.{keys_of}
 use Rattle.firm_rules.specs.Book.{TenantRows, machine_names}
 use Rattle.firm_rules.specs.Names.{is_among}

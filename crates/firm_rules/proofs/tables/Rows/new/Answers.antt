@@ -1,7 +1,6 @@
-use Rattle.std.proofs.Common.{◌≡◌, ℕ, true, List, [], refl, sym, ap, subst, ◌∙◌}
+use Rattle.std.proofs.Common.{◌≡◌, ℕ, true, List, [], refl, ap, ◌∙◌}
 use Rattle.firm_rules.specs.Limits.{TenantLimits, are_limits}
-use Rattle.firm_rules.specs.Book.{TenantRows, opening_rows}
-use Rattle.firm_rules.specs.Placement.{Case}
+use Rattle.firm_rules.specs.Book.{opening_rows}
 use Rattle.firm_rules.specs.Round.{case_of}
 use Rattle.firm_rules.specs.inner.Tables.{AreTablesAndCase, rows_in}
 use Rattle.firm_rules.specs.declared.book.Machine.{Machine}

@@ -1,4 +1,4 @@
-use Rattle.std.proofs.Common.{◌≡◌, ◌<◌, ◌≤◌, ◌+◌, ◌-◌, ℕ, Bool, true, false, Option, IfSome, length, set, sym, ap, subst}
+use Rattle.std.proofs.Common.{◌≡◌, ◌<◌, ◌≤◌, ◌+◌, ◌-◌, ℕ, Bool, true, false, Option, IfSome, set, sym, ap, subst}
 use Rattle.std.proofs.Common.{◌∙◌, arith}
 use mir.Syntax.{w64}
 use mir.Val.{Fits}

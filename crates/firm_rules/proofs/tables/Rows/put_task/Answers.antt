@@ -9,7 +9,8 @@ use Rattle.firm_rules.specs.Round.{demand_of}
 use Rattle.firm_rules.specs.declared.book.Task.{Task}
 use Rattle.firm_rules.proofs.SoundRows.{one_if, one_if-from_bool}
 use Rattle.firm_rules.proofs.TableLemmas.{tables-with_restored}
-use Rattle.firm_rules.proofs.CaseKept.{kept, sound-rows, slots-counted, unchanged, room-for_task, preferences-few, running-few, few-fit}
+use Rattle.firm_rules.proofs.CaseKept.{kept, sound-rows, slots-counted, unchanged, room-for_task, preferences-few}
+use Rattle.firm_rules.proofs.CaseKept.{running-few, few-fit}
 use Rattle.firm_rules.proofs.CaseLaws.{case-with_restored}
 use Rattle.firm_rules.proofs.tables.Rows.put_task.Goals as goal
 
