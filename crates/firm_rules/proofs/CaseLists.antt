@@ -8,6 +8,7 @@ use Rattle.std.specs.List.{All, flat_map, list_all, position_or_len}
 use Rattle.std.proofs.Math.Bool.{and-true}
 use Rattle.std.proofs.lemmas.Bool.{cases_lt, eq-eqb, le-ltb, ltb-false}
 use Rattle.std.proofs.lemmas.List.{take_all, take_more, map_push, get_or-map, get_or_past, length-map}
+use Rattle.std.proofs.lemmas.List.Elements.{All-push}
 use Rattle.std.proofs.lemmas.List.Folds.{list_all-append}
 use Rattle.std.proofs.lemmas.List.Sums.{prefix_len-le-length}
 use Rattle.std.proofs.lemmas.Option.{slice_get_within, slice_get-get_or, get_or_from_slice_get}
@@ -68,6 +69,21 @@ grown_all f xs ys i n made all past = made ∙ ap (map f) (take_all i xs (omega 
 pub read_below : {X : Type 0} (xs : List X) (i n : ℕ) (d : X) → i < n → n ≡ length xs
     → slice_get xs i ≡ Some (slice_index_or xs i d)
 read_below xs i n d below all = slice_get-get_or xs i d (omega (arith, below, all))
+
+-- one more is pushed where there is room for 4
+pub word-small : 24 < 9223372036854775808
+word-small = omega arith
+
+pub room-for_fourth : (now i n : ℕ) → now ≡ i → i < n → n ≤ 4 → now < 4
+room-for_fourth now i n is below few = omega (arith, is, below, few)
+
+pub one-more : (now before i : ℕ) → now ≡ before + 1 → before ≡ i → now ≡ i + 1
+one-more now before i more is = more ∙ ap (λ (n : ℕ). n + 1) is
+
+-- what holds of all holds with one more
+pub all-pushed : {X : Type 0} (P : X → Type 0) (now new : List X) (x : X) → new ≡ now ++ x ∷ [] → All P now → P x
+    → All P new
+all-pushed P now new x more before here = subst (All P) (sym more) (All-push P now x before here)
 
 -- no weight is above a million
 pub weight-le : (rows : TenantRows) (place : ℕ)

@@ -1,4 +1,4 @@
-use Rattle.std.proofs.Common.{◌<◌, length, arith, refl, ap, sym, ◌∙◌}
+use Rattle.std.proofs.Common.{◌<◌, length, arith, refl, ap, sym, subst, ◌∙◌}
 use Rattle.std.specs.Prelude.{slice_index_or}
 use Rattle.indexmap.specs.IndexMap.{keys, values}
 use Rattle.std.proofs.lemmas.List.{take_all}
@@ -96,3 +96,12 @@ returns-clause-running g c =
     (take_all c.loop-place.place target (omega (arith, long, c.loop-place-test.false, c.requires.one_each)))
     ∙ ap running_count (sym (c.loop-place.invariant.1
     ∙ written-all target old c.loop-place.place long (omega (arith, c.loop-place-test.false, c.requires.one_each))))
+
+pub bounds-choices-place : goal.bounds-choices-place
+bounds-choices-place g c = c.loop-place-test.true
+
+pub stays-requires : goal.stays-requires
+stays-requires g c = subst (λ n. c.loop-place.place < n) c.requires.demands c.loop-place-test.true
+
+pub settle_at-running-requires-clause-machine : goal.settle_at-running-requires-clause-machine
+settle_at-running-requires-clause-machine g c = c.requires.places c.loop-place.place any_choice c.loop-place-test.true

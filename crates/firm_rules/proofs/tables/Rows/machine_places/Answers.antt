@@ -1,5 +1,5 @@
-use Rattle.std.proofs.Common.{◌≡◌, ◌<◌, ◌≤◌, ◌+◌, ◌++◌, ◌∷◌, ℕ, true, List, [], length, get_or, take, bytes_eq, is_some}
-use Rattle.std.proofs.Common.{refl, sym, ap, subst, ◌∙◌, arith}
+use Rattle.std.proofs.Common.{◌≡◌, ◌<◌, ◌+◌, ◌++◌, ◌∷◌, ℕ, true, List, [], length, get_or, take, bytes_eq, is_some}
+use Rattle.std.proofs.Common.{refl, sym, ap, subst, ◌∙◌}
 use Rattle.std.specs.List.{All}
 use Rattle.std.proofs.lemmas.List.{take_all, take_more}
 use Rattle.std.proofs.lemmas.List.Sums.{list_all-from_AllPass}
@@ -9,17 +9,9 @@ use Rattle.std.proofs.lemmas.Option.{slice_get_read}
 use Rattle.firm_rules.specs.Book.{machine_names}
 use Rattle.firm_rules.specs.Names.{is_among}
 use Rattle.firm_rules.specs.Round.{place_of}
-use Rattle.firm_rules.proofs.CaseLists.{first_found, grown_all, grown_by}
+use Rattle.firm_rules.proofs.CaseLists.{all-pushed, first_found, grown_all, grown_by, one-more, room-for_fourth}
+use Rattle.firm_rules.proofs.CaseLists.{word-small}
 use Rattle.firm_rules.proofs.tables.Rows.machine_places.Goals as goal
-
-small : 24 < 9223372036854775808
-small = omega arith
-
-room : (now i n : ℕ) → now ≡ i → i < n → n ≤ 4 → now < 4
-room now i n is below few = omega (arith, is, below, few)
-
-next : (now before i : ℕ) → now ≡ before + 1 → before ≡ i → now ≡ i + 1
-next now before i more is = more ∙ ap (λ (n : ℕ). n + 1) is
 
 -- one more of a list
 grown : {X : Type 0} (P : X → Type 0) (xs : List X) (i : ℕ) (x : X) → i < length xs → x ≡ get_or xs i x
@@ -28,9 +20,6 @@ grown {X} P xs i x below is before here =
     let more : take (i + 1) xs ≡ take i xs ++ x ∷ [] =
     take_more xs i x below ∙ ap (λ (y : X). take i xs ++ y ∷ []) (sym is) in
     subst (All P) (sym more) (All-push P (take i xs) x before here)
-
-pushed : {X : Type 0} (P : X → Type 0) (now new : List X) (x : X) → new ≡ now ++ x ∷ [] → All P now → P x → All P new
-pushed P now new x more before here = subst (All P) (sym more) (All-push P now x before here)
 
 pub returns-clause-found : goal.returns-clause-found
 returns-clause-found g c =
@@ -50,9 +39,9 @@ loop-name-init g c = record {
 
 pub push-requires : goal.push-requires
 push-requires g c = (
-  small,
-  room (length c.loop-name.places.items) c.loop-name.name-index (length c.args.names.now) c.loop-name.invariant.count
-      c.loop-name-test.true c.requires.few,
+  word-small,
+  room-for_fourth (length c.loop-name.places.items) c.loop-name.name-index (length c.args.names.now)
+      c.loop-name.invariant.count c.loop-name-test.true c.requires.few,
 )
 
 pub loop-name-preserved : goal.loop-name-preserved
@@ -63,13 +52,13 @@ loop-name-preserved g c =
     let name : List ℕ = c.name-item.result in
     let place : ℕ = c.in_ok-place.place in
     record {
-      count = next (length c.push.new.self.items) (length c.loop-name.places.items) i c.push.ensures.len
+      count = one-more (length c.push.new.self.items) (length c.loop-name.places.items) i c.push.ensures.len
           c.loop-name.invariant.count;
       items = grown_by (place_of rows) names i name c.loop-name.places.items c.push.new.self.items place
           (slice_get_read names (length names) i name refl c.loop-name-test.true c.name-item.is)
           c.loop-name.invariant.items c.push.ensures.items
           (first_found (bytes_eq name) (machine_names rows) place (sym c.in_ok-place.ensures.place));
-      below = pushed (λ place. place < length rows.machines) c.loop-name.places.items c.push.new.self.items place
+      below = all-pushed (λ place. place < length rows.machines) c.loop-name.places.items c.push.new.self.items place
           c.push.ensures.items c.loop-name.invariant.below c.in_ok-place.ensures.below;
       there = grown (λ name. is_among (machine_names rows) name ≡ true) names i name c.loop-name-test.true
           c.name-item.is c.loop-name.invariant.there (sym c.in_ok-place.ensures.found);
