@@ -50,8 +50,8 @@ fn put_operator_words(text: &mut Vec<u8>, reply: OperatorReply) -> Result<(), Al
     ensures added { OnOk result (text.new.items ≡ text.old.items ++ flat_map spaced (operator_reply_words reply)) }
 {
     match reply {
-        OperatorReply::Admitted(name) => put_three(text, b"ok", b"admitted", name.as_bytes()),
-        OperatorReply::Retired(name) => put_three(text, b"ok", b"retired", name.as_bytes()),
+        OperatorReply::Admitted(name) => put_after(text, b" ok admitted ", name.as_bytes()),
+        OperatorReply::Retired(name) => put_after(text, b" ok retired ", name.as_bytes()),
         OperatorReply::Refused(refusal) => put_refusal(text, refusal.code(), refusal.name()),
     }
 }
@@ -64,7 +64,7 @@ fn put_outcome(text: &mut Vec<u8>, outcome: &Outcome) -> Result<(), AllocError>
     match outcome {
         Outcome::Plain => put(text, b"ok"),
         Outcome::Evicted(tasks) => put_labelled(text, b" ok evicted ", u64::from(*tasks)),
-        Outcome::At(machine) => put_three(text, b"ok", b"at", machine.as_bytes()),
+        Outcome::At(machine) => put_after(text, b" ok at ", machine.as_bytes()),
         Outcome::Waits(rounds) => put_labelled(text, b" ok waits ", u64::from(*rounds)),
         Outcome::Shown {
             machines,
@@ -79,16 +79,8 @@ fn put_outcome(text: &mut Vec<u8>, outcome: &Outcome) -> Result<(), AllocError>
             put_rows(text, *machines, *jobs, *tasks, *running)?;
             put_use(text, *nodes, *nodes_limit, *arcs, *arcs_limit)
         }
-        Outcome::Costs(costs) => {
-            put(text, b"ok")?;
-            put(text, b"costs")?;
-            put_costs(text, costs.as_slice())
-        }
-        Outcome::Round { cost, changes } => {
-            put_three(text, b"ok", b"round", b"cost")?;
-            put_cost(text, *cost)?;
-            put_changes(text, changes.as_slice())
-        }
+        Outcome::Costs(costs) => put_costs(text, costs.as_slice()),
+        Outcome::Round { cost, changes } => put_round(text, *cost, changes.as_slice()),
         Outcome::Refused(refusal) => put_refusal(text, refusal.code(), refusal.name()),
     }
 }
@@ -104,9 +96,19 @@ fn put_refusal(text: &mut Vec<u8>, code: u32, name: &str) -> Result<(), AllocErr
     put(text, name.as_bytes())
 }
 
-/// Adds the costs of rounds.
+/// Adds `ok costs`, and the costs of rounds.
 #[tactic(auto, using(crate::proofs::Puts::kept_trans))]
 fn put_costs(text: &mut Vec<u8>, costs: &[i64]) -> Result<(), AllocError>
+    ensures kept { StartsWith text.new.items text.old.items }
+    ensures added { OnOk result (text.new.items
+        ≡ text.old.items ++ flat_map spaced (codes "ok" ∷ codes "costs" ∷ map signed_decimal costs.now)) }
+{
+    text.extend_from_slice(b" ok costs")?;
+    put_each_cost(text, costs)
+}
+
+#[tactic(auto, using(crate::proofs::Puts::kept_trans))]
+fn put_each_cost(text: &mut Vec<u8>, costs: &[i64]) -> Result<(), AllocError>
     ensures kept { StartsWith text.new.items text.old.items }
     ensures added { OnOk result (text.new.items ≡ text.old.items ++ flat_map spaced (map signed_decimal costs.now)) }
 {
@@ -114,6 +116,18 @@ fn put_costs(text: &mut Vec<u8>, costs: &[i64]) -> Result<(), AllocError>
         put_cost(text, *cost)?;
     }
     Ok(())
+}
+
+/// Adds `ok round cost`, the cost of a round, and what it changes.
+#[tactic(auto, using(crate::proofs::Puts::kept_trans))]
+fn put_round(text: &mut Vec<u8>, cost: i64, changes: &[Change]) -> Result<(), AllocError>
+    ensures kept { StartsWith text.new.items text.old.items }
+    ensures added { OnOk result (text.new.items ≡ text.old.items ++ flat_map spaced (codes "ok" ∷ codes "round"
+        ∷ codes "cost" ∷ signed_decimal cost ∷ flat_map change_words changes.now)) }
+{
+    text.extend_from_slice(b" ok round cost")?;
+    put_cost(text, cost)?;
+    put_changes(text, changes)
 }
 
 /// Adds what a round changes.
@@ -211,21 +225,15 @@ fn put_use(
     put_labelled(text, b" of ", arcs_limit)
 }
 
-/// Adds three words.
+/// Adds a label, which has a space at each end, and a word.
 #[tactic(auto, using(crate::proofs::Puts::kept_trans))]
-fn put_three(
-    text: &mut Vec<u8>,
-    first: &[u8],
-    second: &[u8],
-    third: &[u8],
-) -> Result<(), AllocError>
+#[inline(always)]
+fn put_after(text: &mut Vec<u8>, label: &[u8], word: &[u8]) -> Result<(), AllocError>
     ensures kept { StartsWith text.new.items text.old.items }
-    ensures added { OnOk result (text.new.items
-        ≡ text.old.items ++ flat_map spaced (first.now ∷ second.now ∷ third.now ∷ [])) }
+    ensures added { OnOk result (text.new.items ≡ text.old.items ++ label.now ++ word.now) }
 {
-    put(text, first)?;
-    put(text, second)?;
-    put(text, third)
+    text.extend_from_slice(label)?;
+    text.extend_from_slice(word)
 }
 
 /// Adds a word, and the space before it.
