@@ -1,10 +1,11 @@
 -- Words that are added to a text one group after the other.
-use Rattle.std.proofs.Common.{◌≡◌, ◌∙◌, ℕ, List, [], ◌++◌, ap, sym, append_assoc, Result, Ok, Err}
+use Rattle.std.proofs.Common.{◌≡◌, ◌∙◌, ◌+◌, ◌<◌, ◌≤◌, ℕ, List, [], ◌∷◌, ◌++◌, ap, sym, append_assoc, Result, Ok, Err}
+use Rattle.std.proofs.Common.{length, get_or, drop, add-one, drop-cons}
 use Rattle.std.specs.Prelude.{OnOk, codes}
 use Rattle.std.specs.Fmt.{decimal}
 use Rattle.std.specs.Io.{StartsWith}
 use Rattle.std.proofs.Transfers.{starts_with_trans}
-use Rattle.std.proofs.lemmas.List.{append-nil}
+use Rattle.std.proofs.lemmas.List.{append-nil, drop_all}
 use Rattle.firm_saved.specs.StateText.{row_words, words_text}
 use Rattle.firm_saved.specs.declared.rows.Row.TheVariants as row
 
@@ -43,3 +44,32 @@ place_added (Ok done) text new n e =
     e ∙ append_assoc text (codes "place admissions ") (decimal n)
     ∙ ap (λ (l : List ℕ). text ++ (codes "place admissions " ++ l)) (sym (append-nil (decimal n)))
 place_added (Err refused) text new n e = tt
+
+-- three parts that were added one after the other
+pub three_joined : (text first second new a b d all : List ℕ)
+    → first ≡ text ++ a → second ≡ first ++ b → new ≡ second ++ d → a ++ (b ++ d) ≡ all → new ≡ text ++ all
+three_joined text first second new a b d all e f g same =
+    g ∙ rw (f, e, ← same) (append_assoc (text ++ a) b d ∙ append_assoc text a (b ++ d))
+
+-- the same, where the last was added with success
+pub three_added : {A E : Type 0} (result : Result A E) (text first second new a b d all : List ℕ)
+    → first ≡ text ++ a → second ≡ first ++ b → OnOk result (new ≡ second ++ d) → a ++ (b ++ d) ≡ all
+    → OnOk result (new ≡ text ++ all)
+three_added (Ok done) text first second new a b d all e f g same =
+    three_joined text first second new a b d all e f g same
+three_added (Err refused) text first second new a b d all e f g same = tt
+
+-- a step of a loop that adds the text of one item after the other: what was added and what is left are the same text
+pub step_added : {A : Type 0} (text : List A → List ℕ) (one : A → List ℕ)
+    → ((x : A) (xs : List A) → text (x ∷ xs) ≡ one x ++ text xs)
+    → (xs : List A) (i : ℕ) (d : A) → i < length xs
+    → (new old start : List ℕ) → new ≡ old ++ one (get_or xs i d) → old ++ text (drop i xs) ≡ start
+    → new ++ text (drop (i + 1) xs) ≡ start
+step_added text one more xs i d below new old start added before =
+    rw (added, append_assoc, ← more, add-one, ← drop-cons xs i d below) before
+
+-- at the end of such a loop the text of all items was added
+pub all_added : {A : Type 0} (text : List A → List ℕ) → text [] ≡ []
+    → (xs : List A) (i : ℕ) → length xs ≤ i
+    → (new start : List ℕ) → new ++ text (drop i xs) ≡ start → new ≡ start
+all_added text none xs i past new start before = sym (append-nil new) ∙ rw (drop_all i xs past, none) at before

@@ -93,10 +93,12 @@ fn limits_at(behind: &[u8]) -> Result<(Limits, &[u8]), FaultKind>
     let (churn, behind) = labelled_at(behind)?;
     let (remote, behind) = labelled_at(behind)?;
     let (patience, behind) = patience_at(behind)?;
-    let limits = Limits::check(nodes, arcs, life, spread, churn, remote).ok_or(
-        FaultKind::BadNumber,
-    )?;
-    let limits = limits.with_patience(patience).ok_or(FaultKind::BadNumber)?;
+    let Some(limits) = Limits::check(nodes, arcs, life, spread, churn, remote) else {
+        return Err(FaultKind::BadNumber);
+    };
+    let Some(limits) = limits.with_patience(patience) else {
+        return Err(FaultKind::BadNumber);
+    };
     Ok((limits, behind))
 }
 
@@ -157,9 +159,9 @@ fn machine_row(behind: &[u8]) -> Result<Row, FaultKind>
     let (word, behind) = next_word(behind)?;
     let name = name_word(word)?;
     let (digits, _) = next_word(behind)?;
-    let slots = number(digits)
-        .and_then(Slots::check)
-        .ok_or(FaultKind::BadNumber)?;
+    let Some(slots) = number(digits).and_then(Slots::check) else {
+        return Err(FaultKind::BadNumber);
+    };
     Ok(Row::Machine(Machine { name, slots }))
 }
 
@@ -169,9 +171,9 @@ fn job_row(behind: &[u8]) -> Result<Row, FaultKind>
     let (word, behind) = next_word(behind)?;
     let name = name_word(word)?;
     let (digits, _) = next_word(behind)?;
-    let weight = number(digits)
-        .and_then(Weight::check)
-        .ok_or(FaultKind::BadNumber)?;
+    let Some(weight) = number(digits).and_then(Weight::check) else {
+        return Err(FaultKind::BadNumber);
+    };
     Ok(Row::Job(Job { name, weight }))
 }
 
@@ -182,14 +184,16 @@ fn task_row(behind: &[u8]) -> Result<Row, FaultKind>
     let job = name_word(word)?;
     let (word, behind) = next_word(behind)?;
     let name = name_word(word)?;
-    let (machine, waited, preferred) = standing_at(behind)?;
-    Ok(Row::Task(Task {
-        name,
-        job,
-        preferred,
-        machine,
-        waited,
-    }))
+    match standing_at(behind) {
+        Ok((machine, waited, preferred)) => Ok(Row::Task(Task {
+            name,
+            job,
+            preferred,
+            machine,
+            waited,
+        })),
+        Err(kind) => Err(kind),
+    }
 }
 
 fn standing_at(behind: &[u8]) -> Result<(Option<Name>, u32, Preferred), FaultKind>
@@ -198,8 +202,10 @@ fn standing_at(behind: &[u8]) -> Result<(Option<Name>, u32, Preferred), FaultKin
     let (verb, behind) = next_word(behind)?;
     let (word, behind) = next_word(behind)?;
     let (machine, waited) = standing_of(verb, word)?;
-    let preferred = preferred_at(behind)?;
-    Ok((machine, waited, preferred))
+    match preferred_at(behind) {
+        Ok(preferred) => Ok((machine, waited, preferred)),
+        Err(kind) => Err(kind),
+    }
 }
 
 fn standing_of(verb: &[u8], word: &[u8]) -> Result<(Option<Name>, u32), FaultKind>

@@ -280,14 +280,24 @@ impl TenantDraft {
             rounds: _,
             loads: _,
         } = self;
-        let costs = costs.ok_or(FaultKind::Row)?;
+        let Some(costs) = costs else {
+            return Err(FaultKind::Row);
+        };
         match Book::new(rows, costs, given) {
             Ok(book) => Ok((name, book)),
-            Err(BookFault::Cost) => Err(FaultKind::BadNumber),
-            Err(BookFault::Life | BookFault::Count) => Err(FaultKind::Commands),
-            Err(BookFault::Rounds) => Err(FaultKind::Rounds),
-            Err(BookFault::Crowded) => Err(FaultKind::Crowded),
+            Err(fault) => Err(kind_of(fault)),
         }
+    }
+}
+
+fn kind_of(fault: BookFault) -> FaultKind
+    ensures { result ≡ kind_of fault }
+{
+    match fault {
+        BookFault::Cost => FaultKind::BadNumber,
+        BookFault::Life | BookFault::Count => FaultKind::Commands,
+        BookFault::Rounds => FaultKind::Rounds,
+        BookFault::Crowded => FaultKind::Crowded,
     }
 }
 

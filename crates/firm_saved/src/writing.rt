@@ -1,5 +1,5 @@
 //! Writing the text of a state.
-ghost use Rattle.std.specs.Prelude.{◌≡◌, ◌∷◌, ◌++◌, [], All, List, ℕ, OnOk, IfOk, ◌≤◌, map, codes, length, take};
+ghost use Rattle.std.specs.Prelude.{◌≡◌, ◌∷◌, ◌++◌, ◌+◌, [], All, List, ℕ, OnOk, IfOk, ◌≤◌, map, codes, length, take};
 ghost use Rattle.std.specs.Io.{StartsWith};
 ghost use Rattle.std.specs.List.{flat_map};
 ghost use Rattle.std.specs.Fmt.{decimal, signed_decimal};
@@ -142,13 +142,30 @@ pub fn put_book(
 {
     put_row(output, &Row::Tenant(name, rows.limits(), given))?;
     put_row(output, &Row::Costs(costs))?;
-    put_machines(output, rows)?;
-    put_jobs(output, rows)?;
-    put_tasks(output, rows)?;
+    put_rows(output, rows)?;
+    Ok(2 + row_count(rows))
+}
+
+// How many machines, jobs and tasks there are.
+fn row_count(rows: &Rows) -> u64
+    ensures count { result ≡ length rows.now.machines + length rows.now.jobs + length rows.now.tasks }
+    ensures few { result ≤ 4094 }
+{
     // The rows fit the limits, so no sum wraps.
     prove!(rows.limits().nodes() <= 4_096);
     let kept = rows.machine_count() + rows.job_count() + rows.task_count();
-    Ok(2 + kept as u64)
+    kept as u64
+}
+
+#[tactic(auto, using(crate::proofs::Puts::kept_trans))]
+fn put_rows(output: &mut Vec<u8>, rows: &Rows) -> Result<(), AllocError>
+    ensures kept { StartsWith output.new.items output.old.items }
+    ensures added { OnOk result (output.new.items ≡ output.old.items ++ flat_map row_text
+        (map row.Machine rows.now.machines ++ map row.Job rows.now.jobs ++ map row.Task rows.now.tasks)) }
+{
+    put_machines(output, rows)?;
+    put_jobs(output, rows)?;
+    put_tasks(output, rows)
 }
 
 #[tactic(auto, using(crate::proofs::Puts::kept_trans))]
@@ -214,8 +231,7 @@ fn put_tenant(
     ensures added { OnOk result (output.new.items ≡ output.old.items
         ++ words_text (row_words (row.Tenant name limits.now given))) }
 {
-    output.extend_from_slice(b"tenant ")?;
-    output.extend_from_slice(name.as_bytes())?;
+    put_after(output, b"tenant ", name.as_bytes())?;
     put_limits(output, limits)?;
     put_labelled(output, b" commands ", given)
 }
@@ -282,8 +298,7 @@ fn put_machine(output: &mut Vec<u8>, machine: &Machine) -> Result<(), AllocError
     ensures added { OnOk result (output.new.items ≡ output.old.items
         ++ words_text (row_words (row.Machine machine.now))) }
 {
-    output.extend_from_slice(b"machine ")?;
-    output.extend_from_slice(machine.name.as_bytes())?;
+    put_after(output, b"machine ", machine.name.as_bytes())?;
     put_labelled(output, b" ", u64::from(machine.slots.get()))
 }
 
@@ -292,8 +307,7 @@ fn put_job(output: &mut Vec<u8>, job: &Job) -> Result<(), AllocError>
     ensures kept { StartsWith output.new.items output.old.items }
     ensures added { OnOk result (output.new.items ≡ output.old.items ++ words_text (row_words (row.Job job.now))) }
 {
-    output.extend_from_slice(b"job ")?;
-    output.extend_from_slice(job.name.as_bytes())?;
+    put_after(output, b"job ", job.name.as_bytes())?;
     put_labelled(output, b" ", u64::from(job.weight.get()))
 }
 
@@ -302,8 +316,7 @@ fn put_task(output: &mut Vec<u8>, task: &Task) -> Result<(), AllocError>
     ensures kept { StartsWith output.new.items output.old.items }
     ensures added { OnOk result (output.new.items ≡ output.old.items ++ words_text (row_words (row.Task task.now))) }
 {
-    output.extend_from_slice(b"task ")?;
-    output.extend_from_slice(task.job.as_bytes())?;
+    put_after(output, b"task ", task.job.as_bytes())?;
     put_word(output, task.name.as_bytes())?;
     put_standing(output, task.machine, task.waited)?;
     put_preferences(output, task.preferred.as_slice())
@@ -316,10 +329,7 @@ fn put_standing(output: &mut Vec<u8>, machine: Option<Name>, waited: u32) -> Res
         ++ flat_map spaced (standing_words machine waited)) }
 {
     match machine {
-        Some(machine) => {
-            output.extend_from_slice(b" at")?;
-            put_word(output, machine.as_bytes())
-        }
+        Some(machine) => put_after(output, b" at ", machine.as_bytes()),
         None => put_labelled(output, b" waits ", u64::from(waited)),
     }
 }
@@ -354,6 +364,16 @@ fn put_word(output: &mut Vec<u8>, word: &[u8]) -> Result<(), AllocError>
     ensures added { OnOk result (output.new.items ≡ output.old.items ++ spaced word.now) }
 {
     output.push(b' ')?;
+    output.extend_from_slice(word)
+}
+
+// Adds a label, which ends in a space, and a word.
+#[tactic(auto, using(crate::proofs::Puts::kept_trans))]
+fn put_after(output: &mut Vec<u8>, label: &[u8], word: &[u8]) -> Result<(), AllocError>
+    ensures kept { StartsWith output.new.items output.old.items }
+    ensures added { OnOk result (output.new.items ≡ output.old.items ++ label.now ++ word.now) }
+{
+    output.extend_from_slice(label)?;
     output.extend_from_slice(word)
 }
 

@@ -2,7 +2,7 @@ use Rattle.std.proofs.Common.{refl}
 use Rattle.std.specs.List.{flat_map}
 use Rattle.firm_text.specs.Replies.{spaced}
 use Rattle.firm_saved.specs.StateText.{limits_words, patience_words}
-use Rattle.firm_saved.proofs.Puts.{labels_added}
+use Rattle.firm_saved.proofs.Puts.{kept_trans, labels_added}
 use Rattle.firm_saved.proofs.writing.put_limits.Goals as goal
 
 pub returns-clause-added : goal.returns-clause-added
@@ -24,3 +24,21 @@ returns-clause-added c =
       c.remote.ensures.value,
       c.patience.ensures.value,
     ) refl)
+
+pub returns-in_err-put_labelled-2-clause-kept : goal.returns-in_err-put_labelled-2-clause-kept
+returns-in_err-put_labelled-2-clause-kept c = kept_trans _ _ _ c.put_labelled-2.ensures.kept c.put_labelled.ensures.kept
+
+pub returns-in_err-put_labelled-3-clause-kept : goal.returns-in_err-put_labelled-3-clause-kept
+returns-in_err-put_labelled-3-clause-kept c = kept_trans _ _ _ c.put_labelled-3.ensures.kept (kept_trans _ _ _ c.put_labelled-2.ensures.kept c.put_labelled.ensures.kept)
+
+pub returns-in_err-put_labelled-4-clause-kept : goal.returns-in_err-put_labelled-4-clause-kept
+returns-in_err-put_labelled-4-clause-kept c = kept_trans _ _ _ c.put_labelled-4.ensures.kept (kept_trans _ _ _ c.put_labelled-3.ensures.kept (kept_trans _ _ _ c.put_labelled-2.ensures.kept c.put_labelled.ensures.kept))
+
+pub returns-in_err-put_labelled-5-clause-kept : goal.returns-in_err-put_labelled-5-clause-kept
+returns-in_err-put_labelled-5-clause-kept c = kept_trans _ _ _ c.put_labelled-5.ensures.kept (kept_trans _ _ _ c.put_labelled-4.ensures.kept (kept_trans _ _ _ c.put_labelled-3.ensures.kept (kept_trans _ _ _ c.put_labelled-2.ensures.kept c.put_labelled.ensures.kept)))
+
+pub returns-in_err-put_labelled-6-clause-kept : goal.returns-in_err-put_labelled-6-clause-kept
+returns-in_err-put_labelled-6-clause-kept c = kept_trans _ _ _ c.put_labelled-6.ensures.kept (kept_trans _ _ _ c.put_labelled-5.ensures.kept (kept_trans _ _ _ c.put_labelled-4.ensures.kept (kept_trans _ _ _ c.put_labelled-3.ensures.kept (kept_trans _ _ _ c.put_labelled-2.ensures.kept c.put_labelled.ensures.kept))))
+
+pub returns-clause-kept : goal.returns-clause-kept
+returns-clause-kept c = kept_trans _ _ _ c.put_patience.ensures.kept (kept_trans _ _ _ c.put_labelled-6.ensures.kept (kept_trans _ _ _ c.put_labelled-5.ensures.kept (kept_trans _ _ _ c.put_labelled-4.ensures.kept (kept_trans _ _ _ c.put_labelled-3.ensures.kept (kept_trans _ _ _ c.put_labelled-2.ensures.kept c.put_labelled.ensures.kept)))))

@@ -1,11 +1,11 @@
-use Rattle.std.proofs.Common.{◌≡◌, ◌∙◌, ◌+◌, ◌++◌, ◌∷◌, List, ℕ, ap, sym, arith, append_assoc, drop, length}
+use Rattle.std.proofs.Common.{◌≡◌, ◌∙◌, ◌+◌, ◌++◌, ◌∷◌, List, ℕ, ap, sym, arith, append_assoc, drop, length, refl}
 use Rattle.std.specs.List.{flat_map}
 use Rattle.std.proofs.lemmas.List.{drop_more, length-append}
 use Rattle.std.proofs.lemmas.List.Concat.{flat_map-append}
 use Rattle.firm_saved.specs.StateText.{place_rows, row_text}
 use Rattle.firm_saved.specs.declared.rows.Row.{Row}
 use Rattle.firm_saved.specs.declared.saved.SavedPlace.{SavedPlace}
-use Rattle.firm_saved.proofs.Puts.{kept_trans}
+use Rattle.firm_saved.proofs.Puts.{all_added, kept_trans}
 use Rattle.firm_saved.proofs.writing.put_places.Goals as goal
 
 pub loop-place-preserved : goal.loop-place-preserved
@@ -34,3 +34,11 @@ loop-place-preserved c =
       counted = let all = known.counted in omega arith;
       few = let all = known.few in omega arith;
     }
+
+pub returns-in_err-count-clause-kept : goal.returns-in_err-count-clause-kept
+returns-in_err-count-clause-kept c = kept_trans _ _ _ c.put_place.ensures.kept c.loop-place.invariant.kept
+
+pub returns-clause-added : goal.returns-clause-added
+returns-clause-added c =
+    all_added (λ places. flat_map row_text (flat_map place_rows places)) refl c.args.places.now
+    c.loop-place.place-index c.loop-place-test.false _ _ c.loop-place.invariant.added

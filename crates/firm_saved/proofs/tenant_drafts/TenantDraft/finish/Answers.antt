@@ -1,6 +1,5 @@
 use Rattle.std.proofs.Common.{◌≡◌, ◌∙◌, ℕ, List, Option, Some, Result, Ok, refl, sym, ap}
 use Rattle.std.specs.Prelude.{ℤ, option_map}
-use Rattle.std.specs.Result.{result_ok}
 use Rattle.firm_rules.specs.Book.{Book}
 use Rattle.firm_rules.specs.SoundBook.{book_fault}
 use Rattle.firm_saved.specs.declared.faults.FaultKind.{FaultKind}
@@ -11,9 +10,8 @@ use Rattle.firm_saved.proofs.tenant_drafts.TenantDraft.finish.Goals as goal
 
 pub returns-in-Ok-clause-value : goal.returns-in-Ok-clause-value
 returns-in-Ok-clause-value c =
-    let book : Book = record { rows = c.args.self.rows; costs = c.in_ok-costs.costs; given = c.args.self.given } in
-    let costs : c.args.self.costs ≡ Some c.in_ok-costs.costs =
-    c.ok_or.ensures.ok_part ∙ ap result_ok c.in_ok-costs.was in
+    let book : Book = record { rows = c.args.self.rows; costs = c.in-Some.costs; given = c.args.self.given } in
+    let costs : c.args.self.costs ≡ Some c.in-Some.costs = c.in-Some.is in
     ap (λ (b : Book). let r : Result (List ℕ × Book) FaultKind = Ok (c.args.self.name, b) in r) c.in-Ok.ensures.ok
     ∙ sym (ap (λ (o : Option (List ℤ)). booked (view c.args.self) o) costs
     ∙ unless_none (option_map kind_of (book_fault book)) (c.args.self.name, book)

@@ -1,0 +1,27 @@
+use Rattle.std.proofs.Common.{map, ◌++◌, ap, refl}
+use Rattle.std.specs.List.{flat_map}
+use Rattle.firm_saved.specs.StateText.{row_text}
+use Rattle.firm_saved.specs.declared.rows.Row.TheVariants as row
+use Rattle.firm_saved.proofs.Puts.{kept_trans, three_joined}
+use Rattle.firm_saved.proofs.writing.put_book.Goals as goal
+
+pub returns-clause-added : goal.returns-clause-added
+returns-clause-added c =
+    let rows = c.args.rows.now in
+    three_joined c.args.output.now.items c.put_row.new.output.items c.put_row-2.new.output.items
+    c.put_rows.new.output.items (row_text (row.Tenant c.args.name c.limits.result c.args.given))
+    (row_text (row.Costs c.args.costs))
+    (flat_map row_text (map row.Machine rows.machines ++ map row.Job rows.jobs ++ map row.Task rows.tasks)) _
+    c.in_ok-put_row.ensures.added c.in_ok-put_row-2.ensures.added c.in_ok-put_rows.ensures.added
+    (rw c.limits.ensures.limits refl)
+
+pub returns-in_err-put_row-2-clause-kept : goal.returns-in_err-put_row-2-clause-kept
+returns-in_err-put_row-2-clause-kept c = kept_trans _ _ _ c.put_row-2.ensures.kept c.put_row.ensures.kept
+
+pub returns-in_err-put_rows-clause-kept : goal.returns-in_err-put_rows-clause-kept
+returns-in_err-put_rows-clause-kept c =
+    kept_trans _ _ _ c.put_rows.ensures.kept (kept_trans _ _ _ c.put_row-2.ensures.kept c.put_row.ensures.kept)
+
+pub returns-clause-kept : goal.returns-clause-kept
+returns-clause-kept c =
+    kept_trans _ _ _ c.put_rows.ensures.kept (kept_trans _ _ _ c.put_row-2.ensures.kept c.put_row.ensures.kept)

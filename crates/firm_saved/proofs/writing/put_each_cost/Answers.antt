@@ -1,0 +1,25 @@
+use Rattle.std.proofs.Common.{map, refl, ◌≡◌, ◌++◌, get_or, pos, rules}
+use Rattle.std.specs.List.{flat_map}
+use Rattle.std.specs.Fmt.{signed_decimal}
+use Rattle.firm_text.specs.Replies.{spaced}
+use Rattle.firm_saved.proofs.Puts.{all_added, kept_trans, step_added}
+use Rattle.firm_saved.proofs.writing.put_each_cost.Goals as goal
+
+pub loop-cost-preserved : goal.loop-cost-preserved
+loop-cost-preserved c =
+    let put : c.put_cost.new.output.items ≡ c.loop-cost.output.items
+    ++ spaced (signed_decimal (get_or c.args.costs.now c.loop-cost.cost-index (pos 0))) = search rules in
+    record {
+      kept = kept_trans _ _ _ c.put_cost.ensures.kept c.loop-cost.invariant.kept;
+      added = step_added (λ costs. flat_map spaced (map signed_decimal costs)) (λ cost. spaced (signed_decimal cost))
+          (λ _ _. refl) c.args.costs.now c.loop-cost.cost-index _ c.loop-cost-test.true _ _ _ put
+          c.loop-cost.invariant.added;
+    }
+
+pub returns-in_err-put_cost-clause-kept : goal.returns-in_err-put_cost-clause-kept
+returns-in_err-put_cost-clause-kept c = kept_trans _ _ _ c.put_cost.ensures.kept c.loop-cost.invariant.kept
+
+pub returns-clause-added : goal.returns-clause-added
+returns-clause-added c =
+    all_added (λ costs. flat_map spaced (map signed_decimal costs)) refl c.args.costs.now c.loop-cost.cost-index
+    c.loop-cost-test.false _ _ c.loop-cost.invariant.added
