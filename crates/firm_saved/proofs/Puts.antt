@@ -4,7 +4,7 @@ use Rattle.std.proofs.Common.{length, get_or, drop, add-one, drop-cons}
 use Rattle.std.specs.Prelude.{OnOk, codes}
 use Rattle.std.specs.Fmt.{decimal}
 use Rattle.std.specs.Io.{StartsWith}
-use Rattle.std.proofs.Transfers.{starts_with_trans}
+use Rattle.std.proofs.Transfers.{starts_with_of_append, starts_with_trans}
 use Rattle.std.proofs.lemmas.List.{append-nil, drop_all}
 use Rattle.firm_saved.specs.StateText.{row_words, words_text}
 use Rattle.firm_saved.specs.declared.rows.Row.TheVariants as row
@@ -12,6 +12,11 @@ use Rattle.firm_saved.specs.declared.rows.Row.TheVariants as row
 -- what is kept of a text that was kept
 pub kept_trans : (xs ys zs : List ℕ) → StartsWith xs ys → StartsWith ys zs → StartsWith xs zs
 kept_trans = starts_with_trans
+
+-- what is kept of a text to which something was added, and then of what that gave
+pub kept_after : (new first text xs : List ℕ) → first ≡ text ++ xs → StartsWith new first → StartsWith new text
+kept_after new first text xs added kept =
+    starts_with_trans new first text kept (starts_with_of_append first text xs added)
 
 six_labels : (text a i b j c k d l e m f n last : List ℕ)
     → text ++ a ++ i ++ b ++ j ++ c ++ k ++ d ++ l ++ e ++ m ++ f ++ n ++ last
@@ -73,3 +78,16 @@ pub all_added : {A : Type 0} (text : List A → List ℕ) → text [] ≡ []
     → (xs : List A) (i : ℕ) → length xs ≤ i
     → (new start : List ℕ) → new ++ text (drop i xs) ≡ start → new ≡ start
 all_added text none xs i past new start before = sym (append-nil new) ∙ rw (drop_all i xs past, none) at before
+
+-- a step of a loop over an iterator that adds the text of one item after the other
+pub item_added : {A : Type 0} (text : List A → List ℕ) (one : A → List ℕ)
+    → ((x : A) (xs : List A) → text (x ∷ xs) ≡ one x ++ text xs)
+    → (all rest : List A) (x : A) → all ≡ x ∷ rest
+    → (new old start : List ℕ) → new ≡ old ++ one x → old ++ text all ≡ start → new ++ text rest ≡ start
+item_added text one more all rest x is new old start added before =
+    rw (added, append_assoc, ← more, ← is) before
+
+-- at the end of such a loop the text of all items was added
+pub items_added : {A : Type 0} (text : List A → List ℕ) → text [] ≡ [] → (all : List A) → all ≡ []
+    → (new start : List ℕ) → new ++ text all ≡ start → new ≡ start
+items_added text none all end new start before = sym (append-nil new) ∙ rw (end, none) at before

@@ -1,4 +1,4 @@
-use Rattle.std.proofs.Common.{map, ◌++◌, ap, refl}
+use Rattle.std.proofs.Common.{map, ◌++◌, refl}
 use Rattle.std.specs.List.{flat_map}
 use Rattle.firm_saved.specs.StateText.{row_text}
 use Rattle.firm_saved.specs.declared.rows.Row.TheVariants as row

@@ -5,7 +5,7 @@ use Rattle.firm_saved.specs.StateText.{book_rows, place_rows, row_text, tenant_r
 use Rattle.firm_saved.specs.declared.rows.Row.{Row}
 use Rattle.firm_saved.specs.declared.rows.Row.TheVariants as row
 use Rattle.firm_saved.specs.declared.saved.SavedPlace.{SavedPlace}
-use Rattle.firm_saved.proofs.Puts.{two_added}
+use Rattle.firm_saved.proofs.Puts.{kept_trans, two_added}
 use Rattle.firm_saved.proofs.writing.put_place.Goals as goal
 
 pub returns-in_ok-count-in-Some-clause-added : goal.returns-in_ok-count-in-Some-clause-added
@@ -23,3 +23,9 @@ returns-in_ok-count-in-Some-clause-added c =
     (c.in_ok-count-in-Some.ensures.added
     ∙ ap (λ (b : Book). first ++ flat_map row_text (book_rows c.in-Some.name b)) book
     ∙ ap (λ (l : List Row). first ++ flat_map row_text l) (sym rows)) refl
+
+pub returns-in_err-count-in-Some-clause-kept : goal.returns-in_err-count-in-Some-clause-kept
+returns-in_err-count-in-Some-clause-kept c = kept_trans _ _ _ c.put_book.ensures.kept c.put_row.ensures.kept
+
+pub returns-in_ok-count-in-Some-clause-kept : goal.returns-in_ok-count-in-Some-clause-kept
+returns-in_ok-count-in-Some-clause-kept c = kept_trans _ _ _ c.put_book.ensures.kept c.put_row.ensures.kept

@@ -4,6 +4,7 @@ use Rattle.firm_saved.specs.Saved.{entry_of}
 use Rattle.firm_saved.specs.StateText.{given_places}
 use Rattle.firm_saved.specs.declared.saved.SavedPlace.{SavedPlace}
 use Rattle.firm_saved.proofs.Places.{given_sound}
+use Rattle.firm_saved.proofs.Puts.{kept_trans}
 use Rattle.firm_saved.proofs.writing.put_state.Goals as goal
 
 pub given_places-requires : goal.given_places-requires
@@ -23,3 +24,11 @@ put_places-requires c =
       ap (λ (l : List SavedPlace). length (given_places l)) c.places.ensures.places,
       (given_sound c.args.saved.now c.places.ensures.sound).few,
     )
+
+pub returns-in_err-count-clause-kept : goal.returns-in_err-count-clause-kept
+returns-in_err-count-clause-kept c = kept_trans _ _ _ c.put_places.ensures.kept c.put_heading.ensures.kept
+
+pub returns-clause-kept : goal.returns-clause-kept
+returns-clause-kept c =
+    kept_trans _ _ _ c.put_row.ensures.kept
+    (kept_trans _ _ _ c.put_places.ensures.kept c.put_heading.ensures.kept)
