@@ -27,7 +27,9 @@ pub fn operator_line(line: &[u8]) -> OperatorLine
 fn verb(line: &[u8]) -> Result<OperatorLine, OperatorRefusal>
     ensures { result ≡ operator_verb (words line.now) }
 {
-    let (verb, rest) = next_word(line).ok_or(OperatorRefusal::BadCommand)?;
+    let Some((verb, rest)) = next_word(line) else {
+        return Err(OperatorRefusal::BadCommand);
+    };
     if is_word(verb, "admit") {
         admit(rest)
     } else if is_word(verb, "retire") {
@@ -40,7 +42,9 @@ fn verb(line: &[u8]) -> Result<OperatorLine, OperatorRefusal>
 fn admit(line: &[u8]) -> Result<OperatorLine, OperatorRefusal>
     ensures { result ≡ admit_line (words line.now) }
 {
-    let row = only_word(line).ok_or(OperatorRefusal::BadCommand)?;
+    let Some(row) = only_word(line) else {
+        return Err(OperatorRefusal::BadCommand);
+    };
     let (name, limits) = row_told(row)?;
     Ok(OperatorLine::Admit(name, limits))
 }
@@ -48,8 +52,12 @@ fn admit(line: &[u8]) -> Result<OperatorLine, OperatorRefusal>
 fn retire(line: &[u8]) -> Result<OperatorLine, OperatorRefusal>
     ensures { result ≡ retire_line (words line.now) }
 {
-    let word = only_word(line).ok_or(OperatorRefusal::BadCommand)?;
-    let name = Name::read(word).ok_or(OperatorRefusal::BadName)?;
+    let Some(word) = only_word(line) else {
+        return Err(OperatorRefusal::BadCommand);
+    };
+    let Some(name) = Name::read(word) else {
+        return Err(OperatorRefusal::BadName);
+    };
     Ok(OperatorLine::Retire(name))
 }
 
@@ -57,7 +65,9 @@ fn retire(line: &[u8]) -> Result<OperatorLine, OperatorRefusal>
 fn row_told(row: &[u8]) -> Result<(Name, Limits), OperatorRefusal>
     ensures { result ≡ row_told row.now }
 {
-    let fields = row_fields(row).ok_or(OperatorRefusal::BadRow)?;
+    let Some(fields) = row_fields(row) else {
+        return Err(OperatorRefusal::BadRow);
+    };
     told_tenant(&fields).map_err(row_refusal)
 }
 

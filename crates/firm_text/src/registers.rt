@@ -97,7 +97,9 @@ impl Register {
         if self.place_of(name).is_some() {
             return Err(OperatorRefusal::TenantExists);
         }
-        let at = self.free_place().ok_or(OperatorRefusal::Full)?;
+        let Some(at) = self.free_place() else {
+            return Err(OperatorRefusal::Full);
+        };
         self.places[at] = Entry {
             tenant: Some(name),
             admissions: self.places[at].admissions + 1,
@@ -114,7 +116,9 @@ impl Register {
         ensures retired { IfOk result (λ place. self.new ≡ without_tenant self.old place) }
         ensures unchanged { OnErr result (self.new ≡ self.old) }
     {
-        let at = self.place_of(name).ok_or(OperatorRefusal::NoSuchTenant)?;
+        let Some(at) = self.place_of(name) else {
+            return Err(OperatorRefusal::NoSuchTenant);
+        };
         self.places[at].tenant = None;
         Ok(at)
     }

@@ -20,4 +20,5 @@ returns-in_err-put_change-clause-kept c = kept_trans _ _ _ c.put_change.ensures.
 
 pub returns-clause-added : goal.returns-clause-added
 returns-clause-added c =
-    all_added (flat_map change_words) refl c.args.changes.now c.loop-change.change-index c.loop-change-test.false _ _ c.loop-change.invariant.added
+    all_added (flat_map change_words) refl c.args.changes.now c.loop-change.change-index c.loop-change-test.false
+    _ _ c.loop-change.invariant.added

@@ -20,4 +20,5 @@ returns-in_err-put_cost-clause-kept c = kept_trans _ _ _ c.put_cost.ensures.kept
 
 pub returns-clause-added : goal.returns-clause-added
 returns-clause-added c =
-    all_added (map signed_decimal) refl c.args.costs.now c.loop-cost.cost-index c.loop-cost-test.false _ _ c.loop-cost.invariant.added
+    all_added (map signed_decimal) refl c.args.costs.now c.loop-cost.cost-index c.loop-cost-test.false _ _
+    c.loop-cost.invariant.added

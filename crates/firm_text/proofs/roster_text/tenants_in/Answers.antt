@@ -1,4 +1,5 @@
-use Rattle.std.proofs.Common.{arith, rules, ◌<◌, get_or, Ok, Err, inr, [], ◌≡◌, ◌∙◌, ◌+◌, ◌∷◌, false, length, map, ap, sym, subst, drop}
+use Rattle.std.proofs.Common.{arith, rules, ◌<◌, get_or, Ok, Err, inr, [], ◌≡◌, ◌∙◌, ◌+◌, ◌∷◌, false, length}
+use Rattle.std.proofs.Common.{map, ap, sym, subst, drop}
 use Rattle.std.proofs.lemmas.List.{at_drop_all, at_drop_more, length_push}
 use Rattle.csv.specs.Records.{fields_of}
 use Rattle.firm_text.specs.Rosters.{NamesDiffer, is_taken, tenants_of}

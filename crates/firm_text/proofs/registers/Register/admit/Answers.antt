@@ -6,5 +6,5 @@ use Rattle.firm_text.proofs.registers.Register.admit.Goals as goal
 
 pub invariant_of-self : goal.invariant_of-self
 invariant_of-self c =
-    let given : place_for c.self.inside.places c.args.name ≡ Ok c.in_ok-at.at = grind (arith, common_steps) in
-    sound_given c.self.inside.places c.args.name c.in_ok-at.at c.index-self-at.result c.self.invariant given
+    let given : place_for c.self.inside.places c.args.name ≡ Ok c.in-Some.at = grind (arith, common_steps) in
+    sound_given c.self.inside.places c.args.name c.in-Some.at c.index-self-at.result c.self.invariant given
