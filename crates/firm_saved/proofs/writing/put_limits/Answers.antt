@@ -29,16 +29,36 @@ pub returns-in_err-put_labelled-2-clause-kept : goal.returns-in_err-put_labelled
 returns-in_err-put_labelled-2-clause-kept c = kept_trans _ _ _ c.put_labelled-2.ensures.kept c.put_labelled.ensures.kept
 
 pub returns-in_err-put_labelled-3-clause-kept : goal.returns-in_err-put_labelled-3-clause-kept
-returns-in_err-put_labelled-3-clause-kept c = kept_trans _ _ _ c.put_labelled-3.ensures.kept (kept_trans _ _ _ c.put_labelled-2.ensures.kept c.put_labelled.ensures.kept)
+returns-in_err-put_labelled-3-clause-kept c =
+    kept_trans _ _ _ c.put_labelled-3.ensures.kept
+    (kept_trans _ _ _ c.put_labelled-2.ensures.kept c.put_labelled.ensures.kept)
 
 pub returns-in_err-put_labelled-4-clause-kept : goal.returns-in_err-put_labelled-4-clause-kept
-returns-in_err-put_labelled-4-clause-kept c = kept_trans _ _ _ c.put_labelled-4.ensures.kept (kept_trans _ _ _ c.put_labelled-3.ensures.kept (kept_trans _ _ _ c.put_labelled-2.ensures.kept c.put_labelled.ensures.kept))
+returns-in_err-put_labelled-4-clause-kept c =
+    kept_trans _ _ _ c.put_labelled-4.ensures.kept
+    (kept_trans _ _ _ c.put_labelled-3.ensures.kept
+    (kept_trans _ _ _ c.put_labelled-2.ensures.kept c.put_labelled.ensures.kept))
 
 pub returns-in_err-put_labelled-5-clause-kept : goal.returns-in_err-put_labelled-5-clause-kept
-returns-in_err-put_labelled-5-clause-kept c = kept_trans _ _ _ c.put_labelled-5.ensures.kept (kept_trans _ _ _ c.put_labelled-4.ensures.kept (kept_trans _ _ _ c.put_labelled-3.ensures.kept (kept_trans _ _ _ c.put_labelled-2.ensures.kept c.put_labelled.ensures.kept)))
+returns-in_err-put_labelled-5-clause-kept c =
+    kept_trans _ _ _ c.put_labelled-5.ensures.kept
+    (kept_trans _ _ _ c.put_labelled-4.ensures.kept
+    (kept_trans _ _ _ c.put_labelled-3.ensures.kept
+    (kept_trans _ _ _ c.put_labelled-2.ensures.kept c.put_labelled.ensures.kept)))
 
 pub returns-in_err-put_labelled-6-clause-kept : goal.returns-in_err-put_labelled-6-clause-kept
-returns-in_err-put_labelled-6-clause-kept c = kept_trans _ _ _ c.put_labelled-6.ensures.kept (kept_trans _ _ _ c.put_labelled-5.ensures.kept (kept_trans _ _ _ c.put_labelled-4.ensures.kept (kept_trans _ _ _ c.put_labelled-3.ensures.kept (kept_trans _ _ _ c.put_labelled-2.ensures.kept c.put_labelled.ensures.kept))))
+returns-in_err-put_labelled-6-clause-kept c =
+    kept_trans _ _ _ c.put_labelled-6.ensures.kept
+    (kept_trans _ _ _ c.put_labelled-5.ensures.kept
+    (kept_trans _ _ _ c.put_labelled-4.ensures.kept
+    (kept_trans _ _ _ c.put_labelled-3.ensures.kept
+    (kept_trans _ _ _ c.put_labelled-2.ensures.kept c.put_labelled.ensures.kept))))
 
 pub returns-clause-kept : goal.returns-clause-kept
-returns-clause-kept c = kept_trans _ _ _ c.put_patience.ensures.kept (kept_trans _ _ _ c.put_labelled-6.ensures.kept (kept_trans _ _ _ c.put_labelled-5.ensures.kept (kept_trans _ _ _ c.put_labelled-4.ensures.kept (kept_trans _ _ _ c.put_labelled-3.ensures.kept (kept_trans _ _ _ c.put_labelled-2.ensures.kept c.put_labelled.ensures.kept)))))
+returns-clause-kept c =
+    kept_trans _ _ _ c.put_patience.ensures.kept
+    (kept_trans _ _ _ c.put_labelled-6.ensures.kept
+    (kept_trans _ _ _ c.put_labelled-5.ensures.kept
+    (kept_trans _ _ _ c.put_labelled-4.ensures.kept
+    (kept_trans _ _ _ c.put_labelled-3.ensures.kept
+    (kept_trans _ _ _ c.put_labelled-2.ensures.kept c.put_labelled.ensures.kept)))))

@@ -10,9 +10,9 @@ loop-machine-preserved c =
     let next : c.loop-machine.machine-iterator ≡ c.in-Some.machine.now ∷ c.next.new.self = search rules in
     record {
       kept = kept_trans _ _ _ c.put_row.ensures.kept c.loop-machine.invariant.kept;
-      added = item_added (λ machines. flat_map row_text (map row.Machine machines)) (λ machine. row_text (row.Machine machine)) (λ _ _. refl)
-          c.loop-machine.machine-iterator c.next.new.self c.in-Some.machine.now next _ _ _ c.in_ok-put_row.ensures.added
-          c.loop-machine.invariant.added;
+      added = item_added (λ machines. flat_map row_text (map row.Machine machines))
+          (λ machine. row_text (row.Machine machine)) (λ _ _. refl) c.loop-machine.machine-iterator c.next.new.self
+          c.in-Some.machine.now next _ _ _ c.in_ok-put_row.ensures.added c.loop-machine.invariant.added;
     }
 
 pub returns-in_err-put_row-clause-kept : goal.returns-in_err-put_row-clause-kept

@@ -5,7 +5,12 @@ pub returns-in_err-put_word-clause-kept : goal.returns-in_err-put_word-clause-ke
 returns-in_err-put_word-clause-kept c = kept_trans _ _ _ c.put_word.ensures.kept c.put_after.ensures.kept
 
 pub returns-in_err-put_standing-clause-kept : goal.returns-in_err-put_standing-clause-kept
-returns-in_err-put_standing-clause-kept c = kept_trans _ _ _ c.put_standing.ensures.kept (kept_trans _ _ _ c.put_word.ensures.kept c.put_after.ensures.kept)
+returns-in_err-put_standing-clause-kept c =
+    kept_trans _ _ _ c.put_standing.ensures.kept
+    (kept_trans _ _ _ c.put_word.ensures.kept c.put_after.ensures.kept)
 
 pub returns-clause-kept : goal.returns-clause-kept
-returns-clause-kept c = kept_trans _ _ _ c.put_preferences.ensures.kept (kept_trans _ _ _ c.put_standing.ensures.kept (kept_trans _ _ _ c.put_word.ensures.kept c.put_after.ensures.kept))
+returns-clause-kept c =
+    kept_trans _ _ _ c.put_preferences.ensures.kept
+    (kept_trans _ _ _ c.put_standing.ensures.kept
+    (kept_trans _ _ _ c.put_word.ensures.kept c.put_after.ensures.kept))

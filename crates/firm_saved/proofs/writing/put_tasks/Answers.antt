@@ -10,7 +10,8 @@ loop-task-preserved c =
     let next : c.loop-task.task-iterator ≡ c.in-Some.task.now ∷ c.next.new.self = search rules in
     record {
       kept = kept_trans _ _ _ c.put_row.ensures.kept c.loop-task.invariant.kept;
-      added = item_added (λ tasks. flat_map row_text (map row.Task tasks)) (λ task. row_text (row.Task task)) (λ _ _. refl)
+      added = item_added (λ tasks. flat_map row_text (map row.Task tasks)) (λ task. row_text (row.Task task))
+          (λ _ _. refl)
           c.loop-task.task-iterator c.next.new.self c.in-Some.task.now next _ _ _ c.in_ok-put_row.ensures.added
           c.loop-task.invariant.added;
     }

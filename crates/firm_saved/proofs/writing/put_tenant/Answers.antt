@@ -5,4 +5,6 @@ pub returns-in_err-put_limits-clause-kept : goal.returns-in_err-put_limits-claus
 returns-in_err-put_limits-clause-kept c = kept_trans _ _ _ c.put_limits.ensures.kept c.put_after.ensures.kept
 
 pub returns-clause-kept : goal.returns-clause-kept
-returns-clause-kept c = kept_trans _ _ _ c.put_labelled.ensures.kept (kept_trans _ _ _ c.put_limits.ensures.kept c.put_after.ensures.kept)
+returns-clause-kept c =
+    kept_trans _ _ _ c.put_labelled.ensures.kept
+    (kept_trans _ _ _ c.put_limits.ensures.kept c.put_after.ensures.kept)

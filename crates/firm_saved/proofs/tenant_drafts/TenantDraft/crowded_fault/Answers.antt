@@ -13,7 +13,8 @@ may_run-requires c =
     let rows = c.args.self.now.rows in
     let few : c.index.result.now ≤ 64 =
     small rows c.limits.ensures.sound c.args.self.now.loads.items c.requires.loads c.in-Some.machine
-    c.in-Some-machine_place.place c.in-Some-machine_place.ensures.below c.in-Some-machine_place.ensures.named c.index.result.now
+    c.in-Some-machine_place.place c.in-Some-machine_place.ensures.below c.in-Some-machine_place.ensures.named
+    c.index.result.now
     (record { name = []; slots = 0 }) c.index.ensures in
     omega (arith, few, c.from-load.ensures)
 
@@ -23,8 +24,9 @@ returns-then-may_run c =
     let task : Task = c.args.task.now in
     let machine = c.in-Some.machine in
     let book : Book = book_with (view c.args.self.now) task in
-    sym (stood rows c.limits.ensures.sound c.args.self.now.loads.items c.requires.loads machine c.in-Some-machine_place.place
-    c.in-Some-machine_place.ensures.below c.in-Some-machine_place.ensures.named book task c.index.result.now refl c.in-Some.is
+    sym (stood rows c.limits.ensures.sound c.args.self.now.loads.items c.requires.loads machine
+    c.in-Some-machine_place.place c.in-Some-machine_place.ensures.below c.in-Some-machine_place.ensures.named
+    book task c.index.result.now refl c.in-Some.is
     c.index.ensures
     ∙ ap (λ (b : Bool). cond b None (Some fault.Crowded))
     (ap (λ (n : ℕ). may_run rows (most_rounds book) task machine (n + 1)) (sym c.from-load.ensures)
@@ -37,8 +39,9 @@ returns-else-may_run c =
     let task : Task = c.args.task.now in
     let machine = c.in-Some.machine in
     let book : Book = book_with (view c.args.self.now) task in
-    sym (stood rows c.limits.ensures.sound c.args.self.now.loads.items c.requires.loads machine c.in-Some-machine_place.place
-    c.in-Some-machine_place.ensures.below c.in-Some-machine_place.ensures.named book task c.index.result.now refl c.in-Some.is
+    sym (stood rows c.limits.ensures.sound c.args.self.now.loads.items c.requires.loads machine
+    c.in-Some-machine_place.place c.in-Some-machine_place.ensures.below c.in-Some-machine_place.ensures.named
+    book task c.index.result.now refl c.in-Some.is
     c.index.ensures
     ∙ ap (λ (b : Bool). cond b None (Some fault.Crowded))
     (ap (λ (n : ℕ). may_run rows (most_rounds book) task machine (n + 1)) (sym c.from-load.ensures)
