@@ -184,16 +184,14 @@ fn task_row(behind: &[u8]) -> Result<Row, FaultKind>
     let job = name_word(word)?;
     let (word, behind) = next_word(behind)?;
     let name = name_word(word)?;
-    match standing_at(behind) {
-        Ok((machine, waited, preferred)) => Ok(Row::Task(Task {
-            name,
-            job,
-            preferred,
-            machine,
-            waited,
-        })),
-        Err(kind) => Err(kind),
-    }
+    let (machine, waited, preferred) = standing_at(behind)?;
+    Ok(Row::Task(Task {
+        name,
+        job,
+        preferred,
+        machine,
+        waited,
+    }))
 }
 
 fn standing_at(behind: &[u8]) -> Result<(Option<Name>, u32, Preferred), FaultKind>
@@ -202,10 +200,8 @@ fn standing_at(behind: &[u8]) -> Result<(Option<Name>, u32, Preferred), FaultKin
     let (verb, behind) = next_word(behind)?;
     let (word, behind) = next_word(behind)?;
     let (machine, waited) = standing_of(verb, word)?;
-    match preferred_at(behind) {
-        Ok(preferred) => Ok((machine, waited, preferred)),
-        Err(kind) => Err(kind),
-    }
+    let preferred = preferred_at(behind)?;
+    Ok((machine, waited, preferred))
 }
 
 fn standing_of(verb: &[u8], word: &[u8]) -> Result<(Option<Name>, u32), FaultKind>

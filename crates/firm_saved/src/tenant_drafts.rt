@@ -181,12 +181,8 @@ impl TenantDraft {
         requires there { IfSome task.now.machine (λ name. is_among (machine_names self.now.rows) name ≡ true) }
         ensures { result ≡ crowded_fault (view self.now) task.now }
     {
-        let Some(machine) = task.machine else {
-            return None;
-        };
-        let Some(place) = self.rows.machine_place(machine) else {
-            return None;
-        };
+        let machine = task.machine?;
+        let place = self.rows.machine_place(machine)?;
         // No machine runs more tasks than it has slots, so no load wraps.
         prove!(self.rows.limits().nodes() <= 4_096);
         let load = u64::from(self.loads[place]) + 1;

@@ -15,29 +15,12 @@ pub fn row_fields(row: &[u8]) -> Option<Fields<'_>>
         f.churn.now (seen f.remote) (seen f.patience)) }
 {
     let (tenant, rest) = first_field(row);
-    let Some(rest) = rest else {
-        return None;
-    };
-    let (nodes, rest) = first_field(rest);
-    let Some(rest) = rest else {
-        return None;
-    };
-    let (arcs, rest) = first_field(rest);
-    let Some(rest) = rest else {
-        return None;
-    };
-    let (life, rest) = first_field(rest);
-    let Some(rest) = rest else {
-        return None;
-    };
-    let (spread, rest) = first_field(rest);
-    let Some(rest) = rest else {
-        return None;
-    };
-    let (churn, rest) = first_field(rest);
-    let Some((remote, patience)) = last_fields(rest) else {
-        return None;
-    };
+    let (nodes, rest) = first_field(rest?);
+    let (arcs, rest) = first_field(rest?);
+    let (life, rest) = first_field(rest?);
+    let (spread, rest) = first_field(rest?);
+    let (churn, rest) = first_field(rest?);
+    let (remote, patience) = last_fields(rest)?;
     Some(Fields {
         tenant,
         nodes,

@@ -20,9 +20,7 @@ pub fn next_word(line: &[u8]) -> Option<(&[u8], &[u8])>
 pub fn only_word(line: &[u8]) -> Option<&[u8]>
     ensures { MatchOption result ((a : List ℕ) → words line.now ≢ a ∷ []) (λ word. words line.now ≡ word.now ∷ []) }
 {
-    let Some((word, rest)) = next_word(line) else {
-        return None;
-    };
+    let (word, rest) = next_word(line)?;
     match next_word(rest) {
         None => Some(word),
         Some(_) => None,

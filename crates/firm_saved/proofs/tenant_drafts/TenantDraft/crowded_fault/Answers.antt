@@ -12,9 +12,8 @@ pub may_run-requires : goal.may_run-requires
 may_run-requires c =
     let rows = c.args.self.now.rows in
     let few : c.index.result.now ≤ 64 =
-    small rows c.limits.ensures.sound c.args.self.now.loads.items c.requires.loads c.in-Some.machine
-    c.in-Some-machine_place.place c.in-Some-machine_place.ensures.below c.in-Some-machine_place.ensures.named
-    c.index.result.now
+    small rows c.limits.ensures.sound c.args.self.now.loads.items c.requires.loads c.in_ok-machine.machine
+    c.in_ok-place.place c.in_ok-place.ensures.below c.in_ok-place.ensures.named c.index.result.now
     (record { name = []; slots = 0 }) c.index.ensures in
     omega (arith, few, c.from-load.ensures)
 
@@ -22,11 +21,10 @@ pub returns-then-may_run : goal.returns-then-may_run
 returns-then-may_run c =
     let rows = c.args.self.now.rows in
     let task : Task = c.args.task.now in
-    let machine = c.in-Some.machine in
+    let machine = c.in_ok-machine.machine in
     let book : Book = book_with (view c.args.self.now) task in
-    sym (stood rows c.limits.ensures.sound c.args.self.now.loads.items c.requires.loads machine
-    c.in-Some-machine_place.place c.in-Some-machine_place.ensures.below c.in-Some-machine_place.ensures.named
-    book task c.index.result.now refl c.in-Some.is
+    sym (stood rows c.limits.ensures.sound c.args.self.now.loads.items c.requires.loads machine c.in_ok-place.place
+    c.in_ok-place.ensures.below c.in_ok-place.ensures.named book task c.index.result.now refl c.in_ok-machine.was
     c.index.ensures
     ∙ ap (λ (b : Bool). cond b None (Some fault.Crowded))
     (ap (λ (n : ℕ). may_run rows (most_rounds book) task machine (n + 1)) (sym c.from-load.ensures)
@@ -37,11 +35,10 @@ pub returns-else-may_run : goal.returns-else-may_run
 returns-else-may_run c =
     let rows = c.args.self.now.rows in
     let task : Task = c.args.task.now in
-    let machine = c.in-Some.machine in
+    let machine = c.in_ok-machine.machine in
     let book : Book = book_with (view c.args.self.now) task in
-    sym (stood rows c.limits.ensures.sound c.args.self.now.loads.items c.requires.loads machine
-    c.in-Some-machine_place.place c.in-Some-machine_place.ensures.below c.in-Some-machine_place.ensures.named
-    book task c.index.result.now refl c.in-Some.is
+    sym (stood rows c.limits.ensures.sound c.args.self.now.loads.items c.requires.loads machine c.in_ok-place.place
+    c.in_ok-place.ensures.below c.in_ok-place.ensures.named book task c.index.result.now refl c.in_ok-machine.was
     c.index.ensures
     ∙ ap (λ (b : Bool). cond b None (Some fault.Crowded))
     (ap (λ (n : ℕ). may_run rows (most_rounds book) task machine (n + 1)) (sym c.from-load.ensures)
