@@ -37,6 +37,7 @@ from harness.proving import crates_of_repository, free_bytes
 MINUTES = ROOT / "docs" / "results" / "gate.csv"
 EARLY = 0.3  # of the proofs: until then the table alone says how long they take
 OTHER_MINUTES = 1.0  # of a crate that is newer than the table
+QUICK_MINUTES = 10  # of tests/quick, one check at a time
 # What a check takes at most, as measured, and the part of the free memory that checks are given.
 CHECK_BYTES, MEMORY_PART = 4_000_000_000, 0.8
 COUNT = re.compile(r"^(\d+) passed, (\d+) failed$")
@@ -164,7 +165,8 @@ def say_plan(minutes: dict[str, Minutes]) -> None:
     proofs = proof_minutes(minutes)
     edits = sum(crate.edits for crate in minutes.values()) / processors
     say(f"on {processors} processors proofs and tests take some {proofs:.0f} minutes, elsewhere half or twice that")
-    say(f"behind them come the edits, {edits:.0f} minutes if all are tried, and the program from outside, ten minutes")
+    quick = QUICK_MINUTES / max(1, processors // 2)
+    say(f"behind them come the edits, {edits:.0f} minutes if all are tried, and the program from outside, {quick:.0f}")
 
 
 def main() -> int:
