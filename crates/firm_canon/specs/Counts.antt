@@ -8,14 +8,6 @@ pub record HasMadeUpTo (old new : Workspace) (most arcs : ℕ) : Type 0 where
   pub few : made ≤ most
   pub searched : HasSearched old new made arcs
 
--- the same, beside the looks of a proposal, at most 2^24, which are counted apart
-pub record HasSearchedUpTo (old new : Workspace) (most arcs : ℕ) : Type 0 where
-  pub made : ℕ
-  pub few : made ≤ most
-  pub searched : HasSearched old (record new { proposed = old.proposed }) made arcs
-  pub proposed_kept : old.proposed ≤ new.proposed
-  pub proposed : new.proposed ≤ old.proposed + 2 ^ 24
-
 -- looks in a net of `arcs` arcs: at most two at each arc in each of `whole` searches, and in all others together no
 -- more than in one such search for each binary digit of the number of arcs, and in two more
 pub record HasLookedUpTo (old new : Workspace) (whole arcs : ℕ) : Type 0 where

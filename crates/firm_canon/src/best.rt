@@ -4,7 +4,7 @@ ghost use Rattle.firm_paths.specs.NetArcs.{limits_of};
 ghost use Rattle.firm_paths.specs.PriceTable.{price_of};
 ghost use Rattle.firm_rules.specs.ArenaUse.{arena_arcs, preference_count};
 ghost use Rattle.firm_rules.specs.Round.{case_of, round_placement};
-ghost use Rattle.firm_canon.specs.Counts.{HasLookedUpTo, HasMadeUpTo, HasSearchedUpTo};
+ghost use Rattle.firm_canon.specs.Counts.{HasLookedUpTo, HasMadeUpTo};
 ghost use Rattle.firm_graph.specs.Ids.{view_of};
 ghost use Rattle.firm_canon.specs.inner.Graphs.{IsSameGraph};
 ghost use Rattle.firm_canon.specs.inner.Choosing.{Keeps};
@@ -35,8 +35,8 @@ fn start(graph: &mut Graph, prices: &mut Prices, scratch: &mut Scratch)
     graph.least(prices, scratch);
 }
 
-/// Writes the placement of the round to an empty list with room for it, by a least flow and searches.
-fn write_by_search(
+/// Writes the placement of the round to an empty list with room for it.
+fn write_first(
     graph: &mut Graph,
     prices: &mut Prices,
     scratch: &mut Scratch,
@@ -72,35 +72,6 @@ fn write_by_search(
     choosing.choose_all(tasks);
 }
 
-/// Writes the placement of the round to an empty list with room for it: the one that is proposed, if it is shown to be
-/// the round's, else by searches.
-fn write_first(
-    graph: &mut Graph,
-    prices: &mut Prices,
-    scratch: &mut Scratch,
-    chosen: &mut Vec<Choice>,
-)
-    requires made_for { (prices.old.limits ≡ limits_of graph.old.net) × (scratch.old.limits ≡ limits_of graph.old.net) }
-    requires empty { chosen.old.items ≡ [] }
-    requires room { length graph.old.rows.tasks ≤ vec_capacity chosen.old }
-    ensures round { chosen.new.items ≡ round_placement (case_of graph.old.rows) }
-    ensures same { graph.new ≡ record graph.old { net = graph.new.net } }
-    ensures limits { limits_of graph.new.net ≡ limits_of graph.old.net }
-    ensures prices { prices.new.limits ≡ prices.old.limits }
-    ensures searched { HasSearchedUpTo scratch.old scratch.new
-        (length graph.old.rows.tasks * (length graph.old.rows.machines + 4)) (arena_arcs graph.old.rows) }
-    ensures searched_few { HasSearchedUpTo scratch.old scratch.new
-        (3 * length graph.old.rows.tasks + 2 * length graph.old.rows.machines + 1
-        + preference_count graph.old.rows.tasks) (arena_arcs graph.old.rows) }
-    ensures looked_few { HasLookedUpTo scratch.old scratch.new (3 * length graph.old.rows.tasks)
-        (arena_arcs graph.old.rows) }
-{
-    if graph.propose(chosen, scratch) {
-        return;
-    }
-    write_by_search(graph, prices, scratch, chosen);
-}
-
 /// The placement of the round: legal, no legal one costs less, and no legal one of equal cost comes before it. Only the
 /// graph's flow and lower bounds change. An error means that memory for the list was refused, before any search; all is
 /// as it was.
@@ -115,9 +86,9 @@ pub fn first_best(
     ensures same { graph.new ≡ record graph.old { net = graph.new.net } }
     ensures limits { limits_of graph.new.net ≡ limits_of graph.old.net }
     ensures prices { prices.new.limits ≡ prices.old.limits }
-    ensures searched { HasSearchedUpTo scratch.old scratch.new
+    ensures searched { HasMadeUpTo scratch.old scratch.new
         (length graph.old.rows.tasks * (length graph.old.rows.machines + 4)) (arena_arcs graph.old.rows) }
-    ensures searched_few { HasSearchedUpTo scratch.old scratch.new
+    ensures searched_few { HasMadeUpTo scratch.old scratch.new
         (3 * length graph.old.rows.tasks + 2 * length graph.old.rows.machines + 1
         + preference_count graph.old.rows.tasks) (arena_arcs graph.old.rows) }
     ensures looked_few { HasLookedUpTo scratch.old scratch.new (3 * length graph.old.rows.tasks)
@@ -127,32 +98,5 @@ pub fn first_best(
     let tasks = task_count(graph);
     let mut chosen = Vec::with_capacity(alloc, tasks)?;
     write_first(graph, prices, scratch, &mut chosen);
-    Ok(chosen)
-}
-
-/// The same placement, by a least flow and searches alone: the way behind a proposal.
-pub fn first_by_search(
-    alloc: Global,
-    graph: &mut Graph,
-    prices: &mut Prices,
-    scratch: &mut Scratch,
-) -> Result<Vec<Choice>, AllocError>
-    requires made_for { (prices.old.limits ≡ limits_of graph.old.net) × (scratch.old.limits ≡ limits_of graph.old.net) }
-    ensures round { IfOk result (λ placement. placement.items ≡ round_placement (case_of graph.old.rows)) }
-    ensures same { graph.new ≡ record graph.old { net = graph.new.net } }
-    ensures limits { limits_of graph.new.net ≡ limits_of graph.old.net }
-    ensures prices { prices.new.limits ≡ prices.old.limits }
-    ensures searched { HasSearchedUpTo scratch.old scratch.new
-        (length graph.old.rows.tasks * (length graph.old.rows.machines + 4)) (arena_arcs graph.old.rows) }
-    ensures searched_few { HasSearchedUpTo scratch.old scratch.new
-        (3 * length graph.old.rows.tasks + 2 * length graph.old.rows.machines + 1
-        + preference_count graph.old.rows.tasks) (arena_arcs graph.old.rows) }
-    ensures looked_few { HasLookedUpTo scratch.old scratch.new (3 * length graph.old.rows.tasks)
-        (arena_arcs graph.old.rows) }
-    ensures refused { OnErr result ((graph.new ≡ graph.old) × (prices.new ≡ prices.old) × (scratch.new ≡ scratch.old)) }
-{
-    let tasks = task_count(graph);
-    let mut chosen = Vec::with_capacity(alloc, tasks)?;
-    write_by_search(graph, prices, scratch, &mut chosen);
     Ok(chosen)
 }

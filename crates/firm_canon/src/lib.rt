@@ -1,21 +1,20 @@
-//! The choice of a round: `first_best` gives the first of a tenant's cheapest legal placements. It takes the graph's
-//! proposal where that is shown to be the round's. Else, as `first_by_search` does at once, it solves one minimum-cost
-//! flow, then fixes task after task; it lists no placements.
+//! The choice of a round: `first_best` gives the first of a tenant's cheapest legal placements. It solves one
+//! minimum-cost flow, then fixes task after task; it lists no placements. A tenant asks it for the rounds for which no
+//! proposal was shown (`proposals.rt` of firm_tenant).
 //!
 //! # What is proved
 //!
-//! Both require prices and scratch made for the graph's limits. `Ok` is the round's placement; `Err` comes only for
-//! refused memory, before all else. With t tasks of p preferences in all, m machines and a arcs they make at most
+//! It requires prices and scratch made for the graph's limits. `Ok` is the round's placement; `Err` comes only for
+//! refused memory, before all else. With t tasks of p preferences in all, m machines and a arcs it makes at most
 //! 3 * t + 2 * m + 1 + p searches, and at most t * (m + 4), each of at most 2 * a looks. All these together take at
-//! most (3 * t + d + 2) * 2 * a looks, if a is at most 2^d (`specs/Counts.antt`). A proposal's looks, at most 2^24,
-//! are counted apart. No count falls or is reset on the way.
+//! most (3 * t + d + 2) * 2 * a looks, if a is at most 2^d (`specs/Counts.antt`). No count falls or is reset on the
+//! way.
 //!
 //! # How it works
 //!
-//! Where a proposal is taken, nothing is searched for. Else, after each task the flow is least, lower bounds hold the
-//! choices so far, and no least placement comes before them. The next task takes its first *open* choice: one whose arc
-//! carries a unit that no earlier choice holds, or along which a unit can be sent and back from head to tail by tight
-//! residual arcs, which keeps the cost.
+//! After each task the flow is least, lower bounds hold the choices so far, and no least placement comes before them.
+//! The next task takes its first *open* choice: one whose arc carries a unit that no earlier choice holds, or along
+//! which a unit can be sent and back from head to tail by tight residual arcs, which keeps the cost.
 //!
 //! - **Arcs.** A task reaches its own machine by the stay arc, a preferred one by the preference's arc, others by the
 //!   wide arc to the hub and then the hub's arc, which leaves the wide arc full.
@@ -39,4 +38,4 @@ mod holds;
 mod reads;
 mod turns;
 
-pub use best::{first_best, first_by_search};
+pub use best::first_best;

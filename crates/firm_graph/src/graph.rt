@@ -1,7 +1,7 @@
 //! The network of a tenant.
 ghost use Rattle.std.specs.Prelude.{◌≡◌, ◌≢◌, ◌+◌, ◌^◌, ◌<◌, ◌≤◌, ◌↔◌, false, true, IfOk, OnOk, OnErr, IsTrue, ℕ};
 ghost use Rattle.std.specs.Prelude.{IfSome, IfNone, Some, bytes_eq, position};
-ghost use Rattle.std.specs.Prelude.{[], length, map, pos, slice_index_or, vec_capacity};
+ghost use Rattle.std.specs.Prelude.{length, map, pos, slice_index_or};
 ghost use Rattle.std.specs.List.{All};
 ghost use Rattle.firm_net.specs.Net.{CountsAre, arc_count, without_flow, CanPush, SameOtherRows, row_at, with_row};
 ghost use Rattle.firm_net.specs.Net.{with_unit};
@@ -18,7 +18,7 @@ ghost use Rattle.firm_rules.specs.Sound.{HasRoom};
 ghost use Rattle.firm_rules.specs.Names.{is_among};
 ghost use Rattle.firm_rules.specs.ArenaUse.{arena_nodes, arena_arcs};
 ghost use Rattle.firm_rules.specs.Placement.{is_legal};
-ghost use Rattle.firm_rules.specs.Round.{case_of, round_placement, rows_after, IsFound};
+ghost use Rattle.firm_rules.specs.Round.{case_of, rows_after, IsFound};
 ghost use Rattle.firm_graph.specs.Graph.{IsGraph, LackNodes, LackArcs};
 ghost use Rattle.firm_graph.specs.Ids.{view_of};
 ghost use Rattle.firm_graph.specs.Network.{task_nodes, demand};
@@ -33,13 +33,11 @@ use crate::edits::{
 use crate::growth::{grow_jobs, grow_machines, grow_tasks};
 use crate::ids::{GraphRefusal, JobParts, MachineIds, Stand, TaskArcs, TaskParts, find_machine};
 use crate::moves::{Heads, evict_tasks, forget_machine, home_of, place_task, settle_tasks};
-use crate::proposals::Proposals;
 use firm_flow::solve;
 use firm_net::{ArcId, Net, NodeId, Way};
 use firm_paths::{Prices, Scratch};
 use firm_rules::{
     Choice, Limits, Name, NewTask, Preferred, Rows, Slots, Weight, legality_is_judged,
-    the_round_is_the_first,
 };
 use std::alloc::{AllocError, Global};
 use std::marker::Model;
@@ -55,7 +53,6 @@ pub struct Graph {
     jobs: Vec<JobParts>,
     tasks: Vec<TaskParts>,
     sources: Vec<NodeId>,
-    proposals: Proposals,
     asked: u64,
 }
 
@@ -79,7 +76,6 @@ impl Graph {
         ensures graph { IfOk result (λ graph. IsGraph graph) }
     {
         let mut net = Net::new(alloc, limits.nodes() as u32, limits.arcs() as u32)?;
-        let proposals = Proposals::open(alloc, limits)?;
         let hub = put_node(&mut net);
         let sink = put_node(&mut net);
         Ok(Graph {
@@ -91,7 +87,6 @@ impl Graph {
             jobs: Vec::new(alloc),
             tasks: Vec::new(alloc),
             sources: Vec::new(alloc),
-            proposals,
             asked: 0,
         })
     }
@@ -340,36 +335,6 @@ impl Graph {
             unreachable!()
         };
         cost
-    }
-
-    /// Sets how many looks the proposal of a round may take, at most 2^24, which is what a new graph allows. With 0 no
-    /// round is proposed.
-    pub fn allow_proposals(&mut self, looks: u64)
-        ensures same { self.new ≡ self.old }
-    {
-        self.proposals.allow(looks);
-    }
-
-    /// Writes the placement of the round to an empty list with room for it, if one is proposed within the allowed looks
-    /// and shown to be the round's; else leaves the list empty. Counts what the proposal took, leaves the net alone,
-    /// and takes no memory.
-    pub fn propose(&mut self, chosen: &mut Vec<Choice>, scratch: &mut Scratch) -> bool
-        requires empty { chosen.old.items ≡ [] }
-        requires room { length self.old.rows.tasks ≤ vec_capacity chosen.old }
-        ensures round { IsTrue result → chosen.new.items ≡ round_placement (case_of self.old.rows) }
-        ensures none { result ≡ false → chosen.new.items ≡ [] }
-        ensures capacity { vec_capacity chosen.old ≤ vec_capacity chosen.new }
-        ensures same { self.new ≡ self.old }
-        ensures counted { scratch.new ≡ record scratch.old { proposed = scratch.new.proposed } }
-        ensures kept { scratch.old.proposed ≤ scratch.new.proposed }
-        ensures few { scratch.new.proposed ≤ scratch.old.proposed + 2 ^ 24 }
-    {
-        the_round_is_the_first();
-        if !self.proposals.are_allowed() {
-            return false;
-        }
-        let case = self.rows.case();
-        self.proposals.write_shown(case, chosen, scratch)
     }
 
     /// Moves one unit of flow along an arc, forward or back. False, and nothing changes, exactly where the arc is not

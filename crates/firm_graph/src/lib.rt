@@ -6,7 +6,7 @@
 //!
 //! The adders require a new name, known names, and fewer than 2^40 rows ever added (`asked`); they, `open` and
 //! `of_rows` alone take memory, before the net changes. `least` always succeeds: a job's arc to the sink has room for
-//! all tasks. `propose` may always say no.
+//! all tasks.
 //!
 //! # How it works
 //!
@@ -15,11 +15,6 @@
 //!
 //! Each change of rows sets the costs that it changes, so `prepare` only clears. A walk over a task's arcs begins with
 //! the one to the hub, by which most paths lead on.
-//!
-//! `propose` needs no net. A round is sought on flat tables by firm_proposals, which proves nothing of what it finds,
-//! and taken only if firm_rents shows it to be the round's. The tables are taken when the graph is opened, and the case
-//! stands beside the rows. The work is bounded by an allowance, and counted apart from the searches of the
-//! net.
 #![tactic(auto)]
 
 mod edits;
@@ -30,7 +25,6 @@ mod laws;
 mod moves;
 mod network;
 mod preferred;
-mod proposals;
 mod restore;
 
 pub use graph::Graph;

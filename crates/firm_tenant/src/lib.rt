@@ -7,10 +7,18 @@
 //! round are refused for memory; no clause can say that a growth really was refused. `specs/Alone.antt` folds the step
 //! over marked commands: the replies of a tenant that is alone. `specs/Starvation.antt` says how long a task waits.
 //! `allow_proposals` bounds what is tried for a round before searches in the net; no reply depends on it.
+//!
+//! # How it works
+//!
+//! A round is sought on flat tables by firm_proposals, which proves nothing of what it finds, and taken only if
+//! firm_rents shows it to be the round's (`proposals.rt`); the case that both read stands beside the rows. Else
+//! firm_canon searches in the net. The tables are taken when the tenant is admitted, within its limits; a proposal's
+//! looks are bounded, and counted apart from those of the searches.
 #![tactic(auto)]
 
 mod laws;
 mod pools;
+mod proposals;
 mod tenants;
 
 pub use laws::{

@@ -8,6 +8,7 @@ ghost use Rattle.firm_tenant.specs.inner.Outcomes.{outcome_of, plain_or};
 ghost use Rattle.firm_tenant.specs.inner.Pools.{book_of, IsOpeningPool, IsPoolOf, IsSoundPool, placed_in};
 ghost use Rattle.firm_tenant.specs.inner.Pools.{HasBegunOnce, HasCountedFor};
 
+use crate::proposals::Proposals;
 use circular_buffer::HeapCircularBuffer;
 use firm_canon::first_best;
 use firm_graph::{Graph, GraphRefusal};
@@ -21,10 +22,11 @@ use firm_rules::{
 use std::alloc::{AllocError, Global};
 use std::marker::Model;
 
-/// The rows of a tenant with their net, and the costs of the last rounds.
+/// The rows of a tenant with their net, what proposes and what searches its rounds, and the costs of the last ones.
 #[derive(Drop)]
 pub(crate) struct Pool {
     graph: Graph,
+    proposals: Proposals,
     prices: Prices,
     scratch: Scratch,
     costs: HeapCircularBuffer<i64>,
@@ -54,10 +56,12 @@ impl Pool {
         ensures { IfOk result (IsOpeningPool limits) }
     {
         let costs = HeapCircularBuffer::with_capacity(alloc, MOST_COSTS)?;
+        let proposals = Proposals::open(alloc, limits)?;
         let graph = Graph::open(alloc, limits)?;
         let (prices, scratch) = workspace(alloc, graph.net())?;
         Ok(Pool {
             graph,
+            proposals,
             prices,
             scratch,
             costs,
@@ -69,10 +73,12 @@ impl Pool {
         ensures { IfOk result (IsPoolOf book.now) }
     {
         let costs = ring_of(alloc, book.costs())?;
+        let proposals = Proposals::open(alloc, book.rows().limits())?;
         let graph = Graph::of_rows(alloc, book.rows())?;
         let (prices, scratch) = workspace(alloc, graph.net())?;
         Ok(Pool {
             graph,
+            proposals,
             prices,
             scratch,
             costs,
@@ -107,7 +113,7 @@ impl Pool {
     pub(crate) fn allow_proposals(&mut self, looks: u64)
         ensures { self.new ≡ self.old }
     {
-        self.graph.allow_proposals(looks);
+        self.proposals.allow(looks);
     }
 
     /// Carries out a command that is already counted, and returns its outcome.
@@ -269,8 +275,9 @@ impl Pool {
         Ok(self.place(alloc, &placement)?)
     }
 
-    // The placement of the round. Afterwards the net carries its flow, the workspace counts the searches, and all else
-    // is unchanged.
+    // The placement of the round: the one that is proposed, if it is shown to be the round's, else the one that is
+    // searched for in the net. Afterwards the workspace counts what this took, and all else is unchanged but the net's
+    // flow.
     fn choose(&mut self, alloc: Global) -> Result<Vec<Choice>, AllocError>
         ensures same { self.new ≡ record self.old { workspace = self.new.workspace } }
         ensures counts { HasBegunOnce self.old self.new }
@@ -281,6 +288,10 @@ impl Pool {
         legality_is_judged();
         self.graph.asked();
         self.scratch.begin();
+        let case = self.graph.rows().case();
+        if let Some(placement) = self.proposals.first(alloc, case, &mut self.scratch)? {
+            return Ok(placement);
+        }
         first_best(alloc, &mut self.graph, &mut self.prices, &mut self.scratch)
     }
 

@@ -9,6 +9,7 @@ mod names;
 mod nets;
 mod proposals;
 mod random;
+mod tenants;
 
 use std::process::Abort;
 

@@ -1,11 +1,17 @@
 use Rattle.std.proofs.Common.{rules, ◌≡◌, true, List, IfOk, sym, subst}
 use Rattle.firm_rules.specs.declared.rounds.Choice.{Choice}
 use Rattle.firm_rules.specs.Placement.{Case, is_legal}
-use Rattle.firm_rules.specs.Round.{case_of, round_placement}
+use Rattle.firm_rules.specs.Round.{case_of, round_placement, IsRound}
 use Rattle.std.proofs.lemmas.Result.{IfOk-weaker}
 use Rattle.firm_tenant.specs.inner.Pools.{Pool, HasBegunOnce}
 use Rattle.firm_tenant.proofs.Counted.{begun_once}
 use Rattle.firm_tenant.proofs.pools.Pool.choose.Goals as goal
+
+pub returns-in-Some-clause-legal : goal.returns-in-Some-clause-legal
+returns-in-Some-clause-legal c =
+    let case : Case = case_of c.args.self.now.rows in
+    let round : IsRound case c.in-Some.placement.items = search rules in
+    (c.legality_is_judged.ensures case c.in-Some.placement.items).only round.legal
 
 pub returns-clause-legal : goal.returns-clause-legal
 returns-clause-legal c =

@@ -12,8 +12,8 @@ use Rattle.firm_canon.specs.inner.Choosing.{Keeps}
 use Rattle.firm_canon.proofs.Counts.{at_most, looked_in_all, more_since}
 use Rattle.firm_canon.proofs.Graphs.{same_on, same_rows}
 use Rattle.firm_canon.proofs.Starts.{ends}
-use Rattle.firm_canon.proofs.best.write_by_search.Goals as goal
-use Rattle.firm_canon.proofs.best.write_by_search.Goals.{After-choose_all}
+use Rattle.firm_canon.proofs.best.write_first.Goals as goal
+use Rattle.firm_canon.proofs.best.write_first.Goals.{After-choose_all}
 
 pub choose_all-requires-clause-ready : goal.choose_all-requires-clause-ready
 choose_all-requires-clause-ready c =
