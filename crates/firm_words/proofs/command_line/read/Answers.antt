@@ -4,9 +4,9 @@ use Rattle.std.specs.Str.Parse.{ExplainsUnsignedError, HasUnsignedDigitsIfOk, Pa
 use Rattle.clap.proofs.WalkLemmas.{one_text-rows}
 use Rattle.clap.specs.Words.{found_of, one_of, without_minus}
 use Rattle.firm_program.specs.Laws.{fails_by_faults, finds, finds_value}
-use Rattle.firm.specs.CommandLine.{command_line}
-use Rattle.firm.proofs.Options.{reads_number, simple, simple_and_free}
-use Rattle.firm.proofs.command_line.read.Goals as goal
+use Rattle.firm_words.specs.CommandLine.{command_line}
+use Rattle.firm_words.proofs.Options.{reads_number, simple, simple_and_free}
+use Rattle.firm_words.proofs.command_line.read.Goals as goal
 
 pub unwrap-workers-requires : goal.unwrap-workers-requires
 unwrap-workers-requires g c =

@@ -3,7 +3,7 @@ use Rattle.std.specs.Prelude.{◌≡◌, ℕ, List, Some, codes, pos}
 use Rattle.clap.specs.Words.{IsParsedFrom, IsSignedIn, app_of, found_of, one_text, without_minus}
 use Rattle.clap.specs.declared.builder.command.Command.{Command}
 use Rattle.clap.specs.declared.parser.matches.ArgMatches.{ArgMatches}
-use Rattle.firm.specs.CommandLine.{command_line}
+use Rattle.firm_words.specs.CommandLine.{command_line}
 
 -- the number that `--workers` has in a parse, from 1 to 8
 pub record HasNumber (m : ArgMatches) : Type 0 where

@@ -23,9 +23,9 @@ use Rattle.clap.specs.declared.builder.command.Command.TheViews.{out-Command as 
 use Rattle.clap.specs.declared.builder.value_parser.ValueParser.TheVariants.{Signed}
 use Rattle.clap.specs.declared.parser.matches.ArgMatches.{ArgMatches}
 use Rattle.firm_program.specs.Options.{IsOption, roster_option, state_option}
-use Rattle.firm.specs.CommandLine.{command_line, versioned_app, workers_option}
-use Rattle.firm.specs.inner.Options.{HasNumber, IsCommandLine}
-use Rattle.firm.proofs.Entries.{default_is_read}
+use Rattle.firm_words.specs.CommandLine.{command_line, versioned_app, workers_option}
+use Rattle.firm_words.specs.inner.Options.{HasNumber, IsCommandLine}
+use Rattle.firm_words.proofs.Entries.{default_is_read}
 
 -- what is said of a command that has no argument yet
 pub record IsBare (command : Command) : Type 0 where
