@@ -3,7 +3,7 @@ use Rattle.std.specs.Prelude.{◌≡◌, ℕ, ◌+◌, List, [], length, Option,
 use Rattle.firm_rules.specs.declared.rounds.Choice.{Choice}
 use Rattle.firm_rules.specs.Limits.{TenantLimits}
 use Rattle.firm_rules.specs.Placement.{Case}
-use Rattle.firm_rents.specs.declared.classes.Class.{Class}
+use Rattle.firm_levels.specs.declared.Class.{Class}
 
 -- the limits of the tenants that it is made for, and its last proposal: a placement, rents in levels (the amount of
 -- each machine, the class of each place, all classes), and the price at which tasks went to any machine

@@ -4,7 +4,7 @@ ghost use Rattle.std.specs.Prelude.{◌≡◌, ◌+◌, length, IfOk};
 use crate::memory::Memory;
 use crate::numbers::{Numbers, Stack};
 use crate::table::Table;
-use firm_rents::Class;
+use firm_levels::Class;
 use std::alloc::{AllocError, Global};
 
 /// The number of the first class at each time, and of a class that is cheaper or dearer than its parent at its own.

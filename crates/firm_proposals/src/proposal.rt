@@ -6,7 +6,7 @@ use crate::classes::most_classes;
 use crate::draft::Draft;
 use crate::first::First;
 use crate::table::Table;
-use firm_rents::LevelRents;
+use firm_levels::LevelRents;
 use firm_rules::Choice;
 use std::alloc::{AllocError, Global};
 

@@ -1,6 +1,5 @@
 //! What proposes a round.
-ghost use Rattle.std.specs.Prelude.{◌≡◌, false, IfOk, IfSome, IsTrue};
-ghost use Rattle.firm_rules.specs.Round.{IsRound};
+ghost use Rattle.std.specs.Prelude.{◌≡◌, false, IfOk, IsTrue};
 ghost use Rattle.firm_proposals.specs.Proposed.{nothing_proposed, IsInForm};
 
 use crate::draft::Draft;
@@ -11,7 +10,7 @@ use crate::numbers::NONE;
 use crate::proposal::Proposal;
 use crate::table::Table;
 use crate::work::Work;
-use firm_rents::{LevelRents, shows_first};
+use firm_levels::LevelRents;
 use firm_rules::{Case, Choice, Limits};
 use std::alloc::{AllocError, Global};
 use std::marker::Model;
@@ -91,23 +90,6 @@ impl Proposer {
         self.least.take_room(&mut memory, nodes);
         self.first.take_room(&mut memory, nodes, arcs);
         memory.was_enough()
-    }
-
-    /// The round's placement, if one is proposed with the work that is left and shown to be it; the price of going to
-    /// any machine in the proposal before may be tried. `None` says nothing of the round. The check takes no look.
-    pub fn first(&mut self, case: &Case, work: &mut Work) -> Option<&[Choice]>
-        ensures first { IfSome result (λ placement. IsRound case.now placement.now) }
-        ensures most { work.new.most ≡ work.old.most }
-    {
-        let hint = self.hub_price();
-        if !self.propose(case, hint, work) {
-            return None;
-        }
-        if shows_first(case, self.rents(), self.placement()) {
-            Some(self.placement())
-        } else {
-            None
-        }
     }
 
     /// Proposes a placement and rents in levels for a round, with the work that is left. May try `hint` as the price of

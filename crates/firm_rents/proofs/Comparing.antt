@@ -2,7 +2,7 @@
 use Rattle.std.proofs.Common.{◌≡◌, ℕ, zero, suc, ◌^◌, ◌<◌, ◌≤◌, cond, eqb, List, length, refl, sym, ap, subst, arith}
 use Rattle.std.proofs.Common.{Bool, true, false, ◌∙◌, ◌⊎◌, inl, inr, ⊎_elim}
 use Rattle.std.proofs.lemmas.Bool.{cases_lt, cases_eq, cond-true, cond-false, eq-eqb, ne_eqb}
-use Rattle.firm_rents.specs.declared.classes.Class.{Class}
+use Rattle.firm_levels.specs.declared.Class.{Class}
 use Rattle.firm_rents.specs.declared.classes.Offer.{Offer}
 use Rattle.firm_rents.specs.declared.classes.Differences.{Differences}
 use Rattle.firm_rents.specs.declared.classes.Left.{Left}

@@ -8,9 +8,9 @@ use Rattle.std.proofs.lemmas.Bool.{cases_lt, cases_eq, cases_Bool, cond-true, co
 use Rattle.firm_rules.specs.declared.rounds.Choice.{Choice}
 use Rattle.firm_rules.specs.declared.rounds.Choice.TheVariants.{On, Wait}
 use Rattle.firm_rules.specs.Placement.{Case, IsPlace, slot_cost, task_cost, runs_at}
-use Rattle.firm_rents.specs.declared.classes.Class.{Class}
+use Rattle.firm_levels.specs.declared.Class.{Class}
 use Rattle.firm_rents.specs.declared.classes.Offer.{Offer}
-use Rattle.firm_rents.specs.declared.classes.LevelRents.{LevelRents}
+use Rattle.firm_levels.specs.declared.LevelRents.{LevelRents}
 use Rattle.firm_rules.specs.Placement.{task_at}
 use Rattle.firm_rents.specs.Levels.{IsAtMost, time, amount, paid_by_level, slot_by_level}
 use Rattle.firm_rules.specs.ChoiceCost.{wide_cost}

@@ -1,29 +1,11 @@
 //! Rents in levels, behind their amounts by classes of places, and how they compare.
 ghost use Rattle.std.specs.Prelude.{◌≡◌, ◌≢◌, ◌^◌, ◌<◌, ◌≤◌, true, false, ℕ, List, length, suc};
 ghost use Rattle.firm_rents.specs.Levels.{IsAtMost};
-ghost use Rattle.firm_rents.specs.declared.classes.Class.{Class as ClassOf};
+ghost use Rattle.firm_levels.specs.declared.Class.{Class as ClassOf};
 ghost use Rattle.firm_rents.specs.inner.Classes.{number, AreClasses, offered, Covers, Differ};
 ghost use Rattle.firm_rents.specs.inner.Classes.{IsCheaperFrom, IsKnown, IsParting, IsPartingOf};
 
-/// A class of places: at its time their rents have its number, else they are those of its parent's. A rent of the first
-/// class has 1 at each time.
-#[derive(Clone, Copy, PartialEq, Eq)]
-pub struct Class {
-    pub parent: u32,
-    pub time: u32,
-    pub number: u32,
-}
-
-/// Rents in levels: for each machine an amount, at most 2^40, and behind it the numbers of a class. Waiting has an
-/// amount of 0.
-#[derive(Drop)]
-pub struct LevelRents {
-    pub amounts: Vec<u64>,
-    /// The class of each machine and, last, that of waiting.
-    pub places: Vec<u32>,
-    /// Each but the first stands behind its parent, and has a later time than that unless it is the first.
-    pub classes: Vec<Class>,
-}
+use firm_levels::Class;
 
 /// What a choice costs a task with its rent, and the time of the choice.
 #[derive(Clone, Copy)]

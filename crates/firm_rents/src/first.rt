@@ -12,11 +12,11 @@ ghost use Rattle.firm_rents.specs.inner.Classes.{AreClasses, AreInLevels, IsKnow
 ghost use Rattle.firm_rents.specs.inner.Classes.{SuitsLoad, level_rents, offered, place_levels, place_of, place_offer};
 
 use crate::classes::{
-    Class, Known, LevelRents, Offer, cheaper_from_parted, cheaper_since, is_at_most,
-    is_at_most_parted,
+    Known, Offer, cheaper_from_parted, cheaper_since, is_at_most, is_at_most_parted,
 };
 use crate::laws::rents_show_first;
 use crate::rents::MOST_RENT;
+use firm_levels::{Class, LevelRents};
 use firm_rules::{Case, Choice, MOST_MACHINES, legality_is_judged, slot_cost};
 
 /// Whether rents in levels, whoever proposed them, show that a placement is the round's: it is legal, no legal one

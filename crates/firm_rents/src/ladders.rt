@@ -2,9 +2,9 @@
 ghost use Rattle.std.specs.Prelude.{◌≡◌, ◌+◌, ◌*◌, ◌^◌, ◌<◌, ◌≤◌, length, IfOk, IsTrue};
 ghost use Rattle.firm_rules.specs.Round.{IsRound};
 
-use crate::classes::{Class, LevelRents};
 use crate::first::shows_first;
 use crate::rents::Rents;
+use firm_levels::{Class, LevelRents};
 use firm_rules::{Case, Choice};
 use std::alloc::{AllocError, Global};
 

@@ -5,11 +5,11 @@ use Rattle.firm_rules.specs.declared.rounds.Choice.{Choice}
 use Rattle.firm_rules.specs.declared.rounds.Choice.TheVariants.{On, Wait}
 use Rattle.firm_rules.specs.Placement.{Case}
 use Rattle.firm_rents.specs.Levels.{IsAtMost, slot_by_level, paid_by_level}
-use Rattle.firm_rents.specs.declared.classes.Class.{Class}
+use Rattle.firm_levels.specs.declared.Class.{Class}
 use Rattle.firm_rents.specs.declared.classes.Offer.{Offer}
 use Rattle.firm_rents.specs.declared.classes.Differences.{Differences}
 use Rattle.firm_rents.specs.declared.classes.Known.{Known}
-use Rattle.firm_rents.specs.declared.classes.LevelRents.{LevelRents}
+use Rattle.firm_levels.specs.declared.LevelRents.{LevelRents}
 use Rattle.firm_rents.specs.declared.classes.Parting.{Parting}
 
 -- the class of this number

@@ -56,9 +56,15 @@ fn expect_shown(rt: &impl Abort, proposer: &Proposer, case: &Case, wanted: &[Cho
     expect(rt, shows_first(case, proposer.rents(), placement), true);
 }
 
+// Whether a round is proposed with the hub's price of the last one, and shown.
+fn is_first(proposer: &mut Proposer, case: &Case, work: &mut Work) -> bool {
+    let hint = proposer.hub_price();
+    proposer.propose(case, hint, work) && shows_first(case, proposer.rents(), proposer.placement())
+}
+
 // The round is proposed from the last one, and shown.
 fn expect_first(rt: &impl Abort, proposer: &mut Proposer, case: &Case, wanted: &[Choice]) {
-    let is_shown = proposer.first(case, &mut ample()).is_some();
+    let is_shown = is_first(proposer, case, &mut ample());
     check(rt, is_shown, "a shown proposal");
     expect_shown(rt, proposer, case, wanted);
 }
@@ -218,7 +224,7 @@ fn place_crowd(rt: &impl Abort, alloc: Global, book: &mut Book) {
     }
     let mut work = ample();
     let case = book.graph.rows().case();
-    let is_proposed = book.proposer.first(case, &mut work).is_some();
+    let is_proposed = is_first(&mut book.proposer, case, &mut work);
     check(rt, is_proposed, "a round is proposed");
     check(rt, work.searches() < 20, "a crowd takes few searches");
 }

@@ -1,0 +1,27 @@
+//! Rents in levels, as one crate proposes them and another judges them: for each machine, and for waiting, an amount
+//! and behind it a number at each time. `specs/Levels.antt` of firm_rents says what a time is, and how they compare.
+//!
+//! A proposer of firm_proposals writes `LevelRents`, and so does firm_rents for a ladder; `shows_first` of firm_rents
+//! reads them. They stand in a crate of their own so that neither of those two crates rests on the other. Nothing is
+//! required of them: no clause asks anything, and `shows_first` itself checks the form that is described here.
+#![tactic(auto)]
+
+/// A class of places: at its time their rents have its number, else they are those of its parent's. A rent of the first
+/// class has 1 at each time.
+#[derive(Clone, Copy, PartialEq, Eq)]
+pub struct Class {
+    pub parent: u32,
+    pub time: u32,
+    pub number: u32,
+}
+
+/// Rents in levels: for each machine an amount, at most 2^40, and behind it the numbers of a class. Waiting has an
+/// amount of 0.
+#[derive(Drop)]
+pub struct LevelRents {
+    pub amounts: Vec<u64>,
+    /// The class of each machine and, last, that of waiting.
+    pub places: Vec<u32>,
+    /// Each but the first stands behind its parent, and has a later time than that unless it is the first.
+    pub classes: Vec<Class>,
+}
