@@ -63,8 +63,8 @@ def constant(file: str, name: str, old: str, new: str) -> Edit:
 NO_LOOKS = [
     constant("firm_tray/src/sides.rt", "LOOKS_BEFORE_SLEEP: u32", "1_024", "0"),
     constant("firm_hall/src/patience.rt", "FEW_LOOKS: u32", "16", "0"),
-    constant("firm_hall/src/bell.rt", "LOOKS_BEFORE_REST: u32", "16", "0"),
-    constant("firm_hall/src/bell.rt", "LOOKS_OF_LAST: u32", "512", "0"),
+    constant("firm_bell/src/bell.rt", "LOOKS_BEFORE_REST: u32", "16", "0"),
+    constant("firm_bell/src/bell.rt", "LOOKS_OF_LAST: u32", "512", "0"),
     constant("firm_rounds/src/queue.rt", "TRIES_BEFORE_SLEEP: u32", "64", "0"),
 ]
 
@@ -103,7 +103,7 @@ COUNTS = [
 ]
 
 NO_NOTIFICATION = Edit(
-    "firm_hall/src/bell.rt",
+    "firm_bell/src/bell.rt",
     "let resting = table.load::<LooksForRest>(&mut seat, RESTING);\n        if resting != 0 {",
     "let resting = table.load::<LooksForRest>(&mut seat, RESTING);\n        if self.workers < resting {",
 )

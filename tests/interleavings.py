@@ -97,7 +97,7 @@ def change(form: str, *acts: Act) -> Steps:
 
 # The workers of a hall, which rest until they are woken for a round or the hall is shut; callers, which may sleep at a
 # full queue; and the clerk, which sleeps until there is room for a round, or an answer. That each step keeps the rule
-# of the bell's words is proved (`crates/firm_hall/specs/Bell.antt`); here stands what no clause sees: the queue, the
+# of the bell's words is proved (`crates/firm_bell/specs/Bell.antt`); here stands what no clause sees: the queue, the
 # event counts, and the kernel, which lays threads down and wakes them.
 #
 # What is left out changes nothing: the notifications of a queue with room for all rounds and of a clerk that is not

@@ -12,7 +12,7 @@ use Rattle.firm_rules.specs.declared.replies.Refusal.TheVariants.{Worn, Memory}
 use Rattle.firm_tenant.specs.Step.{step, is_memory}
 use Rattle.firm_table.specs.Interleaving.{is_round}
 use Rattle.firm_hall.specs.Counts.{is_worn, round_in}
-use Rattle.firm_hall.specs.inner.Held.{asks}
+use Rattle.firm_hall.specs.inner.Reckoned.{asks}
 
 -- a command is one round at most
 one_round : (command : Command) (reply : Reply) → round_in command reply ≤ 1

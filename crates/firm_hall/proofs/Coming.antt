@@ -15,18 +15,19 @@ use Rattle.firm_table.specs.Places.{Place}
 use Rattle.firm_rounds.specs.Rounds.{weigh}
 use Rattle.firm_rounds.specs.Passes.{QueueId}
 use Rattle.firm_hall.specs.Desks.{DeskIs, IsStep}
-use Rattle.firm_hall.specs.inner.Held.{FirstIs, HeldIs, Mark, NoneWaits, Reckoned, asks, filled, held_is}
-use Rattle.firm_hall.specs.inner.Held.{reckon}
+use Rattle.firm_held.specs.Held.{FirstIs, HeldIs, NoneWaits, filled, held_is}
+use Rattle.firm_hall.specs.inner.Reckoned.{Mark, Reckoned, asks, reckon}
 use Rattle.firm_hall.specs.inner.DeskStates.{Answered, IsAway, IsHome, IsTakenAt, IsTurned, Went, with_waiting}
 use Rattle.firm_hall.specs.inner.Serving.{ArePlaced, DeskStateIs, Follows, IsAskedAt, IsOpen, Keeps, ServingIs, Stands}
 use Rattle.firm_hall.specs.inner.Serving.{TellsParts, TellsReckoned, asked_at, before_held, book_at, desk_state_counts}
 use Rattle.firm_hall.specs.inner.Serving.{serving_is}
 use Rattle.firm_hall.specs.declared.desk_states.DeskState.{DeskState}
 use Rattle.firm_hall.specs.declared.desk_states.DeskState.TheVariants.{Home, Away, Empty, Gone}
-use Rattle.firm_hall.specs.declared.held.HeldAnswer.{HeldAnswer}
+use Rattle.firm_held.specs.declared.held.HeldAnswer.{HeldAnswer}
 use Rattle.firm_hall.proofs.Asking.{answered_asks, round_asks}
 use Rattle.firm_hall.proofs.DeskStates.{asked_set, book_here, books_same, books_set, desk_state_other, desk_states_set}
-use Rattle.firm_hall.proofs.HeldAnswers.{length_filled, not_none, placed_filled}
+use Rattle.firm_held.specs.Laws.{length_filled, not_none}
+use Rattle.firm_hall.proofs.Placed.{placed_filled}
 use Rattle.firm_hall.proofs.Reckoning.{put_at, reckon_filled}
 
 -- one change behind another

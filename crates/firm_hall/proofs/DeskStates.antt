@@ -12,13 +12,13 @@ use Rattle.firm_rules.specs.declared.commands.Command.TheVariants.{Round}
 use Rattle.firm_rules.specs.declared.replies.Reply.{Reply}
 use Rattle.firm_rounds.specs.Rounds.{weigh}
 use Rattle.firm_rounds.specs.Passes.{QueueId}
-use Rattle.firm_hall.specs.inner.Held.{FirstIs, filled, waits_for}
+use Rattle.firm_held.specs.Held.{FirstIs, filled, waits_for}
 use Rattle.firm_hall.specs.inner.DeskStates.{IsBack}
 use Rattle.firm_hall.specs.inner.Serving.{AreDeskStates, DeskStateIs, asked_at, book_at}
 use Rattle.firm_hall.specs.declared.desk_states.DeskState.{DeskState}
 use Rattle.firm_hall.specs.declared.desk_states.DeskState.TheVariants.{Home, Away, Empty, Gone}
-use Rattle.firm_hall.specs.declared.held.HeldAnswer.{HeldAnswer}
-use Rattle.firm_hall.proofs.HeldAnswers.{first_other, first_push, none_other, none_push}
+use Rattle.firm_held.specs.declared.held.HeldAnswer.{HeldAnswer}
+use Rattle.firm_held.specs.Laws.{first_other, first_push, none_other, none_push}
 
 module _ {A : Type 0} where
   pub weigh_set : (g : A → ℕ) (xs : List A) (i : ℕ) (y d : A) → i < length xs

@@ -17,7 +17,7 @@ use Rattle.firm_hall.specs.inner.Serving.{AreDeskStates, DeskStateIs, Fits, IsAw
 use Rattle.firm_hall.specs.inner.Serving.{desk_state_counts, place_counts}
 use Rattle.firm_hall.specs.declared.desk_states.DeskState.{DeskState}
 use Rattle.firm_hall.specs.declared.desk_states.DeskState.TheVariants.{Home, Away, Empty, Gone}
-use Rattle.firm_hall.specs.declared.held.HeldAnswer.{HeldAnswer}
+use Rattle.firm_held.specs.declared.held.HeldAnswer.{HeldAnswer}
 
 module _ (register : List Entry) (desk_states : List DeskState) (fits : Fits register desk_states) (place : ℕ)
     (before default : DeskState) (low : place < length desk_states)

@@ -10,14 +10,15 @@ use Rattle.firm_table.specs.Places.{Place}
 use Rattle.firm_table.specs.Service.{AnswersFrom}
 use Rattle.firm_rounds.specs.Rounds.{weigh}
 use Rattle.firm_rounds.specs.Passes.{QueueId}
-use Rattle.firm_hall.specs.inner.Held.{FirstIsKnown, HeldIs, Mark, Reckoned, known_text, reckon}
+use Rattle.firm_held.specs.Held.{FirstIsKnown, HeldIs, known_text}
+use Rattle.firm_hall.specs.inner.Reckoned.{Mark, Reckoned, reckon}
 use Rattle.firm_hall.specs.inner.Serving.{ServingIs, Stands, Keeps, Passes, Begins, Begun, serving_is}
 use Rattle.firm_hall.specs.inner.Serving.{AreDeskStates, ArePlaced, DeskStateIs, TellsParts, TellsReckoned}
 use Rattle.firm_hall.specs.inner.Serving.{asked_at, before_held, book_at, state_after}
 use Rattle.firm_hall.specs.declared.desk_states.DeskState.{DeskState}
-use Rattle.firm_hall.specs.declared.held.HeldAnswer.{HeldAnswer}
-use Rattle.firm_hall.specs.declared.held.HeldAnswer.TheVariants.{Known, Waiting}
-use Rattle.firm_hall.proofs.HeldAnswers.{known_waits}
+use Rattle.firm_held.specs.declared.held.HeldAnswer.{HeldAnswer}
+use Rattle.firm_held.specs.declared.held.HeldAnswer.TheVariants.{Known, Waiting}
+use Rattle.firm_held.specs.Laws.{known_waits}
 use Rattle.firm_hall.proofs.Reckoning.{behind, reckon_front, with_front}
 use Rattle.firm_hall.proofs.DeskStates.{desk_state_pop}
 use Rattle.firm_hall.proofs.Telling.{tells_begins, tells_written}

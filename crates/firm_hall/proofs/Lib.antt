@@ -1,10 +1,8 @@
 mod Alls
-mod BellMoves
 mod Opening
 mod Once
 mod Shutting
-mod HeldAnswers
-mod HeldBytes
+mod Placed
 mod Reckoning
 mod Asking
 mod DeskStates

@@ -24,14 +24,14 @@ use Rattle.firm_table.specs.Adding.{OneMoreIsTold, AdmissionsAreAnswered, Admiss
 use Rattle.firm_table.specs.Adding.{AdmissionsAreRefused, RetirementsAreAnswered, RetirementsAreRefused}
 use Rattle.firm_rounds.specs.Rounds.{weigh}
 use Rattle.firm_rounds.specs.Passes.{QueueId}
-use Rattle.firm_hall.specs.inner.Held.{NoneWaits}
+use Rattle.firm_held.specs.Held.{NoneWaits}
 use Rattle.firm_hall.specs.inner.DeskStates.{IsAdmitted, IsBack, IsRetired}
 use Rattle.firm_hall.specs.inner.Serving.{AreDeskStates, DeskStateIs, Fits, asked_at, book_at, desk_state_counts}
 use Rattle.firm_hall.specs.inner.Serving.{place_counts}
 use Rattle.firm_hall.specs.declared.desk_states.DeskState.{DeskState}
 use Rattle.firm_hall.specs.declared.desk_states.DeskState.TheVariants.{Home, Away, Empty, Gone}
-use Rattle.firm_hall.specs.declared.held.HeldAnswer.{HeldAnswer}
-use Rattle.firm_hall.specs.declared.held.HeldAnswer.TheVariants.{Known}
+use Rattle.firm_held.specs.declared.held.HeldAnswer.{HeldAnswer}
+use Rattle.firm_held.specs.declared.held.HeldAnswer.TheVariants.{Known}
 use Rattle.firm_hall.proofs.Fitting.{counts_at}
 use Rattle.firm_hall.proofs.DeskStates.{asked_set, books_set, desk_states_set}
 use Rattle.firm_hall.proofs.Taking.{Tells, changed_told, known_told}

@@ -1,7 +1,7 @@
 -- What the held answers come to, as one is added, becomes known, or a book changes for which none waits.
 use Rattle.std.proofs.Common.{◌≡◌, ◌≢◌, ℕ, zero, suc, ◌+◌, ◌<◌, List, [], ◌∷◌, ◌++◌, length, set, get_or}
-use Rattle.std.proofs.Common.{refl, sym, ap, ◌∙◌, arith, append_assoc}
-use Rattle.std.specs.Prelude.{true, false, Option, Some, None}
+use Rattle.std.proofs.Common.{refl, sym, ap, ◌∙◌, arith, append_assoc, eq-eqb}
+use Rattle.std.specs.Prelude.{true, false, ◌==◌, Option, Some, None}
 use Rattle.std.proofs.lemmas.List.{length-set, get_or-set_other}
 use Rattle.std.proofs.lemmas.Grind.{get_or-set_at}
 use mathlib.Core.Logic.{dite}
@@ -12,11 +12,14 @@ use Rattle.firm_rules.specs.declared.replies.Reply.{Reply}
 use Rattle.firm_tenant.specs.Step.{step}
 use Rattle.firm_table.specs.Answers.{text_of_answer}
 use Rattle.firm_table.specs.declared.answers.LineAnswer.TheVariants.{Replied}
-use Rattle.firm_hall.specs.inner.Held.{FirstIs, IsWaiting, Mark, NoneWaits, Reckoned, answered, asks, filled, reckon}
-use Rattle.firm_hall.specs.inner.Held.{reckon_command, reckon_one, waits_for}
-use Rattle.firm_hall.specs.declared.held.HeldAnswer.{HeldAnswer}
-use Rattle.firm_hall.specs.declared.held.HeldAnswer.TheVariants.{Known, Waiting}
-use Rattle.firm_hall.proofs.HeldAnswers.{differs}
+use Rattle.firm_held.specs.Held.{FirstIs, IsWaiting, NoneWaits, answered, filled, waits_for}
+use Rattle.firm_hall.specs.inner.Reckoned.{Mark, Reckoned, asks, reckon, reckon_command, reckon_one}
+use Rattle.firm_held.specs.declared.held.HeldAnswer.{HeldAnswer}
+use Rattle.firm_held.specs.declared.held.HeldAnswer.TheVariants.{Known, Waiting}
+
+-- a place is no other
+differs : {X : Type 0} (place other : ℕ) → (place == other) ≡ false → place ≡ other → X
+differs place other out e = let both : true ≡ false = sym (eq-eqb place other e) ∙ out in absurd (cc)
 
 -- what is reckoned, with this book at a place and so many more rounds asked
 abbrev pub put_at : ℕ → Option Book → ℕ → Reckoned → Reckoned

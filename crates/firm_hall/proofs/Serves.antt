@@ -13,10 +13,10 @@ use Rattle.firm_table.specs.declared.faults.ServeFault.TheVariants.{Memory}
 use Rattle.firm_rounds.specs.Rounds.{weigh}
 use Rattle.firm_rounds.specs.Passes.{QueueId, pop_is, new_pops}
 use Rattle.firm_hall.specs.Counts.{ServedWithFrom}
-use Rattle.firm_hall.specs.inner.Held.{Mark, reckon}
+use Rattle.firm_hall.specs.inner.Reckoned.{Mark, reckon}
 use Rattle.firm_hall.specs.inner.Serving.{TellsParts, TellsReckoned, asked_at, before_held}
 use Rattle.firm_hall.specs.declared.desk_states.DeskState.{DeskState}
-use Rattle.firm_hall.specs.declared.held.HeldAnswer.{HeldAnswer}
+use Rattle.firm_held.specs.declared.held.HeldAnswer.{HeldAnswer}
 
 -- nothing was read yet
 pub unread : (opening : List Place) (most : ℕ) (left written : Option (List ℕ)) (read_failed write_failed : Bool)

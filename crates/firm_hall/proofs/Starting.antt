@@ -21,7 +21,7 @@ use Rattle.firm_hall.specs.inner.Serving.{desk_state_counts, place_counts, AreDe
 use Rattle.firm_hall.specs.inner.Serving.{TellsParts}
 use Rattle.firm_hall.specs.declared.desk_states.DeskState.{DeskState}
 use Rattle.firm_hall.specs.declared.desk_states.DeskState.TheVariants.{Home, Away, Empty, Gone}
-use Rattle.firm_hall.specs.declared.held.HeldAnswer.{HeldAnswer}
+use Rattle.firm_held.specs.declared.held.HeldAnswer.{HeldAnswer}
 use Rattle.firm_hall.proofs.Opening.{pass_at}
 
 -- what stands at the places from one on begins with what stands there

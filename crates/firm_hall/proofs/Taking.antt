@@ -26,20 +26,21 @@ use Rattle.firm_rounds.specs.Rounds.{weigh}
 use Rattle.firm_rounds.specs.Passes.{QueueId}
 use Rattle.firm_hall.specs.Desks.{DeskIs}
 use Rattle.firm_hall.specs.Counts.{round_of}
-use Rattle.firm_hall.specs.inner.Held.{HeldIs, Mark, NoneWaits, Reckoned, held_is, reckon, reckon_command}
-use Rattle.firm_hall.specs.inner.Held.{held_answer, reckon_one, waits_for}
+use Rattle.firm_held.specs.Held.{HeldIs, NoneWaits, held_answer, held_is, waits_for}
+use Rattle.firm_hall.specs.inner.Reckoned.{Mark, Reckoned, reckon, reckon_command, reckon_one}
 use Rattle.firm_hall.specs.inner.DeskStates.{Answered, IsBack, IsTakenAt, Went, with_waiting}
 use Rattle.firm_hall.specs.inner.Serving.{DeskStateIs, IsPlaced, ServingIs, Stands, Takes, TellsParts}
 use Rattle.firm_hall.specs.inner.Serving.{TellsReckoned, asked_at, before_held, book_at, desk_state_counts, serving_is}
 use Rattle.firm_hall.specs.inner.Serving.{state_after}
 use Rattle.firm_hall.specs.declared.desk_states.DeskState.{DeskState}
 use Rattle.firm_hall.specs.declared.desk_states.DeskState.TheVariants.{Home, Away, Empty, Gone}
-use Rattle.firm_hall.specs.declared.held.HeldAnswer.{HeldAnswer}
-use Rattle.firm_hall.specs.declared.held.HeldAnswer.TheVariants.{Known, Waiting}
+use Rattle.firm_held.specs.declared.held.HeldAnswer.{HeldAnswer}
+use Rattle.firm_held.specs.declared.held.HeldAnswer.TheVariants.{Known, Waiting}
 use Rattle.firm_hall.proofs.Asking.{answered_asks, asks_least, asks_most}
 use Rattle.firm_hall.proofs.Coming.{fill_told, here, same_told, within}
 use Rattle.firm_hall.proofs.DeskStates.{asked_set, book_here, books_same, books_set, desk_state_push, desk_states_set}
-use Rattle.firm_hall.proofs.HeldAnswers.{filled_push, first_here, none_push, placed_push}
+use Rattle.firm_held.specs.Laws.{filled_push, first_here, none_push}
+use Rattle.firm_hall.proofs.Placed.{placed_push}
 use Rattle.firm_hall.proofs.Reckoning.{book_behind, put_at, reckon_apart, reckon_push}
 use Rattle.firm_hall.proofs.Telling.{AddsAnswer, tells_more}
 

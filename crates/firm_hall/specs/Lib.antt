@@ -1,4 +1,3 @@
-pub mod Bell
 pub mod Desks
 pub mod Polls
 pub mod Admissions

@@ -6,12 +6,12 @@ ghost use Rattle.firm_text.specs.Rosters.{most_places};
 ghost use Rattle.firm_hall.specs.Desks.{place_is};
 ghost use Rattle.firm_hall.specs.Opening.{opening_desks, unused_places};
 
-use crate::bell::Bell;
 use crate::desks::Desk;
 use crate::empty::EmptyDesk;
 use crate::places::Place;
 use crate::workers::WorkerPass;
 use crossbeam_utils::sync::EventCount;
+use firm_bell::Bell;
 use firm_rounds::{Job, PopPass, PutPass, Queue};
 use firm_text::{PLACES, Roster};
 use firm_tray::Spent;

@@ -25,9 +25,9 @@
 //!
 //! # How it works
 //!
-//! A command of a tenant whose round is away, or a round for which the queue has no room, waits among the held answers,
-//! in the place of its own answer: there each tenant has a queue of its own (`held.rt`), and the lines of others are
-//! answered meanwhile. What the held answers come to is one fold over them (`reckon` in `specs/inner/Held.antt`).
+//! A command of a tenant whose round is away, or a round for which the queue has no room, waits among the held answers
+//! (firm_held), in the place of its own answer: there each tenant has a queue of its own, and the lines of others are
+//! answered meanwhile. What the held answers come to is one fold over them (`reckon` in `specs/inner/Reckoned.antt`).
 //!
 //! The clerk waits in one loop alone (`waiting.rt`): for input, while an answer is missing and a read would wait
 //! (`Source::is_ready`); for the turn of a line; and at the end for all answers. A line has its turn when fewer than
@@ -39,32 +39,24 @@
 //! A worker without a round looks 16 times, the last one awake 512 times, the clerk 1,024 times, or 16 where
 //! rounds come late or none has come yet (`patience.rt`). Then they sleep:
 //!
-//! - a worker without a round: sleeps until it is called for a round, or the hall is shut; woken by the hall's `Bell`;
-//!   `shut` wakes all
+//! - a worker without a round: sleeps until it is called for a round, or the hall is shut; woken by the hall's bell
+//!   (firm_bell); `shut` wakes all
 //! - the clerk: sleeps until a round is solved, a full queue has room, or input is there; woken by the worker that
 //!   solved a round or took one from a full queue, or by the source
 //! - `Asked::wait`: sleeps until the round is solved; woken by its tray
 //! - `Desk::ask` at a full queue: sleeps until a worker takes a round; woken by the queue
 //!
-//! A round wakes a worker at once only if all workers rest or four rounds wait; else a wake is owed (why:
-//! docs/DECISIONS.md). `Desk::ask` *rings* at once; the clerk rings before each read, after each 256 looks in vain, and
-//! before it sleeps: if a wake is owed and a round still waits, one worker wakes. One that takes a round right after
-//! its sleep calls another while rounds wait. So after a ring no worker sleeps on while a round waits.
-//! `specs/Bell.antt` states this as a rule over the bell's words, and each step of callers and workers is proved to
-//! keep it.
+//! A round may be put without waking a worker. The wake is then owed, until a caller *rings*: `Desk::ask` does at once;
+//! the clerk before each read, after each 256 looks in vain, and before it sleeps. So after a ring no worker sleeps on
+//! while a round waits: firm_bell has the rule over the bell's words, which each step of callers and workers keeps, and
+//! says how a worker rests and ends.
 //!
-//! A worker announces its rest in a count of the bell's, and rests only if no round waits then: a caller that counts
-//! its round later finds that count. It sleeps until a caller leaves it a wake, in a count on which workers sleep; that
-//! the kernel wakes a thread for each wake no clause sees. The clerk announces its sleep on an event count (`answers`)
-//! and then looks once more. A change that this look misses follows the announcement, so its notification ends the
-//! sleep, even one not yet begun. A worker ends once it has read the stop word as set and then that no round waits.
+//! The clerk announces its sleep on an event count (`answers`) and then looks once more. A change that this look misses
+//! follows the announcement, so its notification ends the sleep, even one not yet begun.
 //!
 //! `serve` and `worker` call a `Gate` between taking a round and solving it; the program's is `Open`.
 #![tactic(auto)]
 
-mod bell;
-mod bell_rule;
-mod change_bytes;
 mod clerk;
 mod close;
 mod desk_states;
@@ -72,7 +64,6 @@ mod desks;
 mod empty;
 mod ending;
 mod halls;
-mod held;
 mod patience;
 mod places;
 mod returning;

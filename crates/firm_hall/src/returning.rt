@@ -2,7 +2,7 @@
 ghost use Rattle.std.specs.Prelude.{◌≡◌, ◌+◌, ◌<◌, length, take, true};
 ghost use Rattle.firm_rules.specs.declared.commands.Command.{Command};
 ghost use Rattle.firm_text.specs.Rosters.{most_places};
-ghost use Rattle.firm_hall.specs.inner.Held.{FirstIsAt, NoneWaits};
+ghost use Rattle.firm_held.specs.Held.{FirstIsAt, NoneWaits};
 ghost use Rattle.firm_hall.specs.inner.Serving.{Follows, IsAwayAt, IsHomeAt, IsOpen, Keeps};
 
 use crate::halls::Hall;
@@ -90,7 +90,7 @@ impl Serving {
         };
         let at = self.held.first_of(place);
         self.held.fill(at, place, reply);
-        self.held.came_back();
+        self.patience = self.patience.after_round();
         true
     }
 

@@ -10,18 +10,18 @@ ghost use Rattle.firm_table.specs.Places.{Place};
 ghost use Rattle.firm_table.specs.Openings.{places_opened};
 ghost use Rattle.firm_table.specs.Service.{BeginsAnswersFrom, IsWritingFault};
 ghost use Rattle.firm_rounds.specs.Passes.{new_puts};
-ghost use Rattle.firm_hall.specs.inner.Held.{FirstIsKnown, FirstWaits, HasRoom, most_answers_held};
+ghost use Rattle.firm_held.specs.Held.{FirstIsKnown, FirstWaits, HasRoom, most_answers_held};
 ghost use Rattle.firm_hall.specs.inner.Serving.{Begins, Follows, HasTurn, IsBackAt, IsOpen, IsWrittenOut, Keeps};
 ghost use Rattle.firm_hall.specs.inner.Serving.{Passes, Takes, TellsAll, place_of_line};
 
 use crate::desk_states::DeskState;
 use crate::halls::Hall;
-use crate::held::{Held, HeldAnswer};
-use crate::patience::Looks;
+use crate::patience::{Looks, Patience};
 use crate::seating::open_states;
 use crate::setting::Setting;
 use crate::unsettled::Unsettled;
 use crate::waiting::Turn;
+use firm_held::{Held, HeldAnswer};
 use firm_rounds::PutPass;
 use firm_rules::{Command, Name};
 use firm_table::{LineAnswer, ServeFault, answers_add_up};
@@ -41,6 +41,8 @@ pub(crate) struct Serving {
     pub(crate) desk_states: Vec<DeskState>,
     pub(crate) held: Held,
     pub(crate) unsettled: Unsettled,
+    // How long those that wait are looked for.
+    pub(crate) patience: Patience,
 }
 
 impl Model for Serving {
@@ -75,6 +77,7 @@ impl Serving {
             desk_states,
             held,
             unsettled: Unsettled::none(),
+            patience: Patience::FIRST,
         })
     }
 
@@ -309,7 +312,8 @@ impl Serving {
         let Ok(()) = self.put_known() else {
             return Err(ServeFault::Memory);
         };
-        self.held.write(writer, looks)
+        self.patience = self.patience.after_look(looks);
+        self.held.write(writer)
     }
 
     /// Whether no answer is held.
@@ -328,7 +332,7 @@ impl Serving {
 
     /// How many looks in vain come before a sleep: fewer while rounds come late.
     pub(crate) fn most_looks(&self) -> u32 {
-        self.held.most_looks(self.unsettled.are_several())
+        self.patience.most_looks(self.unsettled.are_several())
     }
 
     /// How many answers are held.

@@ -4,8 +4,8 @@ ghost use Rattle.firm_rules.specs.declared.tickets.Ticket.{Ticket};
 ghost use Rattle.firm_rounds.specs.Passes.{closing_is, spent_pop};
 ghost use Rattle.firm_rounds.specs.Rounds.{share};
 
-use crate::bell::Listener;
 use crate::halls::Hall;
+use firm_bell::Listener;
 use firm_rounds::{Closing, Job, PopPass, Queue};
 use firm_rules::Ticket;
 use std::alloc::Global;
@@ -62,13 +62,13 @@ pub struct Report {
 impl Model for Report {
     ghost use Rattle.std.specs.Prelude.{◌≡◌};
     ghost use Rattle.firm_rounds.specs.Passes.{PopIs};
-    ghost use Rattle.firm_hall.specs.declared.bell_rule.Stage.TheVariants.{Ended};
+    ghost use Rattle.firm_bell.specs.declared.rule.Stage.TheVariants.{Ended};
 
     ghost Value = { PopIs };
 
     ghost view = { λ r. r.taken };
 
-    ghost invariant = { λ r. r.listener.seat.me.0.stage ≡ Ended };
+    ghost invariant = { λ r. r.listener.me.0.stage ≡ Ended };
 }
 
 impl Report {
@@ -149,7 +149,7 @@ fn warm_up(alloc: Global) {
 // Solves the round behind the gate, and tells the clerk. That may take long, so the worker has made the call that it
 // owed.
 fn solve<G: Gate>(alloc: Global, hall: &Hall, job: Job, gate: &G, listener: &Listener)
-    requires { listener.now.seat.me.0.owes_call ≡ false }
+    requires { listener.now.me.0.owes_call ≡ false }
 {
     let _ = listener;
     gate.pass(job.ticket());

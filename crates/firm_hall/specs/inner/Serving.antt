@@ -21,13 +21,14 @@ use Rattle.firm_rounds.specs.Rounds.{weigh}
 use Rattle.firm_rounds.specs.Passes.{QueueId}
 use Rattle.firm_hall.specs.Counts.{Counted}
 use Rattle.firm_hall.specs.Desks.{DeskIs, desk_is, place_is}
-use Rattle.firm_hall.specs.inner.Held.{FirstIs, FirstWaits, HasRoom, HeldIs, Mark, NoneWaits, Reckoned, reckon}
+use Rattle.firm_held.specs.Held.{FirstIs, FirstWaits, HasRoom, HeldIs, NoneWaits}
+use Rattle.firm_hall.specs.inner.Reckoned.{Mark, Reckoned, reckon}
 use Rattle.firm_hall.specs.inner.DeskStates.{IsAway, IsBack, IsHome}
 use Rattle.firm_hall.specs.declared.desk_states.DeskState.{DeskState}
 use Rattle.firm_hall.specs.declared.desk_states.DeskState.TheVariants.{Home, Away, Empty, Gone}
 use Rattle.firm_table.specs.declared.answers.LineAnswer.TheVariants.{ToOperator}
-use Rattle.firm_hall.specs.declared.held.HeldAnswer.{HeldAnswer}
-use Rattle.firm_hall.specs.declared.held.HeldAnswer.TheVariants.{Known, Waiting}
+use Rattle.firm_held.specs.declared.held.HeldAnswer.{HeldAnswer}
+use Rattle.firm_held.specs.declared.held.HeldAnswer.TheVariants.{Known, Waiting}
 
 -- a serving hall: the queue of its desks, which tenant has which place, what stands at each, the held answers, and the
 -- text still to be written before them

@@ -1,6 +1,6 @@
 use Rattle.std.proofs.Common.{None, Some}
 use Rattle.firm_rules.specs.declared.commands.Command.TheVariants.{Round}
-use Rattle.firm_hall.specs.inner.Held.{FirstIs}
+use Rattle.firm_held.specs.Held.{FirstIs}
 use Rattle.firm_hall.specs.inner.DeskStates.{IsTurned}
 use Rattle.firm_hall.specs.inner.Serving.{IsAwayAt}
 use Rattle.firm_hall.proofs.Coming.{came_back, round_waits, stayed_away}
@@ -45,7 +45,7 @@ invariant_of-self-2 c =
     rw c.in-Some.is at c.look.ensures.turned in
     let came = came_back s.hall.value.id s.register s.desk_states.items s.held c.args.place c.index_mut.result.now
     c.look.new.self _ c.in-Some.reply c.self.invariant c.requires.place c.index_mut.ensures.value turn in
-    rw (c.came_back.ensures, c.fill.ensures) came.stands
+    rw c.fill.ensures came.stands
 
 pub returns-clause-follows : goal.returns-clause-follows
 returns-clause-follows c =
@@ -54,7 +54,7 @@ returns-clause-follows c =
     rw c.in-Some.is at c.look.ensures.turned in
     let came = came_back s.hall.value.id s.register s.desk_states.items s.held c.args.place c.index_mut.result.now
     c.look.new.self _ c.in-Some.reply c.self.invariant c.requires.place c.index_mut.ensures.value turn in
-    rw (← c.self.view_is, c.came_back.ensures, c.fill.ensures) came.follows
+    rw (← c.self.view_is, c.fill.ensures) came.follows
 
 pub returns-clause-keeps : goal.returns-clause-keeps
 returns-clause-keeps c =
@@ -63,4 +63,4 @@ returns-clause-keeps c =
     rw c.in-Some.is at c.look.ensures.turned in
     let came = came_back s.hall.value.id s.register s.desk_states.items s.held c.args.place c.index_mut.result.now
     c.look.new.self _ c.in-Some.reply c.self.invariant c.requires.place c.index_mut.ensures.value turn in
-    rw (← c.self.view_is, c.came_back.ensures, c.fill.ensures) came.keeps
+    rw (← c.self.view_is, c.fill.ensures) came.keeps

@@ -1,8 +1,8 @@
 use Rattle.std.proofs.Common.{None, Some}
-use Rattle.firm_hall.specs.inner.Held.{FirstIsAt}
+use Rattle.firm_held.specs.Held.{FirstIsAt}
 use Rattle.firm_hall.specs.inner.DeskStates.{IsTakenAt}
 use Rattle.firm_hall.proofs.Coming.{asked_moves, given_moves}
-use Rattle.firm_hall.proofs.HeldAnswers.{first_at, length_filled, none_filled}
+use Rattle.firm_held.specs.Laws.{first_at, length_filled, none_filled}
 use Rattle.firm_hall.proofs.serving.Serving.give.Goals as goal
 
 pub invariant_of-self : goal.invariant_of-self

@@ -1,6 +1,6 @@
 use Rattle.std.proofs.Common.{rules, ◌≡◌, ◌∙◌, ◌≤◌, ap, arith, length, subst, true}
 use Rattle.std.proofs.lemmas.List.{take_all}
-use Rattle.firm_hall.specs.inner.Held.{NoneWaits}
+use Rattle.firm_held.specs.Held.{NoneWaits}
 use Rattle.firm_hall.specs.inner.Serving.{ServingIs}
 use Rattle.firm_hall.proofs.Coming.{follows_then, settled_moves}
 use Rattle.firm_hall.proofs.serving.Serving.go_on.Goals as goal

@@ -1,5 +1,5 @@
 use Rattle.std.proofs.Common.{◌≡◌, length, take}
-use Rattle.firm_hall.specs.inner.Held.{NoneWaits}
+use Rattle.firm_held.specs.Held.{NoneWaits}
 use Rattle.firm_hall.specs.inner.Serving.{Follows, IsHomeAt, Keeps}
 use Rattle.firm_hall.proofs.serving.Serving.go_on.Given as goal
 

@@ -1,7 +1,7 @@
 use Rattle.std.proofs.Common.{List, ap, arith, length}
 use Rattle.std.proofs.lemmas.Result.{on_ok_weaker}
-use Rattle.firm_hall.specs.declared.held.HeldAnswer.{HeldAnswer}
-use Rattle.firm_hall.specs.inner.Held.{FirstIsKnown}
+use Rattle.firm_held.specs.declared.held.HeldAnswer.{HeldAnswer}
+use Rattle.firm_held.specs.Held.{FirstIsKnown}
 use Rattle.firm_hall.proofs.Giving.{popped_keeps, popped_stands}
 use Rattle.firm_hall.proofs.serving.Serving.put_first.Goals as goal
 

@@ -1,5 +1,5 @@
-use Rattle.firm_hall.specs.inner.Held.{FirstIsFor}
-use Rattle.firm_hall.proofs.HeldAnswers.{first_low}
+use Rattle.firm_held.specs.Held.{FirstIsFor}
+use Rattle.firm_hall.proofs.Placed.{first_low}
 use Rattle.firm_hall.proofs.serving.Serving.visit_first.Goals as goal
 
 pub visit-requires-clause-place : goal.visit-requires-clause-place

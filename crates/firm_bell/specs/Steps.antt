@@ -1,0 +1,89 @@
+-- What each step makes of the seat that takes it.
+use Rattle.std.specs.Prelude.{◌≡◌, ◌≢◌, ℕ, false, true}
+use Rattle.atomic_table.specs.Table.{Me, Step}
+use Rattle.atomic_table.specs.Seated.{TableId}
+use Rattle.atomic_table.specs.declared.shared.Seat.{Seat}
+use Rattle.firm_bell.specs.declared.rule.Stage.{Stage}
+use Rattle.firm_bell.specs.declared.rule.Stage.TheVariants.{Awake, Putting, Announced, Resting, Shutting, Ended}
+use Rattle.firm_bell.specs.declared.rule.BellSight.{BellSight}
+use Rattle.firm_bell.specs.Bell.{newcomer, sight}
+
+abbrev pub Hand : Type 0
+Hand = Me (Unit {0}) BellSight
+
+abbrev pub BellStep : Type 0
+BellStep = Step (Unit {0})
+
+-- the seat at this stage; as it owes no call, and as it owes one
+abbrev pub at_stage : Stage → BellSight → BellSight
+at_stage stage v = sight stage v.owes_call v.knows_shut v.is_late
+
+abbrev pub free : Stage → BellSight → BellSight
+free stage v = sight stage false v.knows_shut v.is_late
+
+abbrev pub owing : Stage → BellSight → BellSight
+owing stage v = sight stage true v.knows_shut v.is_late
+
+-- one thing where the word was this number, another where not
+abbrev pub Found : ℕ → ℕ → Type 0 → Type 0 → Type 0
+Found word number Is IsElse = (word ≡ number → Is) × (word ≢ number → IsElse)
+
+abbrev pub comes : BellStep → Hand → ℕ → Hand → Type 0
+comes step before word after = after.0 ≡ newcomer
+
+-- it may come late
+abbrev pub expects : BellStep → Hand → ℕ → Hand → Type 0
+expects step before word after = after.0 ≡ sight Putting before.0.owes_call before.0.knows_shut after.0.is_late
+
+abbrev pub looks_for_rest : BellStep → Hand → ℕ → Hand → Type 0
+looks_for_rest step before word after =
+    Found word 0 (after.0 ≡ free Awake before.0) (after.0 ≡ owing Awake before.0)
+
+abbrev pub looks_for_round : BellStep → Hand → ℕ → Hand → Type 0
+looks_for_round step before word after = Found word 0 (after.0 ≡ free Awake before.0) (after.0 ≡ before.0)
+
+abbrev pub discharges : BellStep → Hand → ℕ → Hand → Type 0
+discharges step before word after = after.0 ≡ free Awake before.0
+
+abbrev pub rings : BellStep → Hand → ℕ → Hand → Type 0
+rings step before word after = Found word 0 (after.0 ≡ newcomer) (after.0 ≡ owing Awake newcomer)
+
+abbrev pub shuts : BellStep → Hand → ℕ → Hand → Type 0
+shuts step before word after = after.0 ≡ at_stage Shutting newcomer
+
+abbrev pub reads_stop : BellStep → Hand → ℕ → Hand → Type 0
+reads_stop step before word after =
+    Found word 0 (after.0 ≡ before.0) (after.0 ≡ sight Awake before.0.owes_call true before.0.is_late)
+
+abbrev pub announces : BellStep → Hand → ℕ → Hand → Type 0
+announces step before word after =
+    Found word step.first (after.0 ≡ at_stage Announced before.0) (after.0 ≡ before.0)
+
+abbrev pub lies_down : BellStep → Hand → ℕ → Hand → Type 0
+lies_down step before word after = Found word 0 (after.0 ≡ free Resting before.0) (after.0 ≡ before.0)
+
+abbrev pub wakes_up : BellStep → Hand → ℕ → Hand → Type 0
+wakes_up step before word after =
+    Found word step.first (after.0 ≡ owing Announced before.0) (after.0 ≡ before.0)
+
+abbrev pub ends_rest : BellStep → Hand → ℕ → Hand → Type 0
+ends_rest step before word after = after.0 ≡ at_stage Awake before.0
+
+-- where no round was counted, it owes a call, and may come late
+abbrev pub takes : BellStep → Hand → ℕ → Hand → Type 0
+takes step before word after =
+    Found word 0 (after.0 ≡ sight Awake true before.0.knows_shut after.0.is_late) (after.0 ≡ before.0)
+
+abbrev pub ends : BellStep → Hand → ℕ → Hand → Type 0
+ends step before word after = Found word 0 (after.0 ≡ free Ended before.0) (after.0 ≡ before.0)
+
+abbrev pub BellSeat : Type 0
+BellSeat = Seat (Unit {0}) BellSight
+
+-- the seat is of this bell and knows this
+abbrev pub Knows : TableId → BellSight → BellSeat → Type 0
+Knows bell v seat = (seat.table_id ≡ bell) × (seat.me.0 ≡ v)
+
+-- the seat is of this bell and stands at this stage
+abbrev pub StandsAt : TableId → Stage → BellSeat → Type 0
+StandsAt bell stage seat = (seat.table_id ≡ bell) × (seat.me.0.stage ≡ stage)

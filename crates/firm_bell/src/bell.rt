@@ -1,0 +1,337 @@
+//! The bell as callers ring it and workers listen to it. Each step here keeps the rule of `specs/Bell.antt`.
+ghost use Rattle.std.specs.Prelude.{◌≡◌, ◌≤◌, IfOk, MatchBool, false, true};
+ghost use Rattle.firm_bell.specs.declared.rule.Stage.TheVariants.{Awake, Putting, Announced, Resting, Ended};
+ghost use Rattle.firm_bell.specs.Steps.{Knows, StandsAt, at_stage, free, owing};
+
+use crate::rule::{
+    Announces, BellSeat, Board, Comes, Discharges, EVERYONE, Ends, EndsRest, Expects, LiesDown,
+    LooksForRest, LooksForRound, OWES, RESTING, ReadsStop, Rings, STOP, Shuts, Takes, WAITING,
+    WAKES, WORDS, Wakes,
+};
+use std::alloc::{AllocError, Global};
+use std::hint::spin_loop;
+use std::marker::Model;
+use std::sync::Wait;
+
+// How many times a worker looks for a round in vain before it rests. The last one awake goes on for some microseconds:
+// in a stream of small rounds, each wake would cost as much. No worker yields: on a busy machine, one yield takes
+// longer than all the looks and the sleep.
+const LOOKS_BEFORE_REST: u32 = 16;
+
+const LOOKS_OF_LAST: u32 = 512;
+
+// How many rounds the queue has room for.
+const ROOM: u64 = 8;
+
+// How many of them may wait before each further one wakes a worker.
+const MOST_UNCALLED: u64 = 4;
+
+/// Wakes workers. A round wakes one at once only if all rest or `MOST_UNCALLED` rounds already wait. Otherwise the
+/// thread that put it goes on, and wakes one when it rings, if a round is still waiting then.
+#[derive(Drop)]
+pub struct Bell {
+    workers: u64,
+    board: Board,
+}
+
+impl Model for Bell {
+    ghost use Rattle.std.specs.Prelude.{◌≡◌, ◌≤◌};
+    ghost use Rattle.atomic_table.specs.Seated.{TableId};
+
+    ghost Value = { TableId };
+
+    ghost view = { λ b. b.board.shared.table_id };
+
+    ghost invariant = { λ b. (1 ≤ b.workers) × (b.workers ≤ 8) × (b.board.shared.table_id.words ≡ 40) };
+}
+
+/// A thread that puts a round, rings or shuts the hall. It is not `Drop`, so whatever it owes must be done.
+pub struct Caller {
+    seat: BellSeat,
+}
+
+impl Model for Caller {
+    ghost use Rattle.firm_bell.specs.Steps.{BellSeat};
+
+    ghost Value = { BellSeat };
+
+    ghost view = { λ c. c.seat };
+}
+
+/// A worker as the bell sees it. One that was woken owes a call: once it has a round, it wakes another worker if more
+/// rounds wait, since one wake may stand for several.
+#[derive(Drop)]
+pub struct Listener {
+    seat: BellSeat,
+    // True wherever the seat owes one.
+    owes_call: bool,
+}
+
+impl Model for Listener {
+    ghost use Rattle.std.specs.Prelude.{◌≡◌, false};
+    ghost use Rattle.firm_bell.specs.Steps.{BellSeat};
+
+    ghost Value = { BellSeat };
+
+    ghost view = { λ l. l.seat };
+
+    ghost invariant = { λ l. l.owes_call ≡ false → l.seat.me.0.owes_call ≡ false };
+}
+
+impl Bell {
+    /// Fails only if memory is refused.
+    pub fn open(alloc: Global, workers: usize) -> Result<Bell, AllocError>
+        requires { (1 ≤ workers) × (workers ≤ 8) }
+    {
+        let (board, _seat) = Board::of_words(alloc, &[0; WORDS], &())?;
+        Ok(Bell {
+            workers: workers as u64,
+            board,
+        })
+    }
+
+    /// Called before a round is put. Returns the caller and how many rounds already wait.
+    pub fn expect(&self) -> (Caller, u64)
+        ensures { StandsAt self.now Putting result.0 }
+    {
+        let table = &self.board.shared;
+        let (_, mut seat) = table.load_new_seat::<Comes>(WAITING);
+        let older = table.fetch_add::<Expects>(&mut seat, WAITING, 1);
+        (Caller { seat }, older)
+    }
+
+    /// Called once the round is put, with the number that waited before it.
+    pub fn came(&self, caller: Caller, older: u64)
+        requires { StandsAt self.now Putting caller }
+    {
+        let table = &self.board.shared;
+        let Caller { mut seat } = caller;
+        let resting = table.load::<LooksForRest>(&mut seat, RESTING);
+        if resting != 0 {
+            if resting == self.workers || MOST_UNCALLED <= older {
+                self.call(&mut seat, resting);
+            } else {
+                table.store::<Discharges>(&mut seat, OWES, 1);
+            }
+        }
+        Caller { seat }.end();
+    }
+
+    /// Whether the queue has room for one more round. If so, and no other thread puts rounds, a put does not wait.
+    pub fn has_room(&self) -> bool {
+        self.board.shared.peek(WAITING) < ROOM
+    }
+
+    /// Wakes a worker if one is owed and a round waits.
+    pub fn ring(&self) {
+        let (owed, mut seat) = self.board.shared.swap_new_seat::<Rings>(OWES, 0);
+        if owed != 0 {
+            self.call_if_waiting(&mut seat);
+        }
+        Caller { seat }.end();
+    }
+
+    /// Tells the workers to end once no round waits, and wakes all.
+    pub fn shut(&self) {
+        let table = &self.board.shared;
+        let (_, mut seat) = table.swap_new_seat::<Shuts>(STOP, 1);
+        table.store::<Discharges>(&mut seat, WAKES, EVERYONE);
+        table.wake_all(WAKES);
+        Caller { seat }.end();
+    }
+
+    // Wakes a worker if a round waits and one rests.
+    fn call_if_waiting(&self, seat: &mut BellSeat)
+        requires { StandsAt self.now Awake seat.old }
+        ensures { Knows self.now (free Awake seat.old.me.0) seat.new }
+    {
+        let table = &self.board.shared;
+        if table.load::<LooksForRound>(seat, WAITING) == 0 {
+            return;
+        }
+        let resting = table.load::<LooksForRest>(seat, RESTING);
+        if resting != 0 {
+            self.call(seat, resting);
+        }
+    }
+
+    // Leaves a wake for one of the workers that rest, unless each has one.
+    fn call(&self, seat: &mut BellSeat, resting: u64)
+        requires seat { StandsAt self.now Awake seat.old }
+        requires some { 1 ≤ resting }
+        ensures { Knows self.now (free Awake seat.old.me.0) seat.new }
+    {
+        let table = &self.board.shared;
+        let most = resting.min(self.workers);
+        let wakes = table.peek(WAKES).saturating_add(1).min(most);
+        let left = table.fetch_max::<Discharges>(seat, WAKES, wakes);
+        // Each wake that is left has its call of the kernel, so none is left while all that rest sleep.
+        for _ in left..wakes {
+            table.wake_one(WAKES);
+        }
+    }
+}
+
+impl Caller {
+    // Lets the caller go, which owes nothing.
+    fn end(self)
+        requires { (self.me.0.stage ≡ Awake) × (self.me.0.owes_call ≡ false) }
+    {
+        let Caller { seat: _ } = self;
+    }
+}
+
+/// What workers do.
+impl Bell {
+    /// A worker that has just come.
+    pub fn listener(&self) -> Listener
+        ensures { StandsAt self.now Awake result }
+    {
+        let (_, seat) = self.board.shared.load_new_seat::<Comes>(WAITING);
+        Listener {
+            seat,
+            owes_call: false,
+        }
+    }
+
+    /// Whether the hall is shut.
+    pub fn is_shut(&self, listener: &mut Listener) -> bool
+        requires { StandsAt self.now Awake listener.old }
+        ensures listens { StandsAt self.now Awake listener.new }
+        ensures knows { result ≡ true → listener.new.me.0.knows_shut ≡ true }
+    {
+        self.board
+            .shared
+            .load::<ReadsStop>(&mut listener.seat, STOP)
+            != 0
+    }
+
+    /// Called once a round is taken. Returns whether the queue was full until then.
+    pub fn took(&self, listener: &mut Listener) -> bool
+        requires { StandsAt self.now Awake listener.old }
+        ensures { StandsAt self.now Awake listener.new }
+    {
+        let before = self
+            .board
+            .shared
+            .fetch_sub::<Takes>(&mut listener.seat, WAITING, 1);
+        // Never, since a round is counted before it is put. The bell's rule does not see the queue.
+        if before == 0 {
+            listener.owes_call = true;
+        }
+        before == ROOM
+    }
+
+    /// Makes the call that the worker owes, if it does.
+    pub fn make_owed_call(&self, listener: &mut Listener)
+        requires { StandsAt self.now Awake listener.old }
+        ensures listens { StandsAt self.now Awake listener.new }
+        ensures owes { listener.new.me.0.owes_call ≡ false }
+    {
+        if listener.owes_call {
+            self.call_if_waiting(&mut listener.seat);
+            listener.owes_call = false;
+        }
+    }
+
+    /// Whether the worker ends, which knows that the hall is shut: only if no round waits.
+    pub fn ends(&self, listener: &mut Listener) -> bool
+        requires listens { StandsAt self.now Awake listener.old }
+        requires knows { listener.old.me.0.knows_shut ≡ true }
+        ensures { MatchBool result (StandsAt self.now Ended listener.new)
+            (StandsAt self.now Awake listener.new) }
+    {
+        self.board.shared.load::<Ends>(&mut listener.seat, WAITING) == 0
+    }
+
+    /// Called after a number of looks in vain. Rests until a wake if they were enough and no round waits. Returns how
+    /// many there were since the last rest.
+    pub fn rest_or_look<R: Wait>(&self, rt: &R, listener: &mut Listener, looks: u32) -> u32
+        requires { StandsAt self.now Awake listener.old }
+        ensures { StandsAt self.now Awake listener.new }
+    {
+        if self.is_to_look_on(looks) || !self.announce(&mut listener.seat) {
+            spin_loop();
+            return looks.saturating_add(1);
+        }
+        self.sleep_if_none_waits(rt, listener);
+        self.board
+            .shared
+            .fetch_sub::<EndsRest>(&mut listener.seat, RESTING, 1);
+        0
+    }
+
+    // Sleeps until a wake if no round waits.
+    fn sleep_if_none_waits<R: Wait>(&self, rt: &R, listener: &mut Listener)
+        requires { StandsAt self.now Announced listener.old }
+        ensures { StandsAt self.now Announced listener.new }
+    {
+        if self.lies_down(&mut listener.seat) {
+            self.sleep(rt, &mut listener.seat);
+            listener.owes_call = true;
+        }
+    }
+
+    fn is_to_look_on(&self, looks: u32) -> bool {
+        looks < LOOKS_BEFORE_REST || looks < LOOKS_OF_LAST && self.all_others_rest()
+    }
+
+    // Whether all workers but the caller rest.
+    fn all_others_rest(&self) -> bool {
+        self.workers <= self.board.shared.peek(RESTING).saturating_add(1)
+    }
+
+    // Announces a rest, unless another worker announces or ends one in the same moment.
+    fn announce(&self, seat: &mut BellSeat) -> bool
+        requires { StandsAt self.now Awake seat.old }
+        ensures { MatchBool result (Knows self.now (at_stage Announced seat.old.me.0) seat.new)
+            (Knows self.now seat.old.me.0 seat.new) }
+    {
+        let table = &self.board.shared;
+        let resting = table.peek(RESTING);
+        if self.workers <= resting {
+            return false;
+        }
+        table.compare_exchange::<Announces>(seat, RESTING, resting, resting + 1) == resting
+    }
+
+    // Whether no round waits, so that the worker may sleep. A round that is counted after this look finds it at rest.
+    fn lies_down(&self, seat: &mut BellSeat) -> bool
+        requires { StandsAt self.now Announced seat.old }
+        ensures { MatchBool result (Knows self.now (free Resting seat.old.me.0) seat.new)
+            (Knows self.now seat.old.me.0 seat.new) }
+    {
+        self.board.shared.load::<LiesDown>(seat, WAITING) == 0
+    }
+
+    // Sleeps until a wake.
+    fn sleep<R: Wait>(&self, rt: &R, seat: &mut BellSeat)
+        requires { StandsAt self.now Resting seat.old }
+        ensures { Knows self.now (owing Announced seat.old.me.0) seat.new }
+    {
+        let table = &self.board.shared;
+        for _ in rt.forever() {
+            let wakes = table.peek(WAKES);
+            if wakes == 0 {
+                table.park(rt, WAKES, 0);
+            } else if self.wakes_up(seat, wakes) {
+                return;
+            }
+        }
+        unreachable!()
+    }
+
+    // Uses one wake, if this is still their number.
+    fn wakes_up(&self, seat: &mut BellSeat, wakes: u64) -> bool
+        requires seat { StandsAt self.now Resting seat.old }
+        requires some { 1 ≤ wakes }
+        ensures { MatchBool result (Knows self.now (owing Announced seat.old.me.0) seat.new)
+            (Knows self.now seat.old.me.0 seat.new) }
+    {
+        let left = if wakes < EVERYONE { wakes - 1 } else { wakes };
+        self.board
+            .shared
+            .compare_exchange::<Wakes>(seat, WAKES, wakes, left)
+            == wakes
+    }
+}

@@ -1,7 +1,0 @@
-use Rattle.std.proofs.Common.{rules, ap, inl, inr, ◌∙◌}
-use Rattle.firm_hall.specs.declared.bell_rule.BellSight.{BellSight}
-use Rattle.firm_hall.proofs.BellMoves.{announces_in}
-use Rattle.firm_hall.proofs.bell.Bell.announce.Goals as goal
-
-pub compare_exchange-requires : goal.compare_exchange-requires
-compare_exchange-requires c = (search rules, search rules, announces_in _ _ _ _ _ c.requires.1 (search rules))

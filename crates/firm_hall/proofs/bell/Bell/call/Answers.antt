@@ -1,8 +1,0 @@
-use Rattle.std.proofs.Common.{rules, ap, inl, inr, ◌∙◌}
-use Rattle.firm_hall.specs.declared.bell_rule.BellSight.{BellSight}
-use Rattle.firm_hall.proofs.BellMoves.{calls_in}
-use Rattle.firm_hall.proofs.bell.Bell.call.Goals as goal
-
-pub fetch_max-left-requires : goal.fetch_max-left-requires
-fetch_max-left-requires c =
-    (search rules, search rules, calls_in _ _ _ _ c.requires.seat.1 (search rules) (search rules))

@@ -1,0 +1,2 @@
+mod HeldAnswers
+mod HeldBytes
