@@ -1,7 +1,7 @@
 //! Paths over residual arcs of reduced cost 0.
 ghost use Rattle.std.specs.Prelude.{◌≡◌, ◌≢◌, ℕ, ◌+◌, ◌*◌, ◌^◌, ◌<◌, ◌≤◌, ◌↔◌, ◌⊎◌, Bool, false, true, [], length};
-ghost use Rattle.std.specs.Prelude.{Contains, List};
-ghost use Rattle.std.specs.Prelude.{IsTrue, Some, None, IfOk, IfSome, IfNone, slice_index, slice_index_or, vec_capacity};
+ghost use Rattle.std.specs.Prelude.{Contains, IfNone, IfOk, IfSome, IsTrue, List, None, Some};
+ghost use Rattle.std.specs.Prelude.{slice_index, slice_index_or, vec_capacity};
 ghost use Rattle.std.specs.Borrow.{sem};
 ghost use Rattle.firm_arena.specs.Arena.{capacity_of};
 ghost use Rattle.firm_net.specs.Net.{IsNode, IsNet, arc_count, row_at, rows_of, arcs_on};
