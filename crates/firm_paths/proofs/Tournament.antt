@@ -49,7 +49,8 @@ module _ (places at : ℕ) (keys : List ℕ) (mending : IsMending places at keys
   pub mended-top : at ≤ 1 → IsTournament places keys
   mended-top top = record {
     length = mending.length;
-    lesser = λ i low high. mending.lesser i low high (λ e. omega (arith, e, low, top)) (λ e. omega (arith, e, low, top));
+    lesser = λ i low high.
+        mending.lesser i low high (λ e. omega (arith, e, low, top)) (λ e. omega (arith, e, low, top));
     bounded = mending.bounded;
   }
 
@@ -83,7 +84,8 @@ module _ (places at : ℕ) (keys : List ℕ) (mending : IsMending places at keys
             (λ (e : i ≡ up). subst (λ (z : ℕ).
             IsLesser (slice_index (set keys up least) z) (slice_index (set keys up least) (2 * z))
             (slice_index (set keys up least) (2 * z + 1))) (sym e)
-            (rw (same, other (2 * up) (λ q. omega (arith, q, low_up)), other (2 * up + 1) (λ q. omega (arith, q))) right))
+            (rw (same, other (2 * up) (λ q. omega (arith, q, low_up)), other (2 * up + 1) (λ q. omega (arith, q)))
+            right))
             (λ (ne : i ≡ up → ⊥).
             rw (other i ne, other (2 * i) (λ q. even (sym q)), other (2 * i + 1) (λ q. odd (sym q)))
             (mending.lesser i low high (λ e. omega (arith, e, half_is, ne)) (λ e. omega (arith, e, half_is, ne))))

@@ -33,8 +33,8 @@ loop-at-preserved c =
     let above : at / 2 < c.args.places = omega (arith, c.loop-at.invariant.at) in
     record {
       at = omega (arith, above);
-      mending = mending-above _ _ _ c.loop-at.invariant.mending (at / 2) _ (half at) (omega (arith, c.loop-at-test.true))
-          above right;
+      mending = mending-above _ _ _ c.loop-at.invariant.mending (at / 2) _ (half at)
+          (omega (arith, c.loop-at-test.true)) above right;
       leaves = drop-set-lt _ _ _ _ above ∙ c.loop-at.invariant.leaves;
     }
 

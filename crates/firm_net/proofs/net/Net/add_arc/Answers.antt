@@ -300,7 +300,8 @@ pub returns-in_default-put-clause-gone : goal.returns-in_default-put-clause-gone
 returns-in_default-put-clause-gone c = λ e. let wrong : ⊥ = cc in absurd wrong
 
 pub returns-in_default-put-clause-unchanged : goal.returns-in_default-put-clause-unchanged
-returns-in_default-put-clause-unchanged c = ap (λ (l : Arena Link). shown_net l c.self.inside.nodes) c.in_default-put.ensures.unchanged ∙ c.self.view_is
+returns-in_default-put-clause-unchanged c =
+    ap (λ (l : Arena Link). shown_net l c.self.inside.nodes) c.in_default-put.ensures.unchanged ∙ c.self.view_is
 
 pub returns-in_default-put-clause-nodes : goal.returns-in_default-put-clause-nodes
 returns-in_default-put-clause-nodes c =
@@ -323,7 +324,12 @@ pub returns-clause-no_arc : goal.returns-clause-no_arc
 returns-clause-no_arc c = λ e. let wrong : ⊥ = cc in absurd wrong
 
 pub overflow_add-self : goal.overflow_add-self
-overflow_add-self c = omega (arith, c.requires, c.self.invariant.added, added-counted c.self.inside.links c.self.inside.nodes c.args.self.now c.self.view_is)
+overflow_add-self c = omega (
+  arith,
+  c.requires,
+  c.self.invariant.added,
+  added-counted c.self.inside.links c.self.inside.nodes c.args.self.now c.self.view_is,
+)
 
 pub returns-clause-stamp : goal.returns-clause-stamp
 returns-clause-stamp c = c.in-Ok.ensures.stamp ∙ ap (λ (n : Net). n.arcs.counter) c.self.view_is
