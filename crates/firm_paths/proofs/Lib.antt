@@ -2,6 +2,7 @@ pub mod Trees
 pub mod Tournament
 pub mod Listed
 pub mod ArcRows
+pub mod Beginnings
 pub mod Counts
 pub mod Labels
 pub mod Looks

@@ -7,8 +7,7 @@ ghost use Rattle.firm_paths.specs.Visits.{paths_of};
 ghost use Rattle.firm_paths.specs.Workspace.{HasCounted};
 ghost use Rattle.firm_paths.specs.NetArcs.{limits_of};
 
-use crate::queue::Queue;
-use crate::search::{NodeState, Step, walk_on};
+use crate::search::{Step, walk_on};
 use crate::shortest::Labels;
 use crate::tight::Reach;
 use firm_net::{Net, NodeId};
@@ -60,18 +59,9 @@ impl Scratch {
         ensures proposed { IfOk result (λ scratch. scratch.proposed ≡ 0) }
     {
         let limits = net.limits();
-        let nodes = limits.0 as usize;
-        let labels = Labels {
-            states: vec![in alloc; NodeState::UNKNOWN; nodes]?,
-            queue: Queue::new(alloc, limits.0)?,
-            visits: Vec::with_capacity(alloc, nodes)?,
-            looks: 0,
-        };
-        let reach = Reach {
-            seen: vec![in alloc; false; nodes]?,
-            visits: Vec::with_capacity(alloc, nodes)?,
-            looks: 0,
-        };
+        let steps = Vec::with_capacity(alloc, limits.0 as usize)?;
+        let reach = Reach::new(alloc, limits.0)?;
+        let labels = Labels::new(alloc, limits.0)?;
         Ok(Scratch {
             limits,
             begins: 0,
@@ -80,7 +70,7 @@ impl Scratch {
             proposed: 0,
             labels,
             reach,
-            steps: Vec::with_capacity(alloc, nodes)?,
+            steps,
         })
     }
 

@@ -1,7 +1,7 @@
 //! Prices raised until a tight path leads from one node to another.
 ghost use Rattle.std.specs.Prelude.{◌≡◌, ◌≢◌, ℕ, ◌+◌, ◌-◌, ◌*◌, ◌<◌, ◌≤◌, ◌^◌, ◌++◌, ◌∷◌, Bool, true, false};
 ghost use Rattle.std.specs.Prelude.{[], length};
-ghost use Rattle.std.specs.Prelude.{Some, None, is_some, IfSome, IfNone, slice_index, slice_set, vec_capacity};
+ghost use Rattle.std.specs.Prelude.{Some, None, is_some, IfOk, IfSome, IfNone, slice_index, slice_set, vec_capacity};
 ghost use Rattle.std.specs.Borrow.{sem};
 ghost use Rattle.firm_arena.specs.Arena.{capacity_of};
 ghost use Rattle.firm_net.specs.Net.{IsNode, IsNet, arc_count, row_at, rows_of, arcs_on};
@@ -25,6 +25,7 @@ use crate::search::{
     Current, NodeState, Predecessor, Step, Visit, arcs_leaving, entered, is_residual, walk_back,
 };
 use firm_net::{ArcRow, Net, NodeId, Way};
+use std::alloc::{AllocError, Global};
 
 /// What the search by labels fills: the state of each place, the open nodes by their distances, the nodes in the order
 /// of their visits, and how many arcs were looked at.
@@ -37,6 +38,24 @@ pub struct Labels {
 }
 
 impl Labels {
+    /// Room for a search among this many nodes. `Err` only where memory is refused.
+    pub fn new(alloc: Global, nodes: u32) -> Result<Labels, AllocError>
+        ensures size { IfOk result (λ labels. length labels.states.items ≡ nodes) }
+        ensures idle { IfOk result (λ labels. IsIdle labels.states.items labels.queue) }
+        ensures capacity { IfOk result (λ labels. nodes ≤ vec_capacity labels.visits) }
+    {
+        let places = nodes as usize;
+        let visits = Vec::with_capacity(alloc, places)?;
+        let states = vec![in alloc; NodeState::UNKNOWN; places]?;
+        let queue = Queue::new(alloc, nodes)?;
+        Ok(Labels {
+            states,
+            queue,
+            visits,
+            looks: 0,
+        })
+    }
+
     /// Gives the node at `place` another state and puts it into the queue, if it is open to a lower label.
     fn relax(&mut self, prices: &Prices, place: usize, reached: NodeState)
         requires place { place < length self.old.states.items }
@@ -258,7 +277,6 @@ impl Labels {
     }
 
     /// Searches and raises the prices as `raise` does; says as which number the node at the end was visited.
-    #[tactic(auto, using(crate::proofs::ArcRows::as_many_as_counted))]
     fn find_shortest(
         &mut self,
         net: &Net,

@@ -1,7 +1,7 @@
 //! Paths over residual arcs of reduced cost 0.
 ghost use Rattle.std.specs.Prelude.{◌≡◌, ◌≢◌, ℕ, ◌+◌, ◌*◌, ◌^◌, ◌<◌, ◌≤◌, ◌↔◌, ◌⊎◌, Bool, false, true, [], length};
 ghost use Rattle.std.specs.Prelude.{Contains, List};
-ghost use Rattle.std.specs.Prelude.{IsTrue, Some, None, IfSome, IfNone, slice_index, slice_index_or, vec_capacity};
+ghost use Rattle.std.specs.Prelude.{IsTrue, Some, None, IfOk, IfSome, IfNone, slice_index, slice_index_or, vec_capacity};
 ghost use Rattle.std.specs.Borrow.{sem};
 ghost use Rattle.firm_arena.specs.Arena.{capacity_of};
 ghost use Rattle.firm_net.specs.Net.{IsNode, IsNet, arc_count, row_at, rows_of, arcs_on};
@@ -24,6 +24,7 @@ use crate::search::{
     Current, Predecessor, Step, Visit, arcs_leaving, entered, is_residual, opposite, walk_on,
 };
 use firm_net::{ArcId, ArcRow, Net, NodeId, Way};
+use std::alloc::{AllocError, Global};
 
 /// The arcs that a search for tight paths follows: residual ones of a net, of reduced cost 0 by these prices, that are
 /// not barred.
@@ -69,6 +70,22 @@ pub fn unmark(seen: &mut [bool], visits: &[Visit])
 }
 
 impl Reach {
+    /// Room for a search among this many nodes. `Err` only where memory is refused.
+    pub fn new(alloc: Global, nodes: u32) -> Result<Reach, AllocError>
+        ensures size { IfOk result (λ reach. length reach.seen.items ≡ nodes) }
+        ensures agree { IfOk result (λ reach. Agree reach.seen.items reach.visits.items) }
+        ensures capacity { IfOk result (λ reach. nodes ≤ vec_capacity reach.visits) }
+    {
+        let nodes = nodes as usize;
+        let seen = vec![in alloc; false; nodes]?;
+        let visits = Vec::with_capacity(alloc, nodes)?;
+        Ok(Reach {
+            seen,
+            visits,
+            looks: 0,
+        })
+    }
+
     /// Forgets all visits, and that their nodes were seen.
     fn clear(&mut self)
         requires { Agree self.old.seen.items self.old.visits.items }
@@ -230,7 +247,6 @@ impl Reach {
 
     /// Searches from `to` against the arcs, until it comes to the node at the place `goal`, if that is given; says as
     /// which number that was visited.
-    #[tactic(auto, using(crate::proofs::ArcRows::as_many_as_counted))]
     fn find(&mut self, arcs: &TightArcs<'_>, to: NodeId, goal: Option<usize>) -> Option<usize>
         requires node { IsNode arcs.now.net.now to }
         requires length { (length arcs.now.prices.now.prices ≡ capacity_of arcs.now.net.now.nodes)

@@ -1,4 +1,4 @@
-use Rattle.std.proofs.Common.{◌≡◌, ◌∙◌, ℕ, ◌+◌, ◌-◌, ◌<◌, List, length, arith, ap, sym, subst}
+use Rattle.std.proofs.Common.{◌≡◌, ◌∙◌, ℕ, ◌+◌, ◌-◌, ◌<◌, ◌≤◌, List, length, arith, ap, sym, subst}
 use Rattle.std.specs.Prelude.{slice_index}
 use Rattle.std.specs.Vec.{with_items}
 use Rattle.std.proofs.lemmas.List.{with_items_is, length-map}
@@ -48,3 +48,45 @@ returns-clause-raises c =
       at c.args.goal,
       c.raise_table.ensures.others v (omega (arith, l, size)) s (omega (arith, low, at c.args.goal, at v)),
     ))))
+
+pub invariant_of-self : goal.invariant_of-self
+invariant_of-self c =
+    let new : List ℕ = c.raise_table.new.less in
+    let same : length new ≡ length c.self.inside.less.items =
+    omega (arith, c.raise_table.auto.less, ap (λ (z : List ℕ). length z) c.deref_mut.ensures.value) in
+    subst (λ (z : List ℕ).
+    (length z ≡ c.self.inside.limits.0) × ((v : ℕ) → slice_index z v ≤ c.at.result + c.args.distance))
+    (sym (with_items_is c.self.inside.less new (omega (arith, same, c.self.inside.less.ok.0))))
+    (same ∙ c.self.invariant.0, c.raise_table.ensures.below)
+
+listed : (c : goal.After-deref_mut) → length c.args.self.now.prices ≡ length c.deref_mut.result.now
+listed c =
+    omega (
+      arith,
+      ap (λ (p : PriceTable). length p.prices) c.self.view_is,
+      length-map c.self.inside.less.items (λ (l : ℕ). c.self.inside.base - l),
+      ap (λ (z : List ℕ). length z) c.deref_mut.ensures.value,
+    )
+
+pub raise_table-requires-clause-length : goal.raise_table-requires-clause-length
+raise_table-requires-clause-length c = omega (arith, c.requires.length, listed c)
+
+pub raise_table-requires-clause-goal : goal.raise_table-requires-clause-goal
+raise_table-requires-clause-goal c = omega (arith, c.requires.goal, listed c)
+
+pub raise_table-requires-clause-below : goal.raise_table-requires-clause-below
+raise_table-requires-clause-below c v =
+    let at : (v : ℕ) → slice_index c.deref_mut.result.now v ≡ slice_index c.self.inside.less.items v =
+    λ v. ap (λ (z : List ℕ). slice_index z v) c.deref_mut.ensures.value in
+    let within : c.args.goal < length c.self.inside.less.items =
+    omega (arith, c.requires.goal, listed c, ap (λ (z : List ℕ). length z) c.deref_mut.ensures.value) in
+    omega (
+      arith,
+      c.at.ensures,
+      ap (λ (p : PriceTable). slice_index p.prices c.args.goal) c.self.view_is,
+      below_at c.self.inside.base c.self.inside.less.items c.args.goal within,
+      c.self.invariant.1 v,
+      c.self.invariant.1 c.args.goal,
+      at v,
+      at c.args.goal,
+    )

@@ -1,14 +1,12 @@
-use Rattle.std.proofs.Common.{rules, arith}
-use Rattle.std.proofs.lemmas.Grind.{common_steps}
 use Rattle.firm_paths.proofs.scratch.Scratch.new.Goals as goal
 
 pub invariant_of-result : goal.invariant_of-result
 invariant_of-result c = (
-  search rules,
-  search rules,
-  grind (arith, common_steps),
-  grind (arith, common_steps),
-  search rules,
-  search rules,
-  search rules,
+  c.in_ok-labels.ensures.size,
+  c.in_ok-reach.ensures.size,
+  c.in_ok-labels.ensures.idle,
+  c.in_ok-reach.ensures.agree,
+  c.in_ok-labels.ensures.capacity,
+  c.in_ok-reach.ensures.capacity,
+  c.in_ok-steps.ensures.capacity,
 )

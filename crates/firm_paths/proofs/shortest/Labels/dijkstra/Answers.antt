@@ -1,5 +1,6 @@
 use Rattle.std.proofs.Common.{◌≡◌, ◌<◌, ◌-◌, ◌∙◌, ◌++◌, ◌∷◌, [], List, length, arith, refl, sym, ap, subst}
 use Rattle.std.specs.Prelude.{slice_index}
+use Rattle.std.proofs.lemmas.Bool.{both_ways}
 use Rattle.std.proofs.lemmas.List.{length-set}
 use Rattle.firm_paths.specs.inner.Search.{state, label, visit_at, with_settled, IsLowered, IsNearest, LooksBoth}
 use Rattle.firm_paths.specs.declared.search.NodeState.{NodeState}
@@ -198,3 +199,111 @@ returns-clause-none c =
     c.loop-place.self.states.items c.loop-place.self.visits.items c.loop-place.invariant.searching
     (queue_none (slice_index c.args.prices.now.prices) c.loop-place.self.states.items c.loop-place.self.queue
     c.loop-place.invariant.queued c.in_default.ensures)
+
+pub returns-in_err-current-clause-none : goal.returns-in_err-current-clause-none
+returns-in_err-current-clause-none c =
+    let shut =
+    c.loop-place.invariant.queued.shut c.in-Some.place c.in-Some.ensures.listed c.in-Some.ensures.present in
+    absurd (both_ways _ c.in_err-current.ensures.unknown.0 shut.0)
+
+pub returns-in_err-current-clause-size : goal.returns-in_err-current-clause-size
+returns-in_err-current-clause-size c =
+    let shut =
+    c.loop-place.invariant.queued.shut c.in-Some.place c.in-Some.ensures.listed c.in-Some.ensures.present in
+    absurd (both_ways _ c.in_err-current.ensures.unknown.0 shut.0)
+
+pub returns-in_err-current-clause-capacity : goal.returns-in_err-current-clause-capacity
+returns-in_err-current-clause-capacity c =
+    let shut =
+    c.loop-place.invariant.queued.shut c.in-Some.place c.in-Some.ensures.listed c.in-Some.ensures.present in
+    absurd (both_ways _ c.in_err-current.ensures.unknown.0 shut.0)
+
+pub returns-in_err-current-clause-visited : goal.returns-in_err-current-clause-visited
+returns-in_err-current-clause-visited c =
+    let shut =
+    c.loop-place.invariant.queued.shut c.in-Some.place c.in-Some.ensures.listed c.in-Some.ensures.present in
+    absurd (both_ways _ c.in_err-current.ensures.unknown.0 shut.0)
+
+pub returns-in_err-current-clause-queued : goal.returns-in_err-current-clause-queued
+returns-in_err-current-clause-queued c =
+    let shut =
+    c.loop-place.invariant.queued.shut c.in-Some.place c.in-Some.ensures.listed c.in-Some.ensures.present in
+    absurd (both_ways _ c.in_err-current.ensures.unknown.0 shut.0)
+
+pub returns-in_err-current-clause-counts : goal.returns-in_err-current-clause-counts
+returns-in_err-current-clause-counts c =
+    let shut =
+    c.loop-place.invariant.queued.shut c.in-Some.place c.in-Some.ensures.listed c.in-Some.ensures.present in
+    absurd (both_ways _ c.in_err-current.ensures.unknown.0 shut.0)
+
+pub open-requires-clause-place : goal.open-requires-clause-place
+open-requires-clause-place c =
+    omega (
+      arith,
+      node_listed c.args.net.now c.args.start.node c.requires.start.0,
+      c.requires.start.1,
+      c.requires.length.1,
+    )
+
+pub open-requires-clause-length : goal.open-requires-clause-length
+open-requires-clause-length c = omega (arith, c.requires.length.0, c.requires.length.1)
+
+pub open-requires-clause-idle : goal.open-requires-clause-idle
+open-requires-clause-idle c = c.requires.idle
+
+pub visit-requires-clause-place : goal.visit-requires-clause-place
+visit-requires-clause-place c = omega (arith, c.in-Some.ensures.listed, c.loop-place.invariant.queued.size)
+
+pub settle-requires : goal.settle-requires
+settle-requires c = record {
+  place = (
+    rw c.visit.ensures.others.0 (omega (arith, c.in-Some.ensures.listed, c.loop-place.invariant.queued.size)),
+    rw c.visit.ensures.others.1 c.in-Some.ensures.listed,
+  );
+}
+
+pub relax_node-requires-clause-length : goal.relax_node-requires-clause-length
+relax_node-requires-clause-length c = (
+  rw (c.settle.ensures.states, c.visit.ensures.others.0)
+      (omega (arith, length-set {A = NodeState}, c.loop-place.invariant.size)),
+  c.requires.length.0,
+)
+
+pub relax_node-requires-clause-place : goal.relax_node-requires-clause-place
+relax_node-requires-clause-place c =
+    rw (c.settle.ensures.states, c.visit.ensures.others.0)
+    (omega (
+      arith,
+      length-set {A = NodeState},
+      c.in_ok-current.ensures.current.1,
+      c.in-Some.ensures.listed,
+      c.loop-place.invariant.queued.size,
+    ))
+
+pub returns-then-place-goal-clause-size : goal.returns-then-place-goal-clause-size
+returns-then-place-goal-clause-size c =
+    rw c.visit.ensures.others.0 (omega (arith, c.loop-place.invariant.size, c.requires.length.1))
+
+pub returns-then-place-goal-clause-capacity : goal.returns-then-place-goal-clause-capacity
+returns-then-place-goal-clause-capacity c = c.visit.ensures.capacity ∙ c.loop-place.invariant.capacity
+
+pub returns-then-place-goal-clause-queued : goal.returns-then-place-goal-clause-queued
+returns-then-place-goal-clause-queued c =
+    rw (c.visit.ensures.others.0, c.visit.ensures.others.1) c.loop-place.invariant.queued
+
+pub returns-then-place-goal-clause-counts : goal.returns-then-place-goal-clause-counts
+returns-then-place-goal-clause-counts c =
+    omega (
+      arith,
+      c.visit.ensures.others.2,
+      turns_counted c.args.net.now c.loop-place.self.visits.items (length c.loop-place.self.visits.items)
+          c.loop-place.self.looks c.loop-place.invariant.counted,
+    )
+
+pub returns-clause-size : goal.returns-clause-size
+returns-clause-size c = omega (arith, c.loop-place.invariant.size, c.requires.length.1)
+
+pub returns-clause-counts : goal.returns-clause-counts
+returns-clause-counts c =
+    turns_counted c.args.net.now c.loop-place.self.visits.items (length c.loop-place.self.visits.items)
+    c.loop-place.self.looks c.loop-place.invariant.counted

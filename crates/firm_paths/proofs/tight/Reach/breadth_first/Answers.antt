@@ -1,8 +1,10 @@
-use Rattle.std.proofs.Common.{◌≡◌, ℕ, Option, Some, ◌+◌, ◌<◌, ◌∙◌, sym, List, [], arith, refl, ap, length, vec_capacity}
+use Rattle.std.proofs.Common.{◌≡◌, ℕ, Option, Some, None, Bool, true, ◌+◌, ◌<◌, ◌∙◌, sym, List, [], arith, refl, ap}
+use Rattle.std.proofs.Common.{length, vec_capacity, eqb-true}
 use Rattle.std.specs.Prelude.{slice_index, ◌==◌}
 use Rattle.std.specs.Option.{option_eq}
 use Rattle.std.proofs.lemmas.List.{get_or_default}
-use Rattle.std.proofs.lemmas.Bool.{both_ways, eq-eqb}
+use Rattle.std.proofs.lemmas.List.Sums.{count_by-le-length}
+use Rattle.std.proofs.lemmas.Bool.{both_ways, eq-eqb, false≢true}
 use Rattle.firm_paths.specs.Visits.{visit}
 use Rattle.firm_paths.specs.inner.Spread.{visits_with}
 use Rattle.firm_paths.specs.declared.search.Visit.{Visit}
@@ -128,3 +130,79 @@ returns-clause-agree c =
     c.args.root.place
     c.loop-number.self.seen.items c.loop-number.self.visits.items _ c.loop-number.invariant.length
     c.loop-number.invariant.out.spread c.loop-number.invariant.counted
+
+pub follow_node-requires-clause-length : goal.follow_node-requires-clause-length
+follow_node-requires-clause-length c = (c.requires.length.0, c.loop-number.invariant.length)
+
+pub follow_node-requires-clause-counted : goal.follow_node-requires-clause-counted
+follow_node-requires-clause-counted c = c.loop-number.invariant.counted
+
+pub follow_node-requires-clause-node : goal.follow_node-requires-clause-node
+follow_node-requires-clause-node c =
+    let vs = c.loop-number.self.visits.items in
+    let n = c.loop-number.number in
+    let within : n < length vs =
+    omega (arith, c.loop-number-test.true, c.len.ensures, c.loop-number.self.visits.ok.0) in
+    let is_visit : c.index.result.now ≡ visit vs n = c.index.ensures ∙ get_or_default vs n _ _ within in
+    rw is_visit (c.loop-number.invariant.out.spread.named n within)
+
+pub visit_once-requires-clause-place : goal.visit_once-requires-clause-place
+visit_once-requires-clause-place c =
+    omega (
+      arith,
+      node_listed c.args.arcs.now.net.now c.args.root.node c.requires.root.0,
+      c.requires.root.1,
+      c.clear.ensures.size,
+      c.requires.length.1,
+    )
+
+pub index-requires : goal.index-requires
+index-requires c = omega (arith, c.loop-number-test.true, c.len.ensures, c.loop-number.self.visits.ok.0)
+
+pub loop-number-smaller : goal.loop-number-smaller
+loop-number-smaller c =
+    omega (
+      arith,
+      c.loop-number-test.true,
+      c.len.ensures,
+      c.loop-number.self.visits.ok.0,
+      c.loop-number.invariant.counted.count,
+      count_by-le-length (λ (b : Bool). b) c.loop-number.self.seen.items,
+      c.loop-number.invariant.length,
+    )
+
+pub returns-clause-size : goal.returns-clause-size
+returns-clause-size c = omega (arith, c.loop-number.invariant.length, c.requires.length.1)
+
+pub returns-clause-counts : goal.returns-clause-counts
+returns-clause-counts c =
+    turns_counted c.args.arcs.now.net.now c.loop-number.self.visits.items c.loop-number.number c.loop-number.self.looks
+    c.loop-number.invariant.looked
+
+pub returns-then-eq-clause-size : goal.returns-then-eq-clause-size
+returns-then-eq-clause-size c = omega (arith, c.loop-number.invariant.length, c.requires.length.1)
+
+pub returns-then-eq-clause-counts : goal.returns-then-eq-clause-counts
+returns-then-eq-clause-counts c =
+    turns_counted c.args.arcs.now.net.now c.loop-number.self.visits.items c.loop-number.number c.loop-number.self.looks
+    c.loop-number.invariant.looked
+
+pub returns-then-eq-clause-found : goal.returns-then-eq-clause-found
+returns-then-eq-clause-found c = record {
+  tree = c.loop-number.invariant.out.spread.tree;
+  listed = omega (arith, c.loop-number-test.true, c.len.ensures, c.loop-number.self.visits.ok.0);
+}
+
+same_option : (o : Option ℕ) (p : ℕ) → option_eq (λ (a b : ℕ). a == b) o (Some p) ≡ true → o ≡ Some p
+same_option None p e = absurd (false≢true e)
+same_option (Some a) p e = ap (λ (n : ℕ). Some n) (eqb-true a p e)
+
+pub returns-then-eq-clause-goal : goal.returns-then-eq-clause-goal
+returns-then-eq-clause-goal c =
+    let vs = c.loop-number.self.visits.items in
+    let n = c.loop-number.number in
+    let within : n < length vs =
+    omega (arith, c.loop-number-test.true, c.len.ensures, c.loop-number.self.visits.ok.0) in
+    let is_visit : c.index.result.now ≡ visit vs n = c.index.ensures ∙ get_or_default vs n _ _ within in
+    same_option c.args.goal c.index.result.now.place (sym c.eq.ensures ∙ c.if-eq.true)
+    ∙ ap (λ (y : Visit). Some y.place) is_visit

@@ -1,5 +1,6 @@
-use Rattle.std.proofs.Common.{◌≡◌, ℕ, ◌+◌, ◌∙◌, Some, true, arith, refl, sym, ap, subst, inr}
+use Rattle.std.proofs.Common.{◌≡◌, ℕ, ◌+◌, ◌∙◌, Some, true, arith, refl, sym, ap, subst, inl, inr}
 use Rattle.std.specs.Prelude.{slice_index}
+use Rattle.std.proofs.lemmas.Bool.{both_ways}
 use Rattle.firm_net.specs.Net.{lists_at, IsResidual as IsOpen}
 use Rattle.firm_net.specs.declared.row.Way.{Way}
 use Rattle.firm_net.specs.declared.row.NodeId.{NodeId}
@@ -7,9 +8,10 @@ use Rattle.firm_paths.specs.inner.Search.{start_of, end_of, opposite_of, IsSucce
 use Rattle.firm_paths.specs.inner.Spread.{is}
 use Rattle.firm_paths.specs.declared.search.Visit.{Visit}
 use Rattle.firm_paths.proofs.Looks.{place_value}
-use Rattle.firm_paths.proofs.Spreading.{make_successor, visit_counted, visit_spread}
+use Rattle.firm_paths.proofs.Spreading.{grown_same, make_successor, visit_counted, visit_grown, visit_spread}
 use Rattle.firm_paths.proofs.tight.Reach.follow_arc.Goals as goal
-use Rattle.firm_paths.proofs.tight.Reach.follow_arc.Goals.{in-Forward, in-Backward}
+use Rattle.firm_paths.proofs.tight.Reach.follow_arc.Goals.{in-Forward, in-Backward, then-is_barred-via-then-is_barred}
+use Rattle.firm_paths.proofs.tight.Reach.follow_arc.Goals.{then-is_barred-via-else-is_barred+then-not-is_residual}
 
 pub returns-then-tight-clause-spreads : goal.returns-then-tight-clause-spreads
 returns-then-tight-clause-spreads c from number place old =
@@ -95,3 +97,59 @@ returns-then-tight-clause-counted c =
     rw (c.visit_once.ensures.seen, c.visit_once.ensures.visits, c.visit_once.ensures.capacity)
     (visit_counted c.args.self.now.seen.items c.args.self.now.visits.items _
     (omega (arith, c.in-Some.ensures.below, c.requires.length.1)) _ c.requires.counted)
+
+pub returns-then-tight-clause-grown : goal.returns-then-tight-clause-grown
+returns-then-tight-clause-grown c =
+    rw (c.visit_once.ensures.seen, c.visit_once.ensures.visits)
+    (visit_grown c.args.self.now.seen.items c.args.self.now.visits.items _
+    (omega (arith, c.in-Some.ensures.below, c.requires.length.1)))
+
+pub returns-else-tight-clause-spreads : goal.returns-else-tight-clause-spreads
+returns-else-tight-clause-spreads c from number place old =
+    let there =
+    place_value c.entered-node.result (lists_at c.args.arcs.now.net.now c.entered-node.result) c.in-Some.place
+    c.in-Some.ensures.value in
+    let price = slice_index c.args.arcs.now.prices.now.prices in
+    let ends : c.in-Some.place ≡ (end_of c.args.read.way c.args.row).id.place =
+    there.1 ∙ ap (λ (n : NodeId). n.id.place) c.entered-node.ensures in (
+      old,
+      inr (λ o t.
+          let tight : c.match-read.tight ≡ true =
+          elim c.match-read.branch [
+            | in-Forward w ↦
+                let start : c.args.row.tail.id.place ≡ c.args.current.place =
+                subst (λ (way : Way). (start_of way c.args.row).id.place ≡ c.args.current.place) w.in-Forward.is
+                c.requires.start in
+                let end : c.in-Some.place ≡ c.args.row.head.id.place =
+                subst (λ (way : Way). c.in-Some.place ≡ (end_of way c.args.row).id.place) w.in-Forward.is ends in
+                w.tight-is
+                ∙ w.is_tight-tight.ensures.1 (omega (arith, t, w.cost.ensures.value, ap price start, ap price end))
+            | in-Backward w ↦
+                let start : c.args.row.head.id.place ≡ c.args.current.place =
+                subst (λ (way : Way). (start_of way c.args.row).id.place ≡ c.args.current.place) w.in-Backward.is
+                c.requires.start in
+                let end : c.in-Some.place ≡ c.args.row.tail.id.place =
+                subst (λ (way : Way). c.in-Some.place ≡ (end_of way c.args.row).id.place) w.in-Backward.is ends in
+                w.tight-is
+                ∙ w.is_tight-tight-in-Backward.ensures.1
+                (omega (arith, t, w.cost-in-Backward.ensures.value, ap price start, ap price end))
+          ] in
+          absurd (both_ways c.match-read.tight c.if-tight.false tight)),
+    )
+
+pub returns-then-is_barred-clause-spreads : goal.returns-then-is_barred-clause-spreads
+returns-then-is_barred-clause-spreads c from number place old = (
+  old,
+  elim c.then-is_barred.branch [
+    | then-is_barred-via-then-is_barred w ↦ inl (c.is_barred.ensures.0 w.if-is_barred.true)
+    | then-is_barred-via-else-is_barred+then-not-is_residual w ↦
+        inr (λ o t. absurd (both_ways w.is_residual.result w.if-not-is_residual.true
+        (w.is_residual.ensures.1 (subst (λ (way : Way). IsOpen way c.args.row) (sym c.opposite-way.ensures) o))))
+  ],
+)
+
+pub returns-else-tight-clause-grown : goal.returns-else-tight-clause-grown
+returns-else-tight-clause-grown c = grown_same _ _
+
+pub returns-then-is_barred-clause-grown : goal.returns-then-is_barred-clause-grown
+returns-then-is_barred-clause-grown c = grown_same _ _
