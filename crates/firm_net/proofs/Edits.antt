@@ -243,3 +243,16 @@ without_flow-edit net is =
       added = omega arith;
       net = is;
     }
+
+-- nothing changes
+pub same-edit : (net : Net) → IsNet net → IsEdit net net [] [] [] []
+same-edit net is = record {
+  nodes = λ w. refl;
+  spans = λ w. refl;
+  counted_nodes = refl;
+  counted_arcs = refl;
+  node_room = refl;
+  arc_room = refl;
+  added = omega arith;
+  net = is;
+}

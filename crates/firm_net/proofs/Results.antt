@@ -249,6 +249,14 @@ pub added-counted : (links : Arena Link) (nodes : Arena Node) (old : Net) → sh
     → nodes.counter + links.counter ≡ added_of old
 added-counted links nodes old was = ap (λ (o : Net). added_of o) was
 
+-- what stays where the net does
+pub same-counts : (new old : Net) → new ≡ old → CountsAre new (node_count old) (arc_count old)
+same-counts new old e =
+    record { counted_nodes = ap (λ (n : Net). node_count n) e; counted_arcs = ap (λ (n : Net). arc_count n) e }
+
+pub same-nodes : (new old : Net) → new ≡ old → SameNodes old new
+same-nodes new old e n = (subst (λ (m : Net). IsNode m n) e, subst (λ (m : Net). IsNode m n) (sym e))
+
 -- what the net before a change finds, by what the parts find
 pub row-found : (links : Arena Link) (nodes : Arena Node) (old : Net) (a : ArcId) (link : Link)
     → shown_net links nodes ≡ old

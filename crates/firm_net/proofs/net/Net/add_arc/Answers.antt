@@ -3,7 +3,7 @@ use Rattle.std.proofs.Common.{◌≡◌, ◌+◌, ◌<◌, ◌^◌, ◌∙◌, s
 use Rattle.std.specs.Prelude.{IsTrue}
 use Rattle.std.proofs.lemmas.Bool.{false≢true, cases_lt}
 use Rattle.firm_arena.specs.Arena.{Arena, find, len_of, capacity_of, changed_at, changed_all}
-use Rattle.firm_net.specs.Net.{with_arc, IsNet, IsNode, lists_at}
+use Rattle.firm_net.specs.Net.{Net, with_arc, IsNet, IsNode, lists_at}
 use Rattle.firm_net.specs.inner.Links.{list_of, with_arc_list, list_from, nodes_shown, cleared_link, Shows}
 use Rattle.firm_net.specs.declared.row.NodeId.{NodeId}
 use Rattle.firm_net.specs.declared.links.Link.{Link}
@@ -11,7 +11,7 @@ use Rattle.firm_net.specs.declared.links.Node.{Node}
 use Rattle.firm_net.specs.declared.links.Side.TheVariants.{Out}
 use Rattle.firm_net.proofs.Shown.{shown_net}
 use Rattle.firm_net.proofs.Results.{AddsArc, adds_arc, first-fits, next-fits, if-some, node-found, node-missing}
-use Rattle.firm_net.proofs.Results.{not-node, arcs-counted, arc-capacity, added-counted}
+use Rattle.firm_net.proofs.Results.{not-node, arcs-counted, arc-capacity, added-counted, same-nodes}
 use Rattle.firm_net.proofs.net.Net.add_arc.Goals as goal
 
 adds : (c : goal.After-self-2-1)
@@ -202,3 +202,153 @@ returns-clause-nodes c = (adds c).same_nodes
 
 pub returns-clause-edit : goal.returns-clause-edit
 returns-clause-edit c = (adds c).edit
+
+pub returns-in_default-clause-adds : goal.returns-in_default-clause-adds
+returns-in_default-clause-adds c = tt
+
+pub returns-in_default-clause-counts : goal.returns-in_default-clause-counts
+returns-in_default-clause-counts c = tt
+
+pub returns-in_default-clause-edit : goal.returns-in_default-clause-edit
+returns-in_default-clause-edit c = tt
+
+pub returns-in_default-clause-row : goal.returns-in_default-clause-row
+returns-in_default-clause-row c = tt
+
+pub returns-in_default-clause-others : goal.returns-in_default-clause-others
+returns-in_default-clause-others c = tt
+
+pub returns-in_default-clause-place : goal.returns-in_default-clause-place
+returns-in_default-clause-place c = tt
+
+pub returns-in_default-clause-stamp : goal.returns-in_default-clause-stamp
+returns-in_default-clause-stamp c = tt
+
+pub returns-in_default-clause-no_arc : goal.returns-in_default-clause-no_arc
+returns-in_default-clause-no_arc c = λ e. let wrong : ⊥ = cc in absurd wrong
+
+pub returns-in_default-clause-nodes : goal.returns-in_default-clause-nodes
+returns-in_default-clause-nodes c = λ n. (λ h. h, λ h. h)
+
+pub returns-in_default-clause-unchanged : goal.returns-in_default-clause-unchanged
+returns-in_default-clause-unchanged c = refl
+
+pub returns-in_default-clause-net : goal.returns-in_default-clause-net
+returns-in_default-clause-net c = subst IsNet c.self.view_is c.self.invariant.net
+
+pub returns-in_default-clause-net_before : goal.returns-in_default-clause-net_before
+returns-in_default-clause-net_before c = subst IsNet c.self.view_is c.self.invariant.net
+
+pub returns-in_default-copied-clause-adds : goal.returns-in_default-copied-clause-adds
+returns-in_default-copied-clause-adds c = tt
+
+pub returns-in_default-copied-clause-counts : goal.returns-in_default-copied-clause-counts
+returns-in_default-copied-clause-counts c = tt
+
+pub returns-in_default-copied-clause-edit : goal.returns-in_default-copied-clause-edit
+returns-in_default-copied-clause-edit c = tt
+
+pub returns-in_default-copied-clause-row : goal.returns-in_default-copied-clause-row
+returns-in_default-copied-clause-row c = tt
+
+pub returns-in_default-copied-clause-others : goal.returns-in_default-copied-clause-others
+returns-in_default-copied-clause-others c = tt
+
+pub returns-in_default-copied-clause-place : goal.returns-in_default-copied-clause-place
+returns-in_default-copied-clause-place c = tt
+
+pub returns-in_default-copied-clause-stamp : goal.returns-in_default-copied-clause-stamp
+returns-in_default-copied-clause-stamp c = tt
+
+pub returns-in_default-copied-clause-no_arc : goal.returns-in_default-copied-clause-no_arc
+returns-in_default-copied-clause-no_arc c = λ e. let wrong : ⊥ = cc in absurd wrong
+
+pub returns-in_default-copied-clause-nodes : goal.returns-in_default-copied-clause-nodes
+returns-in_default-copied-clause-nodes c = λ n. (λ h. h, λ h. h)
+
+pub returns-in_default-copied-clause-unchanged : goal.returns-in_default-copied-clause-unchanged
+returns-in_default-copied-clause-unchanged c = refl
+
+pub returns-in_default-copied-clause-net : goal.returns-in_default-copied-clause-net
+returns-in_default-copied-clause-net c = subst IsNet c.self.view_is c.self.invariant.net
+
+pub returns-in_default-copied-clause-net_before : goal.returns-in_default-copied-clause-net_before
+returns-in_default-copied-clause-net_before c = subst IsNet c.self.view_is c.self.invariant.net
+
+pub returns-in_default-put-clause-adds : goal.returns-in_default-put-clause-adds
+returns-in_default-put-clause-adds c = tt
+
+pub returns-in_default-put-clause-counts : goal.returns-in_default-put-clause-counts
+returns-in_default-put-clause-counts c = tt
+
+pub returns-in_default-put-clause-edit : goal.returns-in_default-put-clause-edit
+returns-in_default-put-clause-edit c = tt
+
+pub returns-in_default-put-clause-row : goal.returns-in_default-put-clause-row
+returns-in_default-put-clause-row c = tt
+
+pub returns-in_default-put-clause-others : goal.returns-in_default-put-clause-others
+returns-in_default-put-clause-others c = tt
+
+pub returns-in_default-put-clause-place : goal.returns-in_default-put-clause-place
+returns-in_default-put-clause-place c = tt
+
+pub returns-in_default-put-clause-stamp : goal.returns-in_default-put-clause-stamp
+returns-in_default-put-clause-stamp c = tt
+
+pub returns-in_default-put-clause-gone : goal.returns-in_default-put-clause-gone
+returns-in_default-put-clause-gone c = λ e. let wrong : ⊥ = cc in absurd wrong
+
+pub returns-in_default-put-clause-unchanged : goal.returns-in_default-put-clause-unchanged
+returns-in_default-put-clause-unchanged c =
+    ap (λ (l : Arena Link). shown_net l c.self.inside.nodes) c.in_default-put.ensures.unchanged ∙ c.self.view_is
+
+pub returns-in_default-put-clause-nodes : goal.returns-in_default-put-clause-nodes
+returns-in_default-put-clause-nodes c =
+    same-nodes _ _
+    (ap (λ (l : Arena Link). shown_net l c.self.inside.nodes) c.in_default-put.ensures.unchanged ∙ c.self.view_is)
+
+pub returns-in_default-put-clause-net_before : goal.returns-in_default-put-clause-net_before
+returns-in_default-put-clause-net_before c = subst IsNet c.self.view_is c.self.invariant.net
+
+pub returns-clause-unchanged : goal.returns-clause-unchanged
+returns-clause-unchanged c = tt
+
+pub returns-clause-net_before : goal.returns-clause-net_before
+returns-clause-net_before c = subst IsNet c.self.view_is c.self.invariant.net
+
+pub returns-clause-gone : goal.returns-clause-gone
+returns-clause-gone c = λ e. let wrong : ⊥ = cc in absurd wrong
+
+pub returns-clause-no_arc : goal.returns-clause-no_arc
+returns-clause-no_arc c = λ e. let wrong : ⊥ = cc in absurd wrong
+
+pub overflow_add-self : goal.overflow_add-self
+overflow_add-self c =
+    omega (
+      arith,
+      c.requires,
+      c.self.invariant.added,
+      added-counted c.self.inside.links c.self.inside.nodes c.args.self.now c.self.view_is,
+    )
+
+pub returns-clause-stamp : goal.returns-clause-stamp
+returns-clause-stamp c = c.in-Ok.ensures.stamp ∙ ap (λ (n : Net). n.arcs.counter) c.self.view_is
+
+pub link_at_front-requires-clause-place : goal.link_at_front-requires-clause-place
+link_at_front-requires-clause-place c =
+    omega (
+      arith,
+      c.in-Ok.ensures.place.within,
+      arc-capacity c.self.inside.links c.self.inside.nodes _ refl,
+      c.self.invariant.net.arc_limit,
+    )
+
+pub link_at_front-requires-2-clause-place : goal.link_at_front-requires-2-clause-place
+link_at_front-requires-2-clause-place c =
+    omega (
+      arith,
+      c.in-Ok.ensures.place.within,
+      arc-capacity c.self.inside.links c.self.inside.nodes _ refl,
+      c.self.invariant.net.arc_limit,
+    )

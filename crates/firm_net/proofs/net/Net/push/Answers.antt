@@ -1,11 +1,12 @@
 -- The parts show the net with the arc's flow changed.
-use Rattle.std.proofs.Common.{◌+◌, sym, ap, ◌∙◌, refl}
+use Rattle.std.proofs.Common.{◌+◌, sym, ap, ◌∙◌, refl, subst, Option, is_some}
 use Rattle.std.proofs.lemmas.Bool.{false≢true}
 use Rattle.firm_arena.specs.Arena.{Arena}
 use Rattle.firm_net.specs.Row.{Row}
-use Rattle.firm_net.specs.Net.{with_unit, without_flow, row_at}
+use Rattle.firm_net.specs.Net.{IsNet, with_unit, without_flow, row_at}
 use Rattle.firm_net.specs.Laws.{cleared_pushed}
 use Rattle.firm_net.specs.declared.links.Link.{Link}
+use Rattle.firm_net.proofs.Edits.{same-edit}
 use Rattle.firm_net.proofs.Results.{ChangesRow, changes_row, row-found, row-missing, can-push, push-residual, push-none}
 use Rattle.firm_net.proofs.Results.{unit-tail, unit-head, unit-span}
 use Rattle.firm_net.proofs.net.Net.push.Goals as goal
@@ -87,3 +88,72 @@ returns-clause-same c = ap without_flow (changes c).is ∙ cleared_pushed c.args
 
 pub returns-clause-nodes : goal.returns-clause-nodes
 returns-clause-nodes c = (changes c).same_nodes
+
+pub returns-in_default-clause-pushes : goal.returns-in_default-clause-pushes
+returns-in_default-clause-pushes c = λ e. absurd (false≢true e)
+
+pub returns-in_default-clause-counts : goal.returns-in_default-clause-counts
+returns-in_default-clause-counts c = record { counted_nodes = refl; counted_arcs = refl }
+
+pub returns-in_default-clause-others : goal.returns-in_default-clause-others
+returns-in_default-clause-others c = λ b ne. refl
+
+pub returns-in_default-clause-nodes : goal.returns-in_default-clause-nodes
+returns-in_default-clause-nodes c = λ n. (λ h. h, λ h. h)
+
+pub returns-in_default-clause-edit : goal.returns-in_default-clause-edit
+returns-in_default-clause-edit c = same-edit _ (subst IsNet c.self.view_is c.self.invariant.net)
+
+pub returns-in_default-clause-row : goal.returns-in_default-clause-row
+returns-in_default-clause-row c = λ row there e. absurd (false≢true e)
+
+pub returns-in_default-clause-unchanged : goal.returns-in_default-clause-unchanged
+returns-in_default-clause-unchanged c = λ e. refl
+
+pub returns-in_default-clause-net : goal.returns-in_default-clause-net
+returns-in_default-clause-net c = subst IsNet c.self.view_is c.self.invariant.net
+
+pub returns-in_default-clause-net_before : goal.returns-in_default-clause-net_before
+returns-in_default-clause-net_before c = subst IsNet c.self.view_is c.self.invariant.net
+
+pub returns-in_default-clause-same : goal.returns-in_default-clause-same
+returns-in_default-clause-same c = refl
+
+pub returns-then-not-is_residual-clause-pushes : goal.returns-then-not-is_residual-clause-pushes
+returns-then-not-is_residual-clause-pushes c = λ e. absurd (false≢true e)
+
+pub returns-then-not-is_residual-clause-counts : goal.returns-then-not-is_residual-clause-counts
+returns-then-not-is_residual-clause-counts c = record { counted_nodes = refl; counted_arcs = refl }
+
+pub returns-then-not-is_residual-clause-others : goal.returns-then-not-is_residual-clause-others
+returns-then-not-is_residual-clause-others c = λ b ne. refl
+
+pub returns-then-not-is_residual-clause-nodes : goal.returns-then-not-is_residual-clause-nodes
+returns-then-not-is_residual-clause-nodes c = λ n. (λ h. h, λ h. h)
+
+pub returns-then-not-is_residual-clause-edit : goal.returns-then-not-is_residual-clause-edit
+returns-then-not-is_residual-clause-edit c = same-edit _ (subst IsNet c.self.view_is c.self.invariant.net)
+
+pub returns-then-not-is_residual-clause-row : goal.returns-then-not-is_residual-clause-row
+returns-then-not-is_residual-clause-row c = λ row there e. absurd (false≢true e)
+
+pub returns-then-not-is_residual-clause-unchanged : goal.returns-then-not-is_residual-clause-unchanged
+returns-then-not-is_residual-clause-unchanged c = λ e. refl
+
+pub returns-then-not-is_residual-clause-net : goal.returns-then-not-is_residual-clause-net
+returns-then-not-is_residual-clause-net c = subst IsNet c.self.view_is c.self.invariant.net
+
+pub returns-then-not-is_residual-clause-net_before : goal.returns-then-not-is_residual-clause-net_before
+returns-then-not-is_residual-clause-net_before c = subst IsNet c.self.view_is c.self.invariant.net
+
+pub returns-then-not-is_residual-clause-same : goal.returns-then-not-is_residual-clause-same
+returns-then-not-is_residual-clause-same c = refl
+
+pub returns-clause-unchanged : goal.returns-clause-unchanged
+returns-clause-unchanged c = λ e. absurd (false≢true (sym e))
+
+pub returns-clause-net_before : goal.returns-clause-net_before
+returns-clause-net_before c = subst IsNet c.self.view_is c.self.invariant.net
+
+pub set_row-requires : goal.set_row-requires
+set_row-requires c = ap (λ (o : Option Link). is_some o) (sym c.get.ensures.value ∙ sym c.in-Some.ensures)

@@ -1,7 +1,8 @@
 -- The parts show the net without the node.
-use Rattle.std.proofs.Common.{◌≡◌, ◌+◌, ◌∙◌, sym, ap, arith, refl}
+use Rattle.std.proofs.Common.{◌≡◌, ◌+◌, ◌∙◌, sym, ap, arith, refl, subst}
 use Rattle.std.proofs.lemmas.Bool.{false≢true}
 use Rattle.firm_arena.specs.Arena.{Arena, without}
+use Rattle.firm_net.specs.Net.{IsNet}
 use Rattle.firm_net.specs.declared.links.Node.{Node}
 use Rattle.firm_net.specs.declared.links.Side.TheVariants.{Out, In}
 use Rattle.firm_net.proofs.Results.{RemovesNode, removes_node, node-found, node-missing, not-node, list-empty}
@@ -121,3 +122,90 @@ returns-in_default-clause-gone c = (
 
 pub returns-clause-edit : goal.returns-clause-edit
 returns-clause-edit c = λ _. (removes c).edit
+
+pub returns-in_default-clause-removes : goal.returns-in_default-clause-removes
+returns-in_default-clause-removes c = λ e. absurd (false≢true e)
+
+pub returns-in_default-clause-edit : goal.returns-in_default-clause-edit
+returns-in_default-clause-edit c = λ e. absurd (false≢true e)
+
+pub returns-in_default-clause-absent : goal.returns-in_default-clause-absent
+returns-in_default-clause-absent c = λ e. absurd (false≢true e)
+
+pub returns-in_default-clause-stamp : goal.returns-in_default-clause-stamp
+returns-in_default-clause-stamp c = λ e. absurd (false≢true e)
+
+pub returns-in_default-clause-counts : goal.returns-in_default-clause-counts
+returns-in_default-clause-counts c = λ e. absurd (false≢true e)
+
+pub returns-in_default-clause-others : goal.returns-in_default-clause-others
+returns-in_default-clause-others c = λ m ne. refl
+
+pub returns-in_default-clause-unchanged : goal.returns-in_default-clause-unchanged
+returns-in_default-clause-unchanged c = refl
+
+pub returns-in_default-clause-net : goal.returns-in_default-clause-net
+returns-in_default-clause-net c = subst IsNet c.self.view_is c.self.invariant.net
+
+pub returns-in_default-clause-net_before : goal.returns-in_default-clause-net_before
+returns-in_default-clause-net_before c = subst IsNet c.self.view_is c.self.invariant.net
+
+pub returns-then-lists-ne0-clause-removes : goal.returns-then-lists-ne0-clause-removes
+returns-then-lists-ne0-clause-removes c = λ e. absurd (false≢true e)
+
+pub returns-then-lists-ne0-clause-edit : goal.returns-then-lists-ne0-clause-edit
+returns-then-lists-ne0-clause-edit c = λ e. absurd (false≢true e)
+
+pub returns-then-lists-ne0-clause-absent : goal.returns-then-lists-ne0-clause-absent
+returns-then-lists-ne0-clause-absent c = λ e. absurd (false≢true e)
+
+pub returns-then-lists-ne0-clause-stamp : goal.returns-then-lists-ne0-clause-stamp
+returns-then-lists-ne0-clause-stamp c = λ e. absurd (false≢true e)
+
+pub returns-then-lists-ne0-clause-counts : goal.returns-then-lists-ne0-clause-counts
+returns-then-lists-ne0-clause-counts c = λ e. absurd (false≢true e)
+
+pub returns-then-lists-ne0-clause-others : goal.returns-then-lists-ne0-clause-others
+returns-then-lists-ne0-clause-others c = λ m ne. refl
+
+pub returns-then-lists-ne0-clause-unchanged : goal.returns-then-lists-ne0-clause-unchanged
+returns-then-lists-ne0-clause-unchanged c = refl
+
+pub returns-then-lists-ne0-clause-net : goal.returns-then-lists-ne0-clause-net
+returns-then-lists-ne0-clause-net c = subst IsNet c.self.view_is c.self.invariant.net
+
+pub returns-then-lists-ne0-clause-net_before : goal.returns-then-lists-ne0-clause-net_before
+returns-then-lists-ne0-clause-net_before c = subst IsNet c.self.view_is c.self.invariant.net
+
+pub returns-then-lists-ne0-2-clause-removes : goal.returns-then-lists-ne0-2-clause-removes
+returns-then-lists-ne0-2-clause-removes c = λ e. absurd (false≢true e)
+
+pub returns-then-lists-ne0-2-clause-edit : goal.returns-then-lists-ne0-2-clause-edit
+returns-then-lists-ne0-2-clause-edit c = λ e. absurd (false≢true e)
+
+pub returns-then-lists-ne0-2-clause-absent : goal.returns-then-lists-ne0-2-clause-absent
+returns-then-lists-ne0-2-clause-absent c = λ e. absurd (false≢true e)
+
+pub returns-then-lists-ne0-2-clause-stamp : goal.returns-then-lists-ne0-2-clause-stamp
+returns-then-lists-ne0-2-clause-stamp c = λ e. absurd (false≢true e)
+
+pub returns-then-lists-ne0-2-clause-counts : goal.returns-then-lists-ne0-2-clause-counts
+returns-then-lists-ne0-2-clause-counts c = λ e. absurd (false≢true e)
+
+pub returns-then-lists-ne0-2-clause-others : goal.returns-then-lists-ne0-2-clause-others
+returns-then-lists-ne0-2-clause-others c = λ m ne. refl
+
+pub returns-then-lists-ne0-2-clause-unchanged : goal.returns-then-lists-ne0-2-clause-unchanged
+returns-then-lists-ne0-2-clause-unchanged c = refl
+
+pub returns-then-lists-ne0-2-clause-net : goal.returns-then-lists-ne0-2-clause-net
+returns-then-lists-ne0-2-clause-net c = subst IsNet c.self.view_is c.self.invariant.net
+
+pub returns-then-lists-ne0-2-clause-net_before : goal.returns-then-lists-ne0-2-clause-net_before
+returns-then-lists-ne0-2-clause-net_before c = subst IsNet c.self.view_is c.self.invariant.net
+
+pub returns-clause-unchanged : goal.returns-clause-unchanged
+returns-clause-unchanged c = tt
+
+pub returns-clause-net_before : goal.returns-clause-net_before
+returns-clause-net_before c = subst IsNet c.self.view_is c.self.invariant.net

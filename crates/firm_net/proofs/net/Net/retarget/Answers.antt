@@ -3,7 +3,7 @@ use Rattle.std.proofs.Common.{◌≡◌, ◌≢◌, ℕ, ◌+◌, ◌∙◌, ◌
 use Rattle.std.proofs.Common.{Some, IfSome, is_some}
 use Rattle.std.proofs.lemmas.Bool.{false≢true, and_from, and_parts}
 use Rattle.firm_net.specs.Row.{Row}
-use Rattle.firm_net.specs.Net.{row_at, with_head}
+use Rattle.firm_net.specs.Net.{IsNet, row_at, with_head}
 use Rattle.firm_net.specs.declared.row.NodeId.{NodeId}
 use Rattle.firm_net.specs.declared.links.Node.{Node}
 use Rattle.firm_net.specs.declared.links.Side.TheVariants.{In}
@@ -142,3 +142,90 @@ returns-clause-edit c = λ row there _. (moves c).edit row there
 
 pub returns-clause-row : goal.returns-clause-row
 returns-clause-row c = λ row there _. (moves c).own row there
+
+pub returns-in_default-clause-moves : goal.returns-in_default-clause-moves
+returns-in_default-clause-moves c = λ e. absurd (false≢true e)
+
+pub returns-in_default-clause-counts : goal.returns-in_default-clause-counts
+returns-in_default-clause-counts c = record { counted_nodes = refl; counted_arcs = refl }
+
+pub returns-in_default-clause-others : goal.returns-in_default-clause-others
+returns-in_default-clause-others c = λ b ne. refl
+
+pub returns-in_default-clause-nodes : goal.returns-in_default-clause-nodes
+returns-in_default-clause-nodes c = λ n. (λ h. h, λ h. h)
+
+pub returns-in_default-clause-edit : goal.returns-in_default-clause-edit
+returns-in_default-clause-edit c = λ row there e. absurd (false≢true e)
+
+pub returns-in_default-clause-row : goal.returns-in_default-clause-row
+returns-in_default-clause-row c = λ row there e. absurd (false≢true e)
+
+pub returns-in_default-clause-unchanged : goal.returns-in_default-clause-unchanged
+returns-in_default-clause-unchanged c = λ e. refl
+
+pub returns-in_default-clause-net : goal.returns-in_default-clause-net
+returns-in_default-clause-net c = subst IsNet c.self.view_is c.self.invariant.net
+
+pub returns-in_default-clause-net_before : goal.returns-in_default-clause-net_before
+returns-in_default-clause-net_before c = subst IsNet c.self.view_is c.self.invariant.net
+
+pub returns-in_default-copied-clause-moves : goal.returns-in_default-copied-clause-moves
+returns-in_default-copied-clause-moves c = λ e. absurd (false≢true e)
+
+pub returns-in_default-copied-clause-counts : goal.returns-in_default-copied-clause-counts
+returns-in_default-copied-clause-counts c = record { counted_nodes = refl; counted_arcs = refl }
+
+pub returns-in_default-copied-clause-others : goal.returns-in_default-copied-clause-others
+returns-in_default-copied-clause-others c = λ b ne. refl
+
+pub returns-in_default-copied-clause-nodes : goal.returns-in_default-copied-clause-nodes
+returns-in_default-copied-clause-nodes c = λ n. (λ h. h, λ h. h)
+
+pub returns-in_default-copied-clause-edit : goal.returns-in_default-copied-clause-edit
+returns-in_default-copied-clause-edit c = λ row there e. absurd (false≢true e)
+
+pub returns-in_default-copied-clause-row : goal.returns-in_default-copied-clause-row
+returns-in_default-copied-clause-row c = λ row there e. absurd (false≢true e)
+
+pub returns-in_default-copied-clause-unchanged : goal.returns-in_default-copied-clause-unchanged
+returns-in_default-copied-clause-unchanged c = λ e. refl
+
+pub returns-in_default-copied-clause-net : goal.returns-in_default-copied-clause-net
+returns-in_default-copied-clause-net c = subst IsNet c.self.view_is c.self.invariant.net
+
+pub returns-in_default-copied-clause-net_before : goal.returns-in_default-copied-clause-net_before
+returns-in_default-copied-clause-net_before c = subst IsNet c.self.view_is c.self.invariant.net
+
+pub returns-then-eq-clause-moves : goal.returns-then-eq-clause-moves
+returns-then-eq-clause-moves c = λ e. absurd (false≢true e)
+
+pub returns-then-eq-clause-counts : goal.returns-then-eq-clause-counts
+returns-then-eq-clause-counts c = record { counted_nodes = refl; counted_arcs = refl }
+
+pub returns-then-eq-clause-others : goal.returns-then-eq-clause-others
+returns-then-eq-clause-others c = λ b ne. refl
+
+pub returns-then-eq-clause-nodes : goal.returns-then-eq-clause-nodes
+returns-then-eq-clause-nodes c = λ n. (λ h. h, λ h. h)
+
+pub returns-then-eq-clause-edit : goal.returns-then-eq-clause-edit
+returns-then-eq-clause-edit c = λ row there e. absurd (false≢true e)
+
+pub returns-then-eq-clause-row : goal.returns-then-eq-clause-row
+returns-then-eq-clause-row c = λ row there e. absurd (false≢true e)
+
+pub returns-then-eq-clause-unchanged : goal.returns-then-eq-clause-unchanged
+returns-then-eq-clause-unchanged c = λ e. refl
+
+pub returns-then-eq-clause-net : goal.returns-then-eq-clause-net
+returns-then-eq-clause-net c = subst IsNet c.self.view_is c.self.invariant.net
+
+pub returns-then-eq-clause-net_before : goal.returns-then-eq-clause-net_before
+returns-then-eq-clause-net_before c = subst IsNet c.self.view_is c.self.invariant.net
+
+pub returns-clause-unchanged : goal.returns-clause-unchanged
+returns-clause-unchanged c = λ e. absurd (false≢true (sym e))
+
+pub returns-clause-net_before : goal.returns-clause-net_before
+returns-clause-net_before c = subst IsNet c.self.view_is c.self.invariant.net
