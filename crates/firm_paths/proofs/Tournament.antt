@@ -49,8 +49,8 @@ module _ (places at : ℕ) (keys : List ℕ) (mending : IsMending places at keys
   pub mended-top : at ≤ 1 → IsTournament places keys
   mended-top top = record {
     length = mending.length;
-    lesser = λ i low high.
-        mending.lesser i low high (λ e. omega (arith, e, low, top)) (λ e. omega (arith, e, low, top));
+    lesser = λ i low high. mending.lesser i low high (λ e. omega (arith, e, low, top))
+        (λ e. omega (arith, e, low, top));
     bounded = mending.bounded;
   }
 

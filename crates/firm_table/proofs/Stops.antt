@@ -35,6 +35,11 @@ cause_writing Write input most read_failed write_failed well p = (well, p)
 cause_writing TooLong input most read_failed write_failed well p = absurd p
 cause_writing Memory input most read_failed write_failed well p = (well, p)
 
+-- such a fault is no fault of a read
+pub not_reading : (fault : ServeFault) (write_failed : Bool) → IsWritingFault fault write_failed → fault ≡ Read → ⊥
+not_reading fault write_failed p reading =
+    subst (λ (f : ServeFault). IsWritingFault f write_failed) reading p
+
 -- what was read stays what was read where what is left does
 pub still_read : (first left later : Option (List ℕ)) (text : List ℕ) → later ≡ left → Consumes first left text
     → Consumes first later text

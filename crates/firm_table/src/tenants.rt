@@ -95,7 +95,6 @@ impl Tenants {
     }
 
     /// Adds the text of their state. Fails if memory for it is refused; part of the text may then have been added.
-    #[tactic(auto, using(crate::proofs::Stating::kept_trans))]
     pub fn put_state(&self, output: &mut Vec<u8>) -> Result<(), AllocError>
         ensures kept { StartsWith output.new.items output.old.items }
         ensures text { OnOk result (output.new.items ≡ output.old.items ++ state_text (tenants_state self.now)) }
@@ -108,7 +107,6 @@ impl Tenants {
     }
 
     // Adds the rows of the first places, and says how many they are.
-    #[tactic(auto, using(crate::proofs::Stating::kept_trans))]
     fn put_places(&self, output: &mut Vec<u8>, given: usize) -> Result<u64, AllocError>
         requires { given ≤ most_places }
         ensures kept { StartsWith output.new.items output.old.items }
@@ -199,7 +197,6 @@ impl Tenants {
 }
 
 // Adds the rows of a place, and says how many they are.
-#[tactic(auto, using(crate::proofs::Stating::kept_trans))]
 fn put_place(
     output: &mut Vec<u8>,
     entry: &Entry,

@@ -1,5 +1,5 @@
 use Rattle.std.proofs.Common.{◌≡◌, ◌∙◌, rules, sym, ap, take, drop, List, ℕ, [], ◌∷◌, ◌++◌, append-nil, true}
-use Rattle.std.proofs.lemmas.List.{append_cancel_right}
+use Rattle.std.proofs.lemmas.List.{append_cancel_right, take-append-drop}
 use Rattle.std.proofs.lemmas.Result.{err_from_is_err_and}
 use Rattle.std.specs.List.{position_or_len}
 use Rattle.firm_text.specs.Inputs.{input_lines}
@@ -50,3 +50,50 @@ returns-clause-heard g c heard front written cut h =
           (sym (c.take-line.ensures.line (h.rest ++ bytes) stands)))
           h.told;
     }
+
+pub returns-in_err-answer-clause-part : goal.returns-in_err-answer-clause-part
+returns-in_err-answer-clause-part g c = rw (err_from_is_err_and c.from_residual.result c.from_residual.ensures.1).1 tt
+
+pub returns-in_err-answer-clause-shorter : goal.returns-in_err-answer-clause-shorter
+returns-in_err-answer-clause-shorter g c =
+    rw (err_from_is_err_and c.from_residual.result c.from_residual.ensures.1).1 tt
+
+pub returns-in_err-answer-clause-heard : goal.returns-in_err-answer-clause-heard
+returns-in_err-answer-clause-heard g c = rw (err_from_is_err_and c.from_residual.result c.from_residual.ensures.1).1 tt
+
+pub returns-in_err-answer-clause-cut : goal.returns-in_err-answer-clause-cut
+returns-in_err-answer-clause-cut g c = rw (err_from_is_err_and c.from_residual.result c.from_residual.ensures.1).1 tt
+
+pub returns-in_err-answer-clause-well : goal.returns-in_err-answer-clause-well
+returns-in_err-answer-clause-well g c = rw (err_from_is_err_and c.from_residual.result c.from_residual.ensures.1).1 tt
+
+pub returns-in_err-answer-clause-cause : goal.returns-in_err-answer-clause-cause
+returns-in_err-answer-clause-cause g c =
+    let p = err_from_is_err_and c.from_residual.result c.from_residual.ensures.1 in
+    rw (p.1, p.2) c.in_err-answer.ensures.cause
+
+pub returns-clause-halted : goal.returns-clause-halted
+returns-clause-halted g c = tt
+
+pub returns-clause-cause : goal.returns-clause-cause
+returns-clause-cause g c = tt
+
+pub returns-then-not-fed-clause-halted : goal.returns-then-not-fed-clause-halted
+returns-then-not-fed-clause-halted g c = tt
+
+pub returns-then-not-fed-clause-cause : goal.returns-then-not-fed-clause-cause
+returns-then-not-fed-clause-cause g c = tt
+
+pub returns-then-not-fed-clause-part : goal.returns-then-not-fed-clause-part
+returns-then-not-fed-clause-part g c = (
+  c.split_at.result.0.now,
+  rw (c.split_at.ensures.front, c.split_at.ensures.back)
+      (sym (take-append-drop c.feed-fed.result.used c.args.piece.now)),
+)
+
+pub returns-clause-part : goal.returns-clause-part
+returns-clause-part g c = (
+  c.split_at.result.0.now,
+  rw (c.split_at.ensures.front, c.split_at.ensures.back)
+      (sym (take-append-drop c.feed-fed.result.used c.args.piece.now)),
+)

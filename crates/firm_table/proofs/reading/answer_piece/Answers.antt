@@ -58,3 +58,29 @@ returns-clause-heard g c heard written h =
     let empty : c.loop-rest.rest.now ≡ [] = grind (arith, common_steps) in
     c.loop-rest.invariant.heard heard c.args.piece.now written
     (sym (append-nil c.args.piece.now) ∙ ap (λ (l : List ℕ). c.args.piece.now ++ l) (sym empty)) h
+
+pub returns-in_err-rest-clause-opening : goal.returns-in_err-rest-clause-opening
+returns-in_err-rest-clause-opening g c = c.in_err-rest.ensures.opening ∙ c.loop-rest.invariant.opening
+
+pub returns-in_err-rest-clause-kept : goal.returns-in_err-rest-clause-kept
+returns-in_err-rest-clause-kept g c = c.in_err-rest.ensures.kept ∙ c.loop-rest.invariant.kept
+
+pub returns-in_err-rest-clause-heard : goal.returns-in_err-rest-clause-heard
+returns-in_err-rest-clause-heard g c = rw (err_from_is_err_and c.from_residual.result c.from_residual.ensures.1).1 tt
+
+pub returns-in_err-rest-clause-cut : goal.returns-in_err-rest-clause-cut
+returns-in_err-rest-clause-cut g c = rw (err_from_is_err_and c.from_residual.result c.from_residual.ensures.1).1 tt
+
+pub returns-in_err-rest-clause-well : goal.returns-in_err-rest-clause-well
+returns-in_err-rest-clause-well g c = rw (err_from_is_err_and c.from_residual.result c.from_residual.ensures.1).1 tt
+
+pub returns-in_err-rest-clause-cause : goal.returns-in_err-rest-clause-cause
+returns-in_err-rest-clause-cause g c =
+    let p = err_from_is_err_and c.from_residual.result c.from_residual.ensures.1 in
+    rw (p.1, p.2) c.in_err-rest.ensures.cause
+
+pub returns-clause-halted : goal.returns-clause-halted
+returns-clause-halted g c = tt
+
+pub returns-clause-cause : goal.returns-clause-cause
+returns-clause-cause g c = tt

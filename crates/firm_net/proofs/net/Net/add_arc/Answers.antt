@@ -324,12 +324,13 @@ pub returns-clause-no_arc : goal.returns-clause-no_arc
 returns-clause-no_arc c = λ e. let wrong : ⊥ = cc in absurd wrong
 
 pub overflow_add-self : goal.overflow_add-self
-overflow_add-self c = omega (
-  arith,
-  c.requires,
-  c.self.invariant.added,
-  added-counted c.self.inside.links c.self.inside.nodes c.args.self.now c.self.view_is,
-)
+overflow_add-self c =
+    omega (
+      arith,
+      c.requires,
+      c.self.invariant.added,
+      added-counted c.self.inside.links c.self.inside.nodes c.args.self.now c.self.view_is,
+    )
 
 pub returns-clause-stamp : goal.returns-clause-stamp
 returns-clause-stamp c = c.in-Ok.ensures.stamp ∙ ap (λ (n : Net). n.arcs.counter) c.self.view_is

@@ -49,3 +49,56 @@ pub returns-else-len-ge-FULL-clause-told : goal.returns-else-len-ge-FULL-clause-
 returns-else-len-ge-FULL-clause-told g c text after written more told =
     let answered = c.in-Ok.ensures.answered in
     one_more_as _ _ text after written _ _ _ c.args.line told more answered
+
+pub returns-in_err-write_held-clause-told : goal.returns-in_err-write_held-clause-told
+returns-in_err-write_held-clause-told g c =
+    rw (err_from_is_err_and c.from_residual.result c.from_residual.ensures.1).1 tt
+
+pub returns-in_err-write_held-clause-well : goal.returns-in_err-write_held-clause-well
+returns-in_err-write_held-clause-well g c =
+    rw (err_from_is_err_and c.from_residual.result c.from_residual.ensures.1).1 tt
+
+pub returns-in_err-write_held-clause-cause : goal.returns-in_err-write_held-clause-cause
+returns-in_err-write_held-clause-cause g c =
+    let p = err_from_is_err_and c.from_residual.result c.from_residual.ensures.1 in
+    rw (p.1, p.2) c.in_err-write_held.ensures.cause
+
+pub returns-in_err-write_held-2-clause-told : goal.returns-in_err-write_held-2-clause-told
+returns-in_err-write_held-2-clause-told g c =
+    rw (err_from_is_err_and c.from_residual-in_err-write_held-2.result c.from_residual-in_err-write_held-2.ensures.1).1
+    tt
+
+pub returns-in_err-write_held-2-clause-well : goal.returns-in_err-write_held-2-clause-well
+returns-in_err-write_held-2-clause-well g c =
+    rw (err_from_is_err_and c.from_residual-in_err-write_held-2.result c.from_residual-in_err-write_held-2.ensures.1).1
+    tt
+
+pub returns-in_err-write_held-2-clause-cause : goal.returns-in_err-write_held-2-clause-cause
+returns-in_err-write_held-2-clause-cause g c =
+    let p = err_from_is_err_and c.from_residual-in_err-write_held-2.result c.from_residual-in_err-write_held-2.ensures.1
+    in
+    rw (p.1, p.2) c.in_err-write_held-2.ensures.cause
+
+pub returns-in_default-clause-told : goal.returns-in_default-clause-told
+returns-in_default-clause-told g c = tt
+
+pub returns-in_default-clause-well : goal.returns-in_default-clause-well
+returns-in_default-clause-well g c = tt
+
+pub returns-in_default-clause-cause : goal.returns-in_default-clause-cause
+returns-in_default-clause-cause g c = c.in_ok-write_held.ensures.well
+
+pub returns-else-len-ge-FULL-clause-begins : goal.returns-else-len-ge-FULL-clause-begins
+returns-else-len-ge-FULL-clause-begins g c = tt
+
+pub returns-else-len-ge-FULL-clause-cause : goal.returns-else-len-ge-FULL-clause-cause
+returns-else-len-ge-FULL-clause-cause g c = tt
+
+pub returns-in_ok-write_held-2-clause-begins : goal.returns-in_ok-write_held-2-clause-begins
+returns-in_ok-write_held-2-clause-begins g c = tt
+
+pub returns-in_ok-write_held-2-clause-cause : goal.returns-in_ok-write_held-2-clause-cause
+returns-in_ok-write_held-2-clause-cause g c = tt
+
+pub returns-in_ok-write_held-2-clause-well : goal.returns-in_ok-write_held-2-clause-well
+returns-in_ok-write_held-2-clause-well g c = c.in_ok-write_held-2.ensures.well

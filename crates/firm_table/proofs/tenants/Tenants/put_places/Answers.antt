@@ -2,6 +2,7 @@ use Rattle.std.proofs.Common.{◌≡◌, ◌∙◌, ℕ, ◌+◌, List, [], ◌�
 use Rattle.std.specs.Prelude.{All, Option}
 use Rattle.std.specs.List.{flat_map}
 use Rattle.std.proofs.lemmas.List.Elements.{All-push}
+use Rattle.std.proofs.lemmas.Result.{err_from_is_err_and}
 use Rattle.firm_rules.specs.Book.{Book}
 use Rattle.firm_saved.specs.declared.saved.SavedPlace.{SavedPlace}
 use Rattle.firm_saved.specs.Saved.{IsSoundPlace}
@@ -57,3 +58,15 @@ pub returns-clause-sound : goal.returns-clause-sound
 returns-clause-sound c =
     let end : c.loop-place.place ≡ c.args.given = omega (arith, c.loop-place.auto.place-end, c.loop-place-test.false) in
     subst (λ (n : ℕ). All IsSoundPlace (take n (tenants_state c.args.self.now))) end c.loop-place.invariant.sound
+
+pub returns-in_err-count-clause-kept : goal.returns-in_err-count-clause-kept
+returns-in_err-count-clause-kept c = kept_trans _ _ _ c.in_err-count.ensures.kept c.loop-place.invariant.kept
+
+pub returns-in_err-count-clause-added : goal.returns-in_err-count-clause-added
+returns-in_err-count-clause-added c = rw (err_from_is_err_and c.from_residual.result c.from_residual.ensures.1).1 tt
+
+pub returns-in_err-count-clause-count : goal.returns-in_err-count-clause-count
+returns-in_err-count-clause-count c = rw (err_from_is_err_and c.from_residual.result c.from_residual.ensures.1).1 tt
+
+pub returns-in_err-count-clause-sound : goal.returns-in_err-count-clause-sound
+returns-in_err-count-clause-sound c = rw (err_from_is_err_and c.from_residual.result c.from_residual.ensures.1).1 tt
