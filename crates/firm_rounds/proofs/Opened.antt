@@ -1,7 +1,12 @@
 -- The passes with which a queue is opened, one by one.
-use Rattle.std.proofs.Common.{◌≡◌, ℕ, zero, suc, ◌+◌, ◌<◌, List, [], ◌∷◌, ◌++◌, All, length, refl, arith}
+use Rattle.std.proofs.Common.{◌≡◌, ℕ, zero, suc, ◌+◌, ◌<◌, List, [], ◌∷◌, ◌++◌, All, length, refl, ap, ◌∙◌, add-one, arith}
 use Rattle.std.proofs.lemmas.List.Elements.{All-append}
+use Rattle.atomic_table.specs.Seated.{TableId}
+use Rattle.firm_rules.specs.declared.tickets.Ticket.{Ticket}
 use Rattle.firm_rounds.specs.Passes.{QueueId, PutIs, PopIs, put_is, pop_is, new_puts, new_pops}
+
+abbrev queue_id : TableId → ℕ → QueueId
+queue_id table all = record { table = table; all = all }
 
 one : {A : Type 0} (P : A → Type 0) (x : A) → P x → All P (x ∷ [])
 one P x p zero d low = p
@@ -24,3 +29,30 @@ pops_of id zero = λ k d low. absurd (omega arith)
 pops_of id (suc n) =
     let P : PopIs → Type 0 = λ (p : PopIs). p.queue ≡ id in
     All-append P (new_pops id n) (pop_is id [] ∷ []) (pops_of id n) (one P (pop_is id []) refl)
+
+-- one pass more
+pub more_puts : (queue : QueueId) (place : ℕ) (new old : List PutIs) (pass : PutIs)
+    → new ≡ old ++ pass ∷ [] → old ≡ new_puts queue place
+    → pass.queue.table ≡ queue.table → pass.queue.all ≡ queue.all → pass.place ≡ place → pass.put ≡ 0
+    → new ≡ new_puts queue (place + 1)
+more_puts queue place new old pass e before table all at unused =
+    let is : pass ≡ put_is queue place 0 =
+    ap (λ (t : TableId). put_is (record { table = t; all = pass.queue.all }) pass.place pass.put) table
+    ∙ (ap (λ (n : ℕ). put_is (record { table = queue.table; all = n }) pass.place pass.put) all
+    ∙ (ap (λ (p : ℕ). put_is queue p pass.put) at ∙ ap (put_is queue place) unused)) in
+    rw (e, before, is, add-one) refl
+
+pub more_pops : (queue : QueueId) (k : ℕ) (new old : List PopIs) (pass : PopIs)
+    → new ≡ old ++ pass ∷ [] → old ≡ new_pops queue k
+    → pass.queue.table ≡ queue.table → pass.queue.all ≡ queue.all → pass.got ≡ []
+    → new ≡ new_pops queue (k + 1)
+more_pops queue k new old pass e before table all unused =
+    let is : pass ≡ pop_is queue [] =
+    ap (λ (t : TableId). pop_is (record { table = t; all = pass.queue.all }) pass.got) table
+    ∙ (ap (λ (n : ℕ). pop_is (record { table = queue.table; all = n }) pass.got) all
+    ∙ ap (λ (got : List Ticket). pop_is queue got) unused) in
+    rw (e, before, is, add-one) refl
+
+pub same_queue : (queue other : QueueId) → queue.table ≡ other.table → queue.all ≡ other.all → queue ≡ other
+same_queue queue other table all =
+    ap (λ (t : TableId). queue_id t queue.all) table ∙ ap (queue_id other.table) all
