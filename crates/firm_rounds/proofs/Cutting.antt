@@ -3,7 +3,8 @@ use Rattle.std.proofs.Common.{◌≡◌, ℕ, zero, suc, ◌+◌, ◌-◌, ◌<�
 use Rattle.firm_rounds.specs.declared.protocol.Share.{Share}
 use Rattle.firm_rounds.specs.declared.protocol.Sight.{Sight}
 use Rattle.firm_rounds.specs.Rounds.{share, beyond}
-use Rattle.firm_rounds.specs.inner.Seats.{opening, sight, fresh, with_new_share, grown_to, held_from, without_second, second}
+use Rattle.firm_rounds.specs.inner.Seats.{opening, sight, fresh, with_new_share, grown_to, held_from}
+use Rattle.firm_rounds.specs.inner.Seats.{without_second, second}
 use Rattle.firm_rounds.specs.inner.Seats.{left_over, cut_off}
 use Rattle.firm_rounds.proofs.Fairs.{grown_to_more}
 
@@ -67,7 +68,8 @@ held_grown v n e =
     grown_again v n e ∙ ap (λ (m : ℕ). sight (v.all - 1 + 1) (share beyond 0 [] ∷ fresh 0 m)) same
 
 -- all shares of a queue's places and of its passes that get jobs
-pub all_grown : (first second third : Sight) (puts pops : ℕ) → first ≡ opening → second ≡ grown_to (first.all - 1 + puts)
+pub all_grown : (first second third : Sight) (puts pops : ℕ) → first ≡ opening
+    → second ≡ grown_to (first.all - 1 + puts)
     → third ≡ grown_to (second.all - 1 + (pops - 1)) → 0 < pops → third.all ≡ puts + pops
 all_grown first second third puts pops e f g some =
     let a : first.all ≡ 1 = ap (λ (w : Sight). w.all) e in

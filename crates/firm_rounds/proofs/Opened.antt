@@ -1,5 +1,6 @@
 -- The passes with which a queue is opened, one by one.
-use Rattle.std.proofs.Common.{◌≡◌, ℕ, zero, suc, ◌+◌, ◌<◌, List, [], ◌∷◌, ◌++◌, All, length, refl, ap, ◌∙◌, add-one, arith}
+use Rattle.std.proofs.Common.{◌≡◌, ℕ, zero, suc, ◌+◌, ◌<◌, List, [], ◌∷◌, ◌++◌, All, length}
+use Rattle.std.proofs.Common.{refl, ap, ◌∙◌, add-one, arith}
 use Rattle.std.proofs.lemmas.List.Elements.{All-append}
 use Rattle.atomic_table.specs.Seated.{TableId}
 use Rattle.firm_rules.specs.declared.tickets.Ticket.{Ticket}

@@ -36,14 +36,16 @@ cut-seat-requires c =
 
 pub of-requires : goal.of-requires
 of-requires c =
-    let cut = c.cut-seat.ensures.cut in (cut.0.1, (c.args.puts + c.loop-k.k, one_share (view c.cut-seat.result) _ _ cut.1))
+    let cut = c.cut-seat.ensures.cut in
+    (cut.0.1, (c.args.puts + c.loop-k.k, one_share (view c.cut-seat.result) _ _ cut.1))
 
 pub loop-k-preserved : goal.loop-k-preserved
 loop-k-preserved c =
     let inv = c.loop-k.invariant in let kept = c.cut-seat.ensures.kept in let cut = c.cut-seat.ensures.cut in (
       kept.0,
       kept.1 ∙ inv.1,
-      held_on (view c.cut-seat.new.keep) c.args.puts c.loop-k.k (view c.loop-k.keep).all (view c.args.keep).all kept.2 inv.1,
+      held_on (view c.cut-seat.new.keep) c.args.puts c.loop-k.k (view c.loop-k.keep).all (view c.args.keep).all kept.2
+          inv.1,
       more_pops (queue_of c.args.keep) c.loop-k.k _ _ c.of.result c.in_ok-push.ensures.items inv.3
           (c.of.ensures.0 ∙ (cut.0.0 ∙ sym c.requires.0.0))
           (c.of.ensures.1 ∙ (ap (λ (v : Sight). v.all) cut.1 ∙ inv.1)) c.of.ensures.2,
@@ -65,4 +67,5 @@ returns c =
     let inv = c.loop-k.invariant in
     more_pops (queue_of c.args.keep) c.loop-k.k _ _ c.of-2.result c.in_ok-push-2.ensures.items inv.3
     (c.of-2.ensures.0 ∙ (inv.0.0 ∙ sym c.requires.0.0)) (c.of-2.ensures.1 ∙ inv.1) c.of-2.ensures.2
-    ∙ ap (new_pops (queue_of c.args.keep)) (at_last c.args.pops c.loop-k.k c.requires.1 c.loop-k.auto.k-end c.loop-k-test.false)
+    ∙ ap (new_pops (queue_of c.args.keep))
+    (at_last c.args.pops c.loop-k.k c.requires.1 c.loop-k.auto.k-end c.loop-k-test.false)

@@ -38,7 +38,9 @@ of-requires c =
       few _ _ c.loop-place-test.true c.requires.1,
       cut.0.1,
       one_share (view c.cut-seat.result) (view c.loop-place.keep).all (share c.loop-place.place 0 [])
-          (cut.1 ∙ ap (λ (k : ℕ). sight (view c.loop-place.keep).all (share k 0 [] ∷ [])) (sym (from_none c.loop-place.place))),
+          (cut.1
+          ∙ ap (λ (k : ℕ). sight (view c.loop-place.keep).all (share k 0 [] ∷ []))
+          (sym (from_none c.loop-place.place))),
     )
 
 pub loop-place-preserved : goal.loop-place-preserved

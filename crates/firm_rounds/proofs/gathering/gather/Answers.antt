@@ -29,7 +29,8 @@ pub give_pops-requires-clause-passes : goal.give_pops-requires-clause-passes
 give_pops-requires-clause-passes c k d low =
     let cut = c.split_at_mut-head.ensures in
     let own =
-    later_pass c.args.ring.now.table.shared.table_id (c.args.put_count + c.args.pop_count) c.args.pops.now c.split_at_mut-head.result.0.now
+    later_pass c.args.ring.now.table.shared.table_id (c.args.put_count + c.args.pop_count) c.args.pops.now
+    c.split_at_mut-head.result.0.now
     c.split_at_mut-head.result.1.now cut.value c.requires.pops.1 k d low in
     (own.0, some _ c.args.put_count _ own.1 c.requires.puts.0)
 
@@ -39,5 +40,6 @@ returns-clause-seat c =
       last.0,
       last.1 ∙ (c.give_puts.ensures.keep.1 ∙ (ap (λ (v : Sight). v.all) c.give-keep.ensures.seat.1.1 ∙
           (first_pass c.args.ring.now.table.shared.table_id (c.args.put_count + c.args.pop_count) c.args.pops.now
-          c.split_at_mut-head.result.0.now c.split_at_mut-head.result.1.now cut.value cut.front_len c.requires.pops.1 c.index-head-0.result).1)),
+          c.split_at_mut-head.result.0.now c.split_at_mut-head.result.1.now cut.value cut.front_len c.requires.pops.1
+          c.index-head-0.result).1)),
     )

@@ -5,7 +5,8 @@ use Rattle.std.proofs.lemmas.List.{append-nil, drop_all, length-map, nil_from_le
 use Rattle.firm_rounds.specs.Passes.{QueueIs, PutIs, PopIs, JobIs, spent_put, spent_pop}
 use Rattle.firm_rounds.specs.Closed.{AsOften}
 use Rattle.firm_rounds.proofs.queue.Queue.close.Goals as goal
-use Rattle.firm_rounds.proofs.queue.Queue.close.Goals.{then-len-self-via-then-len-self, then-len-self-via-else-len-self+then-len-self-2}
+use Rattle.firm_rounds.proofs.queue.Queue.close.Goals.{then-len-self-via-then-len-self}
+use Rattle.firm_rounds.proofs.queue.Queue.close.Goals.{then-len-self-via-else-len-self+then-len-self-2}
 
 enough : (own inside count all given : ℕ) → inside ≤ count → count ≡ all → given ≡ all → inside ≡ own → own ≤ given
 enough own inside count all given = omega arith
@@ -40,8 +41,10 @@ returns-then-len-self g c =
       refl,
       refl,
       elim c.then-len-self.branch [
-        | then-len-self-via-then-len-self w ↦ inl (fewer _ _ _ _ _ w.if-len-self.true c.len.ensures puts c.args.puts.ok.0)
-        | then-len-self-via-else-len-self+then-len-self-2 w ↦ inr (fewer _ _ _ _ _ w.if-len-self-2.true w.len-else-len-self.ensures pops c.args.pops.ok.0)
+        | then-len-self-via-then-len-self w ↦
+            inl (fewer _ _ _ _ _ w.if-len-self.true c.len.ensures puts c.args.puts.ok.0)
+        | then-len-self-via-else-len-self+then-len-self-2 w ↦
+            inr (fewer _ _ _ _ _ w.if-len-self-2.true w.len-else-len-self.ensures pops c.args.pops.ok.0)
       ],
     )
 

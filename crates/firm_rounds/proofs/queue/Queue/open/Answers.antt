@@ -31,7 +31,8 @@ cut_pops-requires c =
     let kept = c.in_ok-put_passes.ensures.kept in (
       kept.0,
       c.requires.1,
-      kept.1 ∙ all_grown (view c.in_ok-ring.keep) (view c.grow.new.keep) (view c.grow-2.new.keep) c.args.puts c.args.pops
+      kept.1
+          ∙ all_grown (view c.in_ok-ring.keep) (view c.grow.new.keep) (view c.grow-2.new.keep) c.args.puts c.args.pops
           c.in_ok-ring.ensures.3 c.grow.ensures.1 c.grow-2.ensures.1 c.requires.1,
       held_again (view c.cut_puts.new.keep) c.args.puts (view c.grow-2.new.keep).all kept.2 kept.1,
     )
@@ -43,7 +44,8 @@ returns-clause-passes c =
     all_grown (view c.in_ok-ring.keep) (view c.grow.new.keep) (view c.grow-2.new.keep) c.args.puts c.args.pops
     c.in_ok-ring.ensures.3 c.grow.ensures.1 c.grow-2.ensures.1 c.requires.1 in (
       c.in_ok-put_passes.ensures.passes
-          ∙ ap (λ (q : QueueId). new_puts q c.args.puts) (same_queue (queue_of c.grow-2.new.keep) id c.grow-2.ensures.0.0 all),
+          ∙ ap (λ (q : QueueId). new_puts q c.args.puts)
+          (same_queue (queue_of c.grow-2.new.keep) id c.grow-2.ensures.0.0 all),
       c.in_ok-pop_passes.ensures
           ∙ ap (λ (q : QueueId). new_pops q c.args.pops) (same_queue (queue_of c.cut_puts.new.keep) id
           c.in_ok-put_passes.ensures.kept.0.0 (c.in_ok-put_passes.ensures.kept.1 ∙ all)),
