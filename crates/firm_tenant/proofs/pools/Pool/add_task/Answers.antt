@@ -1,4 +1,5 @@
-use Rattle.std.proofs.Common.{◌≡◌, ◌↔◌, ℕ, Bool, true, false, List, Result, Err, OnOk, OnErr, refl, ap, sym, subst, ◌∙◌, rules}
+use Rattle.std.proofs.Common.{◌≡◌, ◌↔◌, ℕ, Bool, true, false, List, Result, Err, OnOk, OnErr}
+use Rattle.std.proofs.Common.{refl, ap, sym, subst, ◌∙◌, rules}
 use Rattle.firm_graph.specs.Graph.{LackNodes, LackArcs}
 use Rattle.firm_graph.specs.declared.ids.GraphRefusal.{GraphRefusal}
 use Rattle.firm_graph.specs.declared.ids.GraphRefusal.TheVariants.{Nodes, Arcs}
@@ -42,7 +43,8 @@ returns-in_default-clause-effect c given =
     let none : are_machines c.rows-rows.result.now c.as_slice.result.now ≡ false = search rules in
     subst (λ (pool : Pool). (Refused NoSuchMachine, book_of pool given)
     ≡ effect (book_of pool given) (AddTask c.args.job c.args.name c.args.preferred) false) c.self.view_is
-    (no_machine _ _ _ c.args.preferred false (ap (λ (r : TenantRows). are_machines r c.args.preferred) (sym c.rows-rows.ensures.value)
+    (no_machine _ _ _ c.args.preferred false
+    (ap (λ (r : TenantRows). are_machines r c.args.preferred) (sym c.rows-rows.ensures.value)
     ∙ (ap (are_machines c.rows-rows.result.now) (sym c.as_slice.ensures.names) ∙ none)))
 
 pub returns-in_default-job_place-clause-effect : goal.returns-in_default-job_place-clause-effect
@@ -72,4 +74,5 @@ returns-clause-effect c given =
     ∙ (ap (are_machines c.rows-rows.result.now) (sym c.as_slice.ensures.names) ∙ sym c.in-Some.ensures.found))
     (ap (λ (r : TenantRows). is_among (job_names r) c.args.job) (sym c.rows-rows.ensures.value)
     ∙ sym c.in-Some-job_place.ensures.found)
-    (ap (λ (r : TenantRows). is_among (task_names r) c.args.name) (sym c.rows-rows.ensures.value) ∙ sym c.if-has_task.ensures))
+    (ap (λ (r : TenantRows). is_among (task_names r) c.args.name) (sym c.rows-rows.ensures.value)
+    ∙ sym c.if-has_task.ensures))

@@ -1,4 +1,5 @@
-use Rattle.std.proofs.Common.{◌≡◌, ◌+◌, ◌*◌, ◌^◌, ◌≤◌, ℕ, length, Bool, true, false, List, refl, ap, sym, subst, ◌∙◌, rules}
+use Rattle.std.proofs.Common.{◌≡◌, ◌+◌, ◌*◌, ◌^◌, ◌≤◌, ℕ, length, Bool, true, false, List}
+use Rattle.std.proofs.Common.{refl, ap, sym, subst, ◌∙◌, rules}
 use Rattle.std.specs.Prelude.{if◌then◌else◌}
 use Rattle.firm_paths.specs.Workspace.{Workspace, HasCounted}
 use Rattle.firm_rules.specs.ArenaUse.{arena_arcs}
@@ -39,7 +40,8 @@ round_refused : (outcome : Outcome) (old chosen new : Pool) (given : ℕ) → ou
 round_refused outcome old chosen new given none kept same =
     let mark : is_memory_outcome outcome ≡ true = ap is_memory_outcome none in
     ap (λ (o : Outcome). (o, book_of new given)) none
-    ∙ (ap (λ (book : Book). refused book Memory) (ap (λ (pool : Pool). book_of pool given) kept ∙ same_book chosen old given same)
+    ∙ (ap (λ (book : Book). refused book Memory)
+    (ap (λ (pool : Pool). book_of pool given) kept ∙ same_book chosen old given same)
     ∙ sym (ap (made_of (book_of old given)) mark))
 
 begun_on : (old chosen new : Pool) → new.workspace ≡ chosen.workspace → HasBegunOnce old chosen → HasBegunOnce old new
@@ -54,7 +56,8 @@ begun_on old chosen new same begun =
 
 pub place-requires : goal.place-requires
 place-requires c =
-    let rows : c.args.self.now.rows ≡ c.choose.new.self.rows = sym (ap (λ (pool : Pool). pool.rows) c.choose.ensures.same) in
+    let rows : c.args.self.now.rows ≡ c.choose.new.self.rows =
+    sym (ap (λ (pool : Pool). pool.rows) c.choose.ensures.same) in
     record {
       legal = ap (is_legal (case_of c.choose.new.self.rows)) c.deref.ensures.value
           ∙ (sym (ap (λ (r : TenantRows). is_legal (case_of r) c.in_ok-placement.placement.items) rows)
@@ -68,7 +71,8 @@ returns-clause-effect c given =
 
 pub returns-clause-asked : goal.returns-clause-asked
 returns-clause-asked c =
-    ap (λ (m : Outcome × Pool). m.1.asked) c.in_ok-place.ensures ∙ ap (λ (pool : Pool). pool.asked) c.choose.ensures.same
+    ap (λ (m : Outcome × Pool). m.1.asked) c.in_ok-place.ensures
+    ∙ ap (λ (pool : Pool). pool.asked) c.choose.ensures.same
 
 pub returns-clause-counts : goal.returns-clause-counts
 returns-clause-counts c =
@@ -78,14 +82,14 @@ returns-clause-counts c =
 pub returns-in_err-placement-clause-effect : goal.returns-in_err-placement-clause-effect
 returns-in_err-placement-clause-effect c given =
     let none : outcome_of c.from_residual.result ≡ Refused Memory = search rules in
-    round_refused (outcome_of c.from_residual.result) c.args.self.now c.choose.new.self c.choose.new.self given none refl
-    c.choose.ensures.same
+    round_refused (outcome_of c.from_residual.result) c.args.self.now c.choose.new.self c.choose.new.self given none
+    refl c.choose.ensures.same
 
 pub returns-in_err-place-clause-effect : goal.returns-in_err-place-clause-effect
 returns-in_err-place-clause-effect c given =
     let none : outcome_of c.from_residual-in_err-place.result ≡ Refused Memory = search rules in
-    round_refused (outcome_of c.from_residual-in_err-place.result) c.args.self.now c.choose.new.self c.place.new.self given
-    none c.in_err-place.ensures c.choose.ensures.same
+    round_refused (outcome_of c.from_residual-in_err-place.result) c.args.self.now c.choose.new.self c.place.new.self
+    given none c.in_err-place.ensures c.choose.ensures.same
 
 pub returns-in_err-place-clause-asked : goal.returns-in_err-place-clause-asked
 returns-in_err-place-clause-asked c =
@@ -96,5 +100,5 @@ returns-in_err-placement-clause-counts c = c.choose.ensures.counts
 
 pub returns-in_err-place-clause-counts : goal.returns-in_err-place-clause-counts
 returns-in_err-place-clause-counts c =
-    begun_on c.args.self.now c.choose.new.self c.place.new.self (ap (λ (pool : Pool). pool.workspace) c.in_err-place.ensures)
-    c.choose.ensures.counts
+    begun_on c.args.self.now c.choose.new.self c.place.new.self
+    (ap (λ (pool : Pool). pool.workspace) c.in_err-place.ensures) c.choose.ensures.counts
