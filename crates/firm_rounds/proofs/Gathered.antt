@@ -1,9 +1,6 @@
 -- What the keeping seat has when a share was added.
-use Rattle.std.proofs.Common.{◌≡◌, ℕ, ◌+◌, ◌<◌, ◌≤◌, List, [], ◌∷◌, ◌++◌, length, get_or, All}
-use Rattle.std.proofs.Common.{sym, subst, refl, ap, ◌∙◌, arith}
+use Rattle.std.proofs.Common.{◌≡◌, ℕ, ◌+◌, ◌<◌, ◌≤◌, List, [], ◌∷◌, ◌++◌, length, get_or, sym, refl, ap, ◌∙◌, arith}
 use Rattle.std.proofs.Common.{length-append}
-use Rattle.std.proofs.lemmas.List.{get_or-append-add, get_or_append_left}
-use Rattle.atomic_table.specs.Seated.{TableId}
 use Rattle.firm_rounds.specs.declared.protocol.Share.{Share}
 use Rattle.firm_rounds.specs.declared.protocol.Sight.{Sight}
 use Rattle.firm_rounds.specs.Rounds.{weigh, share, put_by, got_by, is_at, beyond}
@@ -83,25 +80,3 @@ as_often v puts pops jobs has balanced placed = record {
   balanced = λ h. omega (arith, balanced h, has.put h, has.got h);
   placed = λ place low. omega (arith, has.places place, placed place low);
 }
-
--- the first pass is of the queue
-pub first_pass : (table : TableId) (all : ℕ) (pops head rest : List PopIs) → pops ≡ head ++ rest → length head ≡ 1
-    → All (λ (p : PopIs). (p.queue.table ≡ table) × (p.queue.all ≡ all)) pops
-    → (d : PopIs) → ((get_or head 0 d).queue.table ≡ table) × ((get_or head 0 d).queue.all ≡ all)
-first_pass table all pops head rest e one each d =
-    let at : get_or pops 0 d ≡ get_or head 0 d =
-    ap (λ (ps : List PopIs). get_or ps 0 d) e ∙ get_or_append_left head rest d 0 (omega (arith, one)) in
-    let long : length pops ≡ length (head ++ rest) = ap (λ (ps : List PopIs). length ps) e in
-    subst (λ (p : PopIs). (p.queue.table ≡ table) × (p.queue.all ≡ all)) at
-    (each 0 d (omega (arith, long, length-append head rest, one)))
-
--- the passes behind the first are of the queue
-pub later_pass : (table : TableId) (all : ℕ) (pops head rest : List PopIs) → pops ≡ head ++ rest
-    → All (λ (p : PopIs). (p.queue.table ≡ table) × (p.queue.all ≡ all)) pops
-    → All (λ (p : PopIs). (p.queue.table ≡ table) × (p.queue.all ≡ all)) rest
-later_pass table all pops head rest e each k d low =
-    let at : get_or pops (length head + k) d ≡ get_or rest k d =
-    ap (λ (ps : List PopIs). get_or ps (length head + k) d) e ∙ get_or-append-add head rest k d in
-    let long : length pops ≡ length (head ++ rest) = ap (λ (ps : List PopIs). length ps) e in
-    subst (λ (p : PopIs). (p.queue.table ≡ table) × (p.queue.all ≡ all)) at
-    (each (length head + k) d (omega (arith, long, length-append head rest, low)))
