@@ -63,19 +63,18 @@ impl Model for Caller {
 #[derive(Drop)]
 pub struct Listener {
     seat: BellSeat,
-    // True wherever the seat owes one.
     owes_call: bool,
 }
 
 impl Model for Listener {
-    ghost use Rattle.std.specs.Prelude.{◌≡◌, false};
+    ghost use Rattle.std.specs.Prelude.{◌≡◌};
     ghost use Rattle.firm_bell.specs.Steps.{BellSeat};
 
     ghost Value = { BellSeat };
 
     ghost view = { λ l. l.seat };
 
-    ghost invariant = { λ l. l.owes_call ≡ false → l.seat.me.0.owes_call ≡ false };
+    ghost invariant = { λ l. l.owes_call ≡ l.seat.me.0.owes_call };
 }
 
 impl Bell {
@@ -241,7 +240,10 @@ impl Bell {
         ensures { MatchBool result (StandsAt self.now Ended listener.new)
             (StandsAt self.now Awake listener.new) }
     {
-        self.board.shared.load::<Ends>(&mut listener.seat, WAITING) == 0
+        let is_over = self.board.shared.load::<Ends>(&mut listener.seat, WAITING) == 0;
+        // One that has ended owes nothing.
+        listener.owes_call = listener.owes_call && !is_over;
+        is_over
     }
 
     /// Called after a number of looks in vain. Rests until a wake if they were enough and no round waits. Returns how
