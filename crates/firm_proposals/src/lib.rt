@@ -8,8 +8,7 @@
 //! counted. A proposal has a choice for each task, an amount and a class for each machine, and a class for waiting
 //! (`specs/Proposed.antt`). No clause says that a round is proposed, or shown. A proposer takes its memory when it is
 //! made, for all rounds within a tenant's limits, and keeps of a round its last proposal, whose price of the hub the
-//! next one may try, and which of two prices that one is to try first. `first_best` of firm_canon asks for one in each
-//! round.
+//! next one may try, and which of two prices that one is to try first. A tenant asks for one in each round.
 //!
 //! So that this needs few proofs, no table is read by an index that has to be in range: past its end a table of
 //! `Numbers` has `NONE`, where nothing is written. Sums saturate. Loops go over a span, or as long as a look is left. A
