@@ -1,5 +1,5 @@
 //! The bell as callers ring it and workers listen to it. Each step here keeps the rule of `specs/Bell.antt`.
-ghost use Rattle.std.specs.Prelude.{◌≡◌, ◌≤◌, IfOk, MatchBool, false, true};
+ghost use Rattle.std.specs.Prelude.{◌≡◌, ◌≤◌, MatchBool, false, true};
 ghost use Rattle.firm_bell.specs.declared.rule.Stage.TheVariants.{Awake, Putting, Announced, Resting, Ended};
 ghost use Rattle.firm_bell.specs.Steps.{Knows, StandsAt, at_stage, free, owing};
 

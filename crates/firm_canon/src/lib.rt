@@ -4,10 +4,10 @@
 //!
 //! # What is proved
 //!
-//! It requires prices and scratch made for the graph's limits. `Ok` is the round's placement; `Err` comes only for
-//! refused memory, before all else. With t tasks of p preferences in all, m machines and a arcs it makes at most
-//! 3 * t + 2 * m + 1 + p searches, and at most t * (m + 4), each of at most 2 * a looks. All these together take at
-//! most (3 * t + d + 2) * 2 * a looks, if a is at most 2^d (`specs/Counts.antt`). No count falls or is reset on the
+//! `first_best` requires prices and scratch made for the graph's limits. `Ok` is the round's placement; `Err` comes
+//! only for refused memory, before all else. With t tasks of p preferences in all, m machines and a arcs it makes at
+//! most 3 * t + 2 * m + 1 + p searches, and at most t * (m + 4), each of at most 2 * a looks. All these together take
+//! at most (3 * t + d + 2) * 2 * a looks, if a is at most 2^d (`specs/Counts.antt`). No count falls or is reset on the
 //! way.
 //!
 //! # How it works

@@ -51,7 +51,7 @@ impl Model for Pool {
 }
 
 impl Pool {
-    /// The empty pool of a new tenant, with all the memory of its net. Fails only if memory is refused.
+    /// The empty pool of a new tenant, with all the memory of its net and proposals. Fails only if memory is refused.
     pub(crate) fn open(alloc: Global, limits: Limits) -> Result<Pool, AllocError>
         ensures { IfOk result (IsOpeningPool limits) }
     {
@@ -68,7 +68,7 @@ impl Pool {
         })
     }
 
-    /// The pool of a book, with all the memory of its net. Fails only if memory is refused.
+    /// The pool of a book, with all the memory of its net and proposals. Fails only if memory is refused.
     pub(crate) fn restore(alloc: Global, book: &Book) -> Result<Pool, AllocError>
         ensures { IfOk result (IsPoolOf book.now) }
     {
