@@ -508,6 +508,27 @@ def refused_connections(setup: Setup) -> None:
         ends_well(daemon)
 
 
+def gone_before_their_turn(setup: Setup) -> None:
+    """Connections that are lost while they wait to be read further, however many, leave nothing in memory."""
+    with setup.daemon("--bytes-a-second-of-socket", "1") as daemon:
+        daemon.start()
+
+        def lost(count: int) -> int:
+            """firmd's memory behind so many."""
+            for _ in range(count):
+                with daemon.client() as client:
+                    client.socket.shutdown(socket.SHUT_RD)  # so its first reply can't be written
+                    client.send(b"A\n")
+            with daemon.client() as last:
+                require(last.ask(b"A") == b"! unknown-tenant", last.received)
+            return firmd_kit.memory_kilobytes(daemon.running().pid)
+
+        before = lost(200)
+        grown = lost(3_000) - before
+        require(grown < 2_000, f"{grown} kB more in memory")
+        ends_well(daemon)
+
+
 def read_again(setup: Setup) -> None:
     """A client that fails while none is read, for a shortage of memory, is lost alone: all others are read again."""
     with setup.daemon() as daemon:
@@ -635,6 +656,7 @@ CHECKS = [
     bounded_lines,
     bounded_refusals,
     refused_connections,
+    gone_before_their_turn,
     read_again,
     repeated_faults,
     failed_waits,

@@ -200,6 +200,8 @@ class Client(asyncio.BufferedProtocol):
         self._has_ended = True
         if self._lingering is not None:  # it would keep the connection in memory
             self._lingering.cancel()
+        if self._waits_turn:  # so would its turn, which may be long in coming
+            self._of_socket.waiting.remove(self)
         if self in self._clients.connected:
             del self._clients.connected[self]
             self._of_socket.count -= 1
