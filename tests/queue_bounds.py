@@ -186,6 +186,26 @@ def answers_alone(setup: Setup) -> None:
     require(most == 1, f"{most} at a time")
 
 
+def others_rest(setup: Setup) -> None:
+    """While a user rests whose request took long, another who comes has a turn at once."""
+
+    async def is_first() -> bool:
+        shares, ann, bob = Shares(BOUNDS, lambda key: None), Share(b"ann", True), Share(b"bob", True)
+        await shares.turn(ann)
+        ends = time.thread_time() + 0.3
+        while time.thread_time() < ends:
+            pass
+        resting = asyncio.create_task(shares.turn(ann))
+        for _ in range(10):  # turns of the loop, until all that wait rest
+            await asyncio.sleep(0)
+        await shares.turn(bob)
+        found = not resting.done()
+        await resting
+        return found
+
+    require(asyncio.run(is_first()), "one waited for the rest of another")
+
+
 def names_of_the_past(setup: Setup) -> None:
     """However many tasks of an array that ended long ago are named, it is read once."""
     count = 5_000
@@ -491,6 +511,7 @@ CHECKS: tuple[Callable[[Setup], None], ...] = (
         long_requests,
         repeated_command,
         answers_alone,
+        others_rest,
         names_of_the_past,
         forgotten,
         terminals,

@@ -38,6 +38,7 @@ class Shares:
         self._rests: dict[bytes, float] = {}  # until when users have no further turn, by the loop's clock
         self._at: float | None = None  # when the last turn began; None where nobody has one
         self._used = 0.0  # of a processor, by the loop's thread, until then
+        self._rest: asyncio.TimerHandle | None = None  # the next turn, while all that wait rest
         self._locks: dict[bytes, asyncio.Lock] = {}
         self._answers: Counter[bytes] = Counter()  # of a user, that hold its lock or wait for it
         self._freed = asyncio.Event()  # another one after each time that bytes are given back
@@ -95,9 +96,13 @@ class Shares:
         await self._room(share)
         loop = asyncio.get_running_loop()
         future = loop.create_future()
+        begins = self._rests.get(share.key, 0.0)
         if self._at is None:
             self._at, self._used = loop.time(), time.thread_time()
             loop.call_soon(self._begin)
+        elif self._rest is not None and begins < self._rest.when():  # it waits for nobody else's rest
+            self._rest.cancel()
+            self._rest = loop.call_at(begins, self._begin)
         self._waiting.setdefault(share.key, deque()).append(future)
         await future
 
@@ -124,7 +129,7 @@ class Shares:
 
     def _begin(self) -> None:
         """Begins a turn of the loop."""
-        loop = asyncio.get_running_loop()
+        loop, self._rest = asyncio.get_running_loop(), None
         now, used = loop.time(), time.thread_time()
         if used - self._used > LONG_SECONDS:
             self._charge(now, now - (self._at or now))
@@ -137,7 +142,7 @@ class Shares:
             loop.call_soon(self._begin)
         elif self._waiting:
             self._at = now
-            loop.call_at(min(self._rests[key] for key in self._waiting), self._begin)
+            self._rest = loop.call_at(min(self._rests[key] for key in self._waiting), self._begin)
         else:
             self._at = None
 
