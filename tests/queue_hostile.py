@@ -388,8 +388,15 @@ def hung_names(setup: Setup) -> None:
         with case.client() as client:
             again = time.monotonic()
             require(client.ask("status")["user"] == "root" and time.monotonic() - again < 1, "an agent would be late")
-            users = {row["user"] for row in client.ask("tasks")}
-            require(users == {str(NAMELESS)}, users)
+            rows = client.ask("tasks")
+            require({row["user"] for row in rows} == {str(NAMELESS)}, rows)
+            tasks = [row["task"] for row in rows]
+            client.ask("cancel", tasks=tasks)
+        case.kill()
+        case.start()
+        with case.client() as client:
+            rows = client.ask("tasks", tasks=tasks, states=["cancelled"])
+            require([row["user"] for row in rows] == [str(NAMELESS)] * len(tasks), rows)
         case.stop()
         took = time.monotonic() - began
         require(took < SERVED_SECONDS, f"it took {took:.1f} s")

@@ -476,6 +476,7 @@ class Requests:
             return [], 0
         if chosen.names is not None:
             found = await self._found(user, {name.number for name in chosen.names}, are_whole=True)
+            await self.know(user, [submission.user for submission in found.values()])
             tasks = [task for one in found.values() for task in one.tasks.values()]
             return [task for task in tasks if task.outcome in outcomes and chosen.has(task)], 0
         owner = chosen.user if user.is_operator else user.number
