@@ -633,6 +633,24 @@ def closed_watchers_leave_nothing() -> None:
         require(wait_until(lambda: timers() == before, NOT_LATE_SECONDS), f"{timers()} timers instead of {before}")
 
 
+def lost_in_an_answer() -> None:
+    """Who watches, and is lost in the midst of an answer, is told so behind it."""
+    with front() as started, Viewer(started.state) as viewer:
+        viewer.ask({"ask": "watch"})
+        started.run(started.shown.turn.acquire())
+        viewer.send(b'{"ask": "tasks"}\n')
+        require(viewer.socket.recv(100, socket.MSG_PEEK).startswith(b'{"tasks":['), "an answer has begun")
+
+        async def lose() -> None:
+            started.shown.replace(started.books, "stand-in")
+            started.shown.turn.release()
+
+        started.run(lose())
+        tasks = [row["task"] for row in viewer.next()["tasks"]]
+        require(tasks == ["a", "b", "c", "d", "a"], tasks)
+        require(viewer.next()["error"] == "behind" and viewer.next() is None, "it is closed")
+
+
 def watch_prints() -> None:
     """firmctl watch prints each line with its reply at once, and nothing in it can steer a terminal."""
     with front() as started:
@@ -729,6 +747,7 @@ def checks(built: str, streams: range) -> dict[str, Check]:
         "view, watchers": watchers_follow,
         "view, tenants that join": watchers_see_who_joins,
         "view, closed watchers": closed_watchers_leave_nothing,
+        "view, lost watchers": lost_in_an_answer,
         "view, refusals and limits": views_refuse,
         "view, slow watchers": slow_watchers_are_closed,
         "firmctl over firmd": partial(firmctl_over_firmd, built),

@@ -249,6 +249,7 @@ class Connection:
         self._is_watching = False
         self._most_unread = MOST_UNREAD
         self._held: bytearray | None = None  # lines that wait for the end of an answer
+        self._is_lost = False  # it is closed behind those
         self._lingering: asyncio.TimerHandle | None = None  # its end, once it is closed
 
     @property
@@ -282,8 +283,13 @@ class Connection:
             self._writer.write(text)
 
     def lose(self) -> None:
-        self._writer.write(refused(Refused("behind", "lines are missing: the viewer was too slow; watch anew")))
-        self.finish()
+        behind = refused(Refused("behind", "lines are missing: the viewer was too slow; watch anew"))
+        if self._held is not None:
+            self._held += behind
+            self._is_lost = True
+        else:
+            self._writer.write(behind)
+            self.finish()
 
     def finish(self) -> None:
         """Closes it once it has read all, or after some seconds."""
@@ -337,6 +343,8 @@ class Connection:
             held, self._held = self._held, None
             if held:
                 self._writer.write(held)
+            if self._is_lost:
+                self.finish()
 
     async def _parts(self, request: Json) -> AsyncIterator[bytes]:
         """The parts of the answer to a request other than to watch; raises `Refused` before the first."""
