@@ -39,6 +39,7 @@ MOST_JOBS = 8  # more seldom help, by the kit's own word
 NICENESS = 5  # of a check, for each beside it that more waits for
 MINUTES = ROOT / "docs" / "results" / "gate.csv"  # of each crate's proof, as measured
 BYTES_PER_MINUTE = 25_000  # of source, of a crate that was not
+NEAR = 0.9  # of a chain: another that is as long comes no later than it
 GLANCE_SECONDS = 0.1
 NEWS_SECONDS = 30
 STOPS = (signal.SIGINT, signal.SIGTERM, signal.SIGHUP)
@@ -103,13 +104,14 @@ def minutes(crate: Crate) -> float:
     return measured_minutes().get(crate.name, own_bytes / BYTES_PER_MINUTE)
 
 
-def in_order_of_chains(crates: list[Crate]) -> list[Crate]:
-    """The crates, those first behind which the most is to be proved in turn: their ends decide when all is proved."""
+def chains(crates: list[Crate]) -> dict[Crate, float]:
+    """The minutes of each crate and of those that are to be proved behind it in turn, of the longest chain of these: the
+    ends of the longest decide when all is proved. The longest come first."""
     chain: dict[Crate, float] = {}
     for crate in reversed(crates):
         above = [chain[other] for other in crates if crate in other.below]
         chain[crate] = minutes(crate) + max(above, default=0)
-    return sorted(crates, key=lambda crate: -chain[crate])
+    return {crate: chain[crate] for crate in sorted(crates, key=lambda crate: -chain[crate])}
 
 
 def free_bytes() -> int:
@@ -238,8 +240,8 @@ class Build:
     def __init__(self, wanted: list[Crate]) -> None:
         needed = dict.fromkeys(crate for each in wanted for crate in (*each.below, each))
         self.programs = [crate for crate in wanted if crate.is_program]
-        self.order = in_order_of_chains(list(needed))
-        self.left = list(self.order)
+        self.chains = chains(list(needed))
+        self.left = list(self.chains)
         self.running: list[Check] = []
         self.stamps: dict[Crate, str] = {}
         self.began, self.told = time.monotonic(), time.monotonic()
@@ -296,9 +298,9 @@ class Build:
         return bool(made) and all(below) and made == prover.stamp(Sources.of(crate).content, below)
 
     def start_checks(self, group: Group) -> None:
-        """Starts what can be, as far as the memory allows: the first in the order of chains with a job a processor, and
-        each behind it with one for each that no other has. A check of several jobs takes a third more processor time
-        than one of one."""
+        """Starts what can be, as far as the memory allows: those of the longest chains with a job a processor, and each
+        behind them with one for each that no other has. A check of several jobs takes a third more processor time than
+        one of one."""
         startable = self.startable()
         for place, crate in enumerate(startable):
             spare = self.memory - sum(check.most_bytes for check in self.running) - CHECK_BYTES
@@ -308,7 +310,7 @@ class Build:
             others = min(more, len(startable) - place - 1)  # that start right behind it
             kept = CHECK_BYTES * others
             free = self.processors - sum(check.jobs for check in self.running) - others
-            ahead = sum(self.order.index(check.crate) < self.order.index(crate) for check in self.running)
+            ahead = sum(NEAR * self.chains[check.crate] > self.chains[crate] for check in self.running)
             most_jobs = max(min(free if ahead else self.processors, MOST_JOBS), 1)
             jobs = min(1 + max(spare - kept, 0) // JOB_BYTES, most_jobs)
             self.left.remove(crate)
