@@ -105,8 +105,8 @@ def minutes(crate: Crate) -> float:
 
 
 def chains(crates: list[Crate]) -> dict[Crate, float]:
-    """The minutes of each crate and of those that are to be proved behind it in turn, of the longest chain of these: the
-    ends of the longest decide when all is proved. The longest come first."""
+    """The minutes of each crate with the longest chain of those behind it, each of which waits for the one before; the
+    longest come first, as their ends decide when all is proved."""
     chain: dict[Crate, float] = {}
     for crate in reversed(crates):
         above = [chain[other] for other in crates if crate in other.below]
