@@ -13,9 +13,7 @@ could not be proved or built, 2 for a wrong word, 127 without the kit, 128 plus 
 
 from __future__ import annotations
 
-import csv
 import fcntl
-import functools
 import os
 import re
 import shutil
@@ -37,9 +35,8 @@ CHECK_BYTES = 4_000_000_000
 JOB_BYTES = 1_500_000_000
 MOST_JOBS = 8  # more seldom help, by the kit's own word
 NICENESS = 5  # of a check, for each beside it that more waits for
-MINUTES = ROOT / "docs" / "results" / "gate.csv"  # of each crate's proof, as measured
-BYTES_PER_MINUTE = 25_000  # of source, of a crate that was not
-NEAR = 0.9  # of a chain: another that is as long comes no later than it
+# A check also reads the crates below, in about the time of so many of its own bytes of source.
+BELOW_PER_OWN = 20
 GLANCE_SECONDS = 0.1
 NEWS_SECONDS = 30
 STOPS = (signal.SIGINT, signal.SIGTERM, signal.SIGHUP)
@@ -88,30 +85,22 @@ def program_file(crate: Crate) -> Path:
     return crate.folder / "out" / crate.name
 
 
-@functools.cache
-def measured_minutes() -> dict[str, float]:
-    """The processor minutes of the crates' proofs, as far as the gate's table has them."""
-    try:
-        with open(MINUTES, newline="") as file:
-            return {row["crate"]: float(row["proof"]) for row in csv.DictReader(file)}
-    except (OSError, KeyError, ValueError):
-        return {}
+def size(crate: Crate) -> int:
+    """What the time of its check goes by, roughly."""
+    return own_bytes(crate) + sum(map(own_bytes, crate.below)) // BELOW_PER_OWN
 
 
-def minutes(crate: Crate) -> float:
-    """What its check takes, roughly."""
-    own_bytes = sum(file.stat().st_size for file in crate.folder.glob("src/**/*.rt"))
-    return measured_minutes().get(crate.name, own_bytes / BYTES_PER_MINUTE)
+def own_bytes(crate: Crate) -> int:
+    return sum(file.stat().st_size for file in crate.folder.glob("src/**/*.rt"))
 
 
-def chains(crates: list[Crate]) -> dict[Crate, float]:
-    """The minutes of each crate with the longest chain of those behind it, each of which waits for the one before; the
-    longest come first, as their ends decide when all is proved."""
-    chain: dict[Crate, float] = {}
+def in_order_of_chains(crates: list[Crate]) -> list[Crate]:
+    """The crates, those first behind which the most is to be proved in turn: their ends decide when all is proved."""
+    chain: dict[Crate, int] = {}
     for crate in reversed(crates):
         above = [chain[other] for other in crates if crate in other.below]
-        chain[crate] = minutes(crate) + max(above, default=0)
-    return {crate: chain[crate] for crate in sorted(crates, key=lambda crate: -chain[crate])}
+        chain[crate] = size(crate) + max(above, default=0)
+    return sorted(crates, key=lambda crate: -chain[crate])
 
 
 def free_bytes() -> int:
@@ -240,13 +229,13 @@ class Build:
     def __init__(self, wanted: list[Crate]) -> None:
         needed = dict.fromkeys(crate for each in wanted for crate in (*each.below, each))
         self.programs = [crate for crate in wanted if crate.is_program]
-        self.chains = chains(list(needed))
-        self.left = list(self.chains)
+        self.order = in_order_of_chains(list(needed))
+        self.left = list(self.order)
         self.running: list[Check] = []
         self.stamps: dict[Crate, str] = {}
         self.began, self.told = time.monotonic(), time.monotonic()
         self.processors, self.memory = len(os.sched_getaffinity(0)), free_bytes()
-        self.most_checks = max(self.processors - 1, min(self.processors, 2))
+        self.most_checks = self.processors // 2 + 1
         self.take_standing()
         self.count = len(self.left)
 
@@ -298,20 +287,17 @@ class Build:
         return bool(made) and all(below) and made == prover.stamp(Sources.of(crate).content, below)
 
     def start_checks(self, group: Group) -> None:
-        """Starts what can be, as far as the memory allows: those of the longest chains with a job a processor, and each
-        behind them with one for each that no other has. A check of several jobs takes a third more processor time than
-        one of one."""
+        """Starts what can be, as far as the memory allows: the first in the order of chains with a job a processor, and
+        each behind it with half as many. A check of several jobs takes a third more processor time than one of one."""
         startable = self.startable()
         for place, crate in enumerate(startable):
             spare = self.memory - sum(check.most_bytes for check in self.running) - CHECK_BYTES
             more = self.most_checks - len(self.running) - 1  # that may start beside it
             if self.running and (spare < 0 or more < 0):
                 return
-            others = min(more, len(startable) - place - 1)  # that start right behind it
-            kept = CHECK_BYTES * others
-            free = self.processors - sum(check.jobs for check in self.running) - others
-            ahead = sum(NEAR * self.chains[check.crate] > self.chains[crate] for check in self.running)
-            most_jobs = max(min(free if ahead else self.processors, MOST_JOBS), 1)
+            kept = CHECK_BYTES * min(more, len(startable) - place - 1)
+            ahead = sum(self.order.index(check.crate) < self.order.index(crate) for check in self.running)
+            most_jobs = max(min(self.processors, MOST_JOBS) >> ahead, 1)
             jobs = min(1 + max(spare - kept, 0) // JOB_BYTES, most_jobs)
             self.left.remove(crate)
             self.running.append(Check(crate, jobs, ahead, group))
