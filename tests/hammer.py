@@ -32,7 +32,7 @@ from typing import NamedTuple
 
 from harness.program import ROOT
 
-CRATES = ("test_hall",)
+CRATES = ("test_rounds", "test_hall")
 # What `rt try` says of a test that it ended at the limit of seconds.
 HANGS = "did not end within the time limit"
 CONTROL_SECONDS = 60
@@ -77,10 +77,10 @@ COUNTS = [
         constant("test_hall/src/tests/callers.rt", "ROUNDS: u64", "250", "250_000"),
     ),
     Count(
-        "test_hall",
+        "test_rounds",
         "queues::four_threads_put_and_four_get_each_ticket_once",
         "1,000,000 tickets through the queue",
-        constant("test_hall/src/tests/queues.rt", "EACH: u64", "2_500", "250_000"),
+        constant("test_rounds/src/tests/queues.rt", "EACH: u64", "2_500", "250_000"),
     ),
     Count(
         "test_hall",

@@ -1,22 +1,17 @@
-//! What reads and writes, and the source that reads ahead; trays and the queue of rounds; desks on threads of their
-//! callers, and halls that are shut and closed; services whose replies do not wait for a neighbour or for input; events
-//! of a table.
+//! The source that reads ahead; desks on threads of their callers, and halls that are shut and closed; services whose
+//! replies do not wait for a neighbour or for input.
 ghost use Rattle.std.specs.Prelude.{IsTrue};
 
 mod callers;
 mod counts;
-mod devices;
-mod events;
 mod gates;
 mod held;
 mod inputs;
-mod queues;
 mod rosters;
 mod scenes;
 mod services;
 mod solving;
 mod stages;
-mod trays;
 mod turns;
 mod wakes;
 

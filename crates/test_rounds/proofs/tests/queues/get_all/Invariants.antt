@@ -1,5 +1,5 @@
 use Rattle.std.proofs.Common.{◌≡◌}
-use Rattle.test_hall.proofs.tests.queues.get_all.Given as goal
+use Rattle.test_rounds.proofs.tests.queues.get_all.Given as goal
 
 abbrev pub invariant-loop : goal.invariant-loop
 invariant-loop g l = (l.pass.queue ≡ l.fn.pass.queue)

@@ -1,12 +1,11 @@
 //! Events of a table, one at a time: where they fit, and where they don't.
 
 use super::check;
-use super::rosters::roster_of;
 use Given::{Admit, Answer, Ask, Collect, Costs, Retire, Round, Show, Take};
 use Wanted::{Admitted, NotNow, Queued, Retired, Says, Solved, Took};
 use firm_rules::{Command, Limits, Name, Reply, Ticket};
 use firm_table::{Event, Table};
-use firm_text::reply_text;
+use firm_text::{reply_text, roster};
 use std::alloc::Global;
 use std::process::Abort;
 
@@ -38,6 +37,8 @@ enum Wanted {
 }
 
 type Row = (Given, Wanted);
+
+const ROSTER: &[u8] = b"tenant,nodes,arcs,life,spread,churn\na,2,0,2,0,0\nb,2,0,2,0,0";
 
 /// A tenant that comes has a book of its own, and its tickets go on from those of the tenant before it.
 const A1: Ticket = Ticket {
@@ -181,7 +182,7 @@ fn play(rt: &impl Abort, alloc: Global, table: &mut Table, rows: &[(Given, Wante
 #[test]
 fn each_event_is_answered_where_it_fits(rt: HostRuntime) {
     let alloc = rt.alloc();
-    let roster = roster_of(&rt, alloc, "a,2,0,2,0,0\nb,2,0,2,0,0");
+    let roster = roster(alloc, ROSTER).ok().expect(&rt, "a roster");
     let mut table = Table::open(alloc, &roster, 2).expect(&rt, "memory");
     play(&rt, alloc, &mut table, &ROWS);
 }
