@@ -5,8 +5,8 @@ usage: build.py [CRATE..]            proves and builds these programs and librar
        build.py --run ARGUMENT..     does so with firm, and then becomes it, as ./firm does
 
 Crates are proved lowest first. The one with the most behind it gets all processors; others go on beside it where it
-leaves some idle, with fewer jobs, as memory allows. What an interrupted run has proved stands, and the next goes on
-from there: a crate is proved again where its sources, or those of a crate below, have changed.
+leaves some idle, at lower priority and with fewer jobs, as memory allows. What an interrupted run has proved stands,
+and the next goes on from there: a crate is proved again where its sources, or those of a crate below, have changed.
 crates/NAME/out/statements has what was made of a crate, and the log of its check. Exit status: 0, 1 where a crate
 could not be proved or built, 2 for a wrong word, 127 without the kit, 128 plus the number of a signal.
 """
@@ -235,7 +235,7 @@ class Build:
         self.stamps: dict[Crate, str] = {}
         self.began, self.told = time.monotonic(), time.monotonic()
         self.processors, self.memory = len(os.sched_getaffinity(0)), free_bytes()
-        self.most_checks = self.processors // 2 + 1
+        self.most_checks = max(self.processors, 2)
         self.take_standing()
         self.count = len(self.left)
 
@@ -287,8 +287,9 @@ class Build:
         return bool(made) and all(below) and made == prover.stamp(Sources.of(crate).content, below)
 
     def start_checks(self, group: Group) -> None:
-        """Starts what can be, as far as the memory allows: the first in the order of chains with a job a processor, and
-        each behind it with half as many. A check of several jobs takes a third more processor time than one of one."""
+        """Starts what can be, as far as the memory allows: the first in the order of chains with a job a processor, the
+        next with three for four, and those behind it with half as many. More would idle less at times, but a check of
+        several jobs takes up to a third more processor time than one of one."""
         startable = self.startable()
         for place, crate in enumerate(startable):
             spare = self.memory - sum(check.most_bytes for check in self.running) - CHECK_BYTES
@@ -297,7 +298,7 @@ class Build:
                 return
             kept = CHECK_BYTES * min(more, len(startable) - place - 1)
             ahead = sum(self.order.index(check.crate) < self.order.index(crate) for check in self.running)
-            most_jobs = max(min(self.processors, MOST_JOBS) >> ahead, 1)
+            most_jobs = max(min(self.processors, MOST_JOBS) * max(4 - ahead, 2) // 4, 1)
             jobs = min(1 + max(spare - kept, 0) // JOB_BYTES, most_jobs)
             self.left.remove(crate)
             self.running.append(Check(crate, jobs, ahead, group))
