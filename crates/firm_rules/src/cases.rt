@@ -496,10 +496,7 @@ fn demands_of(alloc: Global, rows: &Rows) -> Result<Vec<Demand>, AllocError>
     rows.limits();
     let mut demands = Vec::with_capacity(alloc, rows.task_count())?;
     for number in 0..rows.task_count() {
-        let Some(task) = rows.task_at(number) else {
-            unreachable!()
-        };
-        demands.push(demand_of(rows, &task))?;
+        demands.push(demand_of(rows, rows.task_row(number)))?;
     }
     Ok(demands)
 }

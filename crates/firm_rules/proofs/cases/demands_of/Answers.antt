@@ -1,4 +1,6 @@
-use Rattle.std.proofs.Common.{◌≡◌, ◌≤◌, arith, true, IfSome, List, [], None, length, map, sym, ap, subst, ◌∙◌}
+use Rattle.std.proofs.Common.{◌≡◌, ◌<◌, ◌≤◌, ℕ, arith, true, IfSome, List, [], None, Some, length, map, sym, ap, subst}
+use Rattle.std.proofs.Common.{◌∙◌}
+use Rattle.std.specs.Prelude.{slice_get, slice_index_or}
 use Rattle.std.proofs.lemmas.List.{map_push}
 use Rattle.std.proofs.lemmas.List.Elements.{All-nil, All-push}
 use Rattle.std.specs.List.{All}
@@ -11,33 +13,49 @@ use Rattle.firm_rules.specs.inner.Demands.{seen, Fits}
 use Rattle.firm_rules.proofs.CaseLists.{known, grown_all, grown_by, read_below}
 use Rattle.firm_rules.proofs.cases.demands_of.Goals as goal
 
+abbrev none : Task
+none = record { name = []; job = []; preferred = []; machine = None; waited = 0 }
+
+-- the task of this number is there
+stands : (tasks : List Task) (i n : ℕ) (task : Task) → i < n → n ≡ length tasks → task ≡ slice_index_or tasks i none
+    → slice_get tasks i ≡ Some task
+stands tasks i n task below all is = read_below tasks i n none below all ∙ ap Some (sym is)
+
+pub task_row-requires : goal.task_row-requires
+task_row-requires c =
+    subst (λ n. c.loop-number.number < n) c.task_count-number-end.ensures c.loop-number-test.true
+
 pub demand_of-requires-clause-machine : goal.demand_of-requires-clause-machine
 demand_of-requires-clause-machine c =
     known (λ (task : Task). IfSome task.machine (λ name. is_among (machine_names c.args.rows.now) name ≡ true))
-    c.args.rows.now.tasks c.loop-number.number c.in-Some.task c.limits.ensures.sound.machines_there
-    (sym c.task_at.ensures ∙ c.in-Some.is)
+    c.args.rows.now.tasks c.loop-number.number c.task_row.result.now c.limits.ensures.sound.machines_there
+    (stands c.args.rows.now.tasks c.loop-number.number c.task_count-number-end.result c.task_row.result.now
+    c.loop-number-test.true c.task_count-number-end.ensures (c.task_row.ensures none))
 
 pub demand_of-requires-clause-preferred : goal.demand_of-requires-clause-preferred
 demand_of-requires-clause-preferred c =
     known (λ (task : Task). All (λ name. is_among (machine_names c.args.rows.now) name ≡ true) task.preferred)
-    c.args.rows.now.tasks c.loop-number.number c.in-Some.task c.limits.ensures.sound.preferred_there
-    (sym c.task_at.ensures ∙ c.in-Some.is)
+    c.args.rows.now.tasks c.loop-number.number c.task_row.result.now c.limits.ensures.sound.preferred_there
+    (stands c.args.rows.now.tasks c.loop-number.number c.task_count-number-end.result c.task_row.result.now
+    c.loop-number-test.true c.task_count-number-end.ensures (c.task_row.ensures none))
+
+few : (waited patience most : ℕ) → patience ≤ most → waited ≤ patience → waited ≤ most
+few waited patience most less is = omega (arith, less, is)
 
 pub demand_of-requires-clause-waited : goal.demand_of-requires-clause-waited
 demand_of-requires-clause-waited c =
-    omega (
-      arith,
-      c.limits.ensures.sound.most_patience,
-      known (λ (task : Task). task.waited ≤ c.args.rows.now.limits.patience)
-          c.args.rows.now.tasks c.loop-number.number c.in-Some.task c.limits.ensures.sound.waited
-          (sym c.task_at.ensures ∙ c.in-Some.is),
-    )
+    few c.task_row.result.now.waited c.args.rows.now.limits.patience 1000000 c.limits.ensures.sound.most_patience
+    (known (λ (task : Task). task.waited ≤ c.args.rows.now.limits.patience)
+    c.args.rows.now.tasks c.loop-number.number c.task_row.result.now c.limits.ensures.sound.waited
+    (stands c.args.rows.now.tasks c.loop-number.number c.task_count-number-end.result c.task_row.result.now
+    c.loop-number-test.true c.task_count-number-end.ensures (c.task_row.ensures none)))
 
 pub loop-number-preserved : goal.loop-number-preserved
 loop-number-preserved c = record {
-  made = grown_by (demand_of c.args.rows.now) c.args.rows.now.tasks c.loop-number.number c.in-Some.task
+  made = grown_by (demand_of c.args.rows.now) c.args.rows.now.tasks c.loop-number.number c.task_row.result.now
       (map seen c.loop-number.demands.items) (map seen c.push.new.self.items) (seen c.demand_of.result)
-      (sym c.task_at.ensures ∙ c.in-Some.is) c.loop-number.invariant.made
+      (stands c.args.rows.now.tasks c.loop-number.number c.task_count-number-end.result c.task_row.result.now
+      c.loop-number-test.true c.task_count-number-end.ensures (c.task_row.ensures none)) c.loop-number.invariant.made
       (ap (map seen) c.in_ok-push.ensures.items ∙ map_push seen c.loop-number.demands.items c.demand_of.result)
       c.demand_of.ensures.seen;
   fit = subst (λ (xs : List RoundDemand). All (Fits (length c.args.rows.now.machines)) xs)
@@ -52,12 +70,6 @@ loop-number-init c = record {
   fit = subst (λ (xs : List RoundDemand). All (Fits (length c.args.rows.now.machines)) xs)
       (sym (ap (map seen) c.in_ok-demands.ensures.items)) (All-nil (Fits (length c.args.rows.now.machines)));
 }
-
-pub unreachable-requires : goal.unreachable-requires
-unreachable-requires c =
-    let none : Task = record { name = []; job = []; preferred = []; machine = None; waited = 0 } in
-    c.in_default.not-Some _ (c.task_at.ensures ∙ read_below c.args.rows.now.tasks c.loop-number.number
-    c.task_count-number-end.result none c.loop-number-test.true c.task_count-number-end.ensures)
 
 pub returns-clause-seen : goal.returns-clause-seen
 returns-clause-seen c =
