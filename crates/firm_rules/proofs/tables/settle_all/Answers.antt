@@ -105,3 +105,6 @@ stays-requires g c = subst (λ n. c.loop-place.place < n) c.requires.demands c.l
 
 pub settle_at-running-requires-clause-machine : goal.settle_at-running-requires-clause-machine
 settle_at-running-requires-clause-machine g c = c.requires.places c.loop-place.place any_choice c.loop-place-test.true
+
+pub settle_at-running-requires-clause-patience : goal.settle_at-running-requires-clause-patience
+settle_at-running-requires-clause-patience g c = c.requires.patience

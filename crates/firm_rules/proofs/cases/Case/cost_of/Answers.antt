@@ -1,10 +1,12 @@
-use Rattle.std.proofs.Common.{◌≡◌, ◌+◌, ◌*◌, ◌<◌, ◌≤◌, ℕ, List, length, refl, sym, ap, subst, ◌∙◌, arith}
+use Rattle.std.proofs.Common.{◌≡◌, ◌+◌, ◌*◌, ◌^◌, ◌<◌, ◌≤◌, ℕ, List, length, take, refl, sym, ap, subst, ◌∙◌, arith}
 use Rattle.std.specs.Prelude.{slice_index, slice_index_or}
 use Rattle.std.proofs.Math.Nat.{mul-le-mul}
-use Rattle.std.proofs.lemmas.List.{get_or-replicate, length-set}
+use Rattle.std.proofs.lemmas.List.{get_or-replicate, length-set, take_all}
+use mir.Syntax.{w16, w64}
+use mir.Val.{Fits}
 use Rattle.firm_rules.specs.declared.rounds.Choice.{Choice}
 use Rattle.firm_rules.specs.declared.rounds.Choice.TheVariants.{On}
-use Rattle.firm_rules.specs.Placement.{task_at, task_cost}
+use Rattle.firm_rules.specs.Placement.{Case, Demand, load, load_cost, placement_cost, task_at, task_cost, tasks_cost, total}
 use Rattle.firm_rules.proofs.RunningCosts.{Spent, load-few, spent-beyond, spent-none, spent-on, spent-wait}
 use Rattle.firm_rules.proofs.cases.Case.cost_of.Goals.{in-On+then-at-machines, in-On+else-at-machines, in_default}
 use Rattle.firm_rules.proofs.cases.Case.cost_of.Goals as goal
@@ -73,3 +75,70 @@ loop-task-preserved g c =
         most = omega (arith, w.cost-is, c.cost_of_choice-cost.ensures.most, c.loop-task.invariant.most);
       }
     ]
+
+below : (task count long : ℕ) → task < count → count ≡ long → task < long
+below task count long there is = subst (λ n. task < n) is there
+
+pub bounds-placement-task : goal.bounds-placement-task
+bounds-placement-task g c =
+    below c.loop-task.task c.task_count-task-end.result (length c.args.placement.now) c.loop-task-test.true
+    (c.task_count-task-end.ensures.count ∙ sym c.requires)
+
+pub cost_of_choice-cost-requires : goal.cost_of_choice-cost-requires
+cost_of_choice-cost-requires g c =
+    below c.loop-task.task c.task_count-task-end.result (length c.args.self.now.tasks) c.loop-task-test.true
+    c.task_count-task-end.ensures.count
+
+within : (place count : ℕ) → place < count → count ≤ 4096 → place < 4096
+within place count there few = omega (arith, there, few)
+
+pub bounds-loads-at : goal.bounds-loads-at
+bounds-loads-at g c =
+    within c.in-On.place c.machine_count-machines.result c.if-at-machines.true c.machine_count-machines.ensures.few
+
+pub bounds-loads-at-then-at-machines : goal.bounds-loads-at-then-at-machines
+bounds-loads-at-then-at-machines g c =
+    within c.in-On.place c.machine_count-machines.result c.if-at-machines.true c.machine_count-machines.ensures.few
+
+pub bounds-loads-at-then-at-machines-2 : goal.bounds-loads-at-then-at-machines-2
+bounds-loads-at-then-at-machines-2 g c =
+    within c.in-On.place c.machine_count-machines.result c.if-at-machines.true c.machine_count-machines.ensures.few
+
+-- what is spent for the tasks so far, with one more
+spends : (task count cost own : ℕ) → task < count → count ≤ 4096 → cost ≤ task * 8388608 → own ≤ 2 ^ 22
+    → Fits w64 (cost + own)
+spends task count cost own there few most own-most = omega (arith, there, few, most, own-most)
+
+pub overflow_add-cost : goal.overflow_add-cost
+overflow_add-cost g c =
+    spends c.loop-task.task c.task_count-task-end.result c.loop-task.cost c.cost_of_choice-cost.result
+    c.loop-task-test.true c.task_count-task-end.ensures.few c.loop-task.invariant.most
+    c.cost_of_choice-cost.ensures.most
+
+most-cost : (task count cost : ℕ) → task ≤ count → count ≤ 4096 → cost ≤ task * 8388608 → cost ≤ 2 ^ 46
+most-cost task count cost past few most = omega (arith, past, few, most)
+
+pub returns-clause-most : goal.returns-clause-most
+returns-clause-most g c =
+    most-cost c.loop-task.task c.task_count-task-end.result c.loop-task.cost c.loop-task.auto.task-end
+    c.task_count-task-end.ensures.few c.loop-task.invariant.most
+
+-- all tasks are counted
+whole : (case : Case) (placement : List Choice) (i count cost : ℕ) (loads : List ℕ) → Spent case placement i loads cost
+    → count ≤ i → count ≡ length case.tasks → length placement ≡ length case.tasks
+    → cost ≡ placement_cost case placement
+whole case placement i count cost loads spent past counted one_each =
+    let choices : take i placement ≡ placement =
+    take_all i placement (omega (arith, past, counted, one_each)) in
+    let tasks : take i case.tasks ≡ case.tasks = take_all i case.tasks (omega (arith, past, counted)) in
+    spent.spent
+    ∙ ap (λ (p : List Choice). total (λ j. load_cost case.spread (load p j)) (length case.slots)
+    + tasks_cost case (take i case.tasks) p) choices
+    ∙ ap (λ (l : List Demand). total (λ j. load_cost case.spread (load placement j)) (length case.slots)
+    + tasks_cost case l placement) tasks
+
+pub returns-clause-cost : goal.returns-clause-cost
+returns-clause-cost g c =
+    whole c.args.self.now c.args.placement.now c.loop-task.task c.task_count-task-end.result c.loop-task.cost
+    c.loop-task.loads c.loop-task.invariant.spent c.loop-task-test.false c.task_count-task-end.ensures.count
+    c.requires

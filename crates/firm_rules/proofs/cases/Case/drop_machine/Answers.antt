@@ -1,4 +1,7 @@
-use Rattle.std.proofs.Common.{◌≡◌, ◌++◌, ℕ, List, length, map, remove, take, drop, ap, ◌∙◌, arith}
+use Rattle.std.proofs.Common.{◌≡◌, ◌<◌, ◌≤◌, ◌++◌, ℕ, List, length, map, remove, take, drop, sym, ap, subst, ◌∙◌}
+use Rattle.std.proofs.Common.{arith}
+use mir.Syntax.{w32}
+use mir.Val.{Fits}
 use Rattle.firm_rules.specs.Limits.{TenantLimits}
 use Rattle.firm_rules.specs.Placement.{Case, Demand as RoundDemand}
 use Rattle.firm_rules.specs.inner.Demands.{seen, case_seen, without_machine_at}
@@ -46,3 +49,16 @@ returns g c =
     (omega (arith, c.deref_mut.ensures.len, c.leave_machine.auto.demands)))
     ∙ c.leave_machine.ensures
     ∙ ap (λ (l : List Demand). map (without_machine_at c.args.place) (map seen l)) c.deref_mut.ensures.value)
+
+pub remove-requires : goal.remove-requires
+remove-requires g c =
+    subst (λ n. c.args.place < n)
+    (sym (ap (λ (case : Case). length case.slots) c.self.view_is) ∙ sym c.self.inside.slots.ok.0) c.requires
+
+small : (place now count : ℕ) → place < now → count ≡ now → count ≤ 4096 → Fits w32 place
+small place now count there is few = omega (arith, there, is, few)
+
+pub overflow_cast-place : goal.overflow_cast-place
+overflow_cast-place g c =
+    small c.args.place (length c.args.self.now.slots) (length c.self.inside.slots.items) c.requires
+    (ap (λ (case : Case). length case.slots) c.self.view_is) c.self.invariant.few_machines

@@ -1,11 +1,13 @@
-use Rattle.std.proofs.Common.{List, ℕ, map, remove, sym, ap, ◌∙◌, arith}
+use Rattle.std.proofs.Common.{◌≡◌, ◌+◌, ◌^◌, ◌<◌, ◌≤◌, List, [], ℕ, length, map, remove, sym, ap, subst, ◌∙◌, arith}
+use Rattle.std.proofs.lemmas.List.{length-map}
+use Rattle.std.proofs.lemmas.Option.{slice_get-get_or}
 use Rattle.std.specs.Map.{values_of}
 use Rattle.indexmap.proofs.SetLemmas.{map-remove}
 use Rattle.firm_rules.specs.Book.{TenantRows, running_on}
 use Rattle.firm_rules.specs.declared.book.Machine.{Machine}
 use Rattle.firm_rules.specs.Placement.{Case}
 use Rattle.firm_rules.specs.inner.Demands.{without_machine_at}
-use Rattle.firm_rules.proofs.CaseKept.{form-rows, kept, slots-counted, sound-rows}
+use Rattle.firm_rules.proofs.CaseKept.{few-rows, form-rows, kept, slots-counted, sound-rows}
 use Rattle.firm_rules.proofs.CaseLaws.{case-without_machine}
 use Rattle.firm_rules.proofs.TableLemmas.{tables-without_machine, arcs-at, running-drained, read-name}
 use Rattle.firm_rules.proofs.tables.Rows.drain.Goals as goal
@@ -75,3 +77,24 @@ returns-clause-evicted g c =
     ∙ ap (running_on c.args.self.now)
     (read-name c.self.invariant.tables c.self.view_is c.args.place c.in-Some.field-0-0 c.in-Some.machine
     (sym c.in-Some.is ∙ c.shift_remove_index.ensures.entry) c.requires.there)
+
+pub unreachable-requires : goal.unreachable-requires
+unreachable-requires g c =
+    let entries : List (List ℕ × Machine) = c.self.inside.machines.entries in
+    let none : Machine = record { name = []; slots = 0 } in
+    c.in_default.not-Some _ (c.shift_remove_index.ensures.entry ∙ slice_get-get_or entries c.args.place ([], none)
+    (subst (λ n. c.args.place < n)
+    (sym (ap (λ (rows : TenantRows). length rows.machines) c.self.view_is)
+    ∙ length-map entries (λ (e : List ℕ × Machine). e.1)) c.requires.there))
+
+small : (machines jobs tasks count : ℕ) → machines + jobs + tasks ≤ 4096 → count ≡ tasks → count < 2 ^ 32
+small machines jobs tasks count few is = omega (arith, few, is)
+
+pub evict-departure-requires : goal.evict-departure-requires
+evict-departure-requires g c =
+    let rows : TenantRows = c.args.self.now in
+    record {
+      few = small (length rows.machines) (length rows.jobs) (length rows.tasks)
+          (length (values_of c.self.inside.tasks.entries)) (few-rows c.self.invariant c.self.view_is)
+          (ap (λ (r : TenantRows). length r.tasks) c.self.view_is);
+    }

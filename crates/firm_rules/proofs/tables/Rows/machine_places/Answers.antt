@@ -1,5 +1,7 @@
-use Rattle.std.proofs.Common.{◌≡◌, ◌<◌, ◌+◌, ◌++◌, ◌∷◌, ℕ, true, List, [], length, get_or, take, bytes_eq, is_some}
-use Rattle.std.proofs.Common.{refl, sym, ap, subst, ◌∙◌}
+use Rattle.std.proofs.Common.{◌≡◌, ◌<◌, ◌≤◌, ◌+◌, ◌++◌, ◌∷◌, ℕ, true, List, [], length, get_or, take, bytes_eq, is_some}
+use Rattle.std.proofs.Common.{refl, sym, ap, subst, ◌∙◌, arith}
+use mir.Syntax.{w32}
+use mir.Val.{Fits}
 use Rattle.std.specs.List.{All}
 use Rattle.std.proofs.lemmas.List.{take_all, take_more}
 use Rattle.std.proofs.lemmas.List.Sums.{list_all-from_AllPass}
@@ -83,3 +85,13 @@ pub returns-clause-there : goal.returns-clause-there
 returns-clause-there g c =
     subst (λ (l : List (List ℕ)). All (λ name. is_among (machine_names c.args.self.now) name ≡ true) l)
     (take_all c.loop-name.name-index c.args.names.now c.loop-name-test.false) c.loop-name.invariant.there
+
+small : (place machines jobs tasks most : ℕ) → place < machines → 2 + machines + jobs + tasks ≤ most → most ≤ 4096
+    → Fits w32 place
+small place machines jobs tasks most there fits few = omega (arith, there, fits, few)
+
+pub overflow_cast-place : goal.overflow_cast-place
+overflow_cast-place g c =
+    let rows = c.args.self.now in
+    small c.in_ok-place.place (length rows.machines) (length rows.jobs) (length rows.tasks) rows.limits.nodes
+    c.in_ok-place.ensures.below c.limits.ensures.fit.nodes c.limits.ensures.sound.most_nodes

@@ -1,4 +1,4 @@
-use Rattle.std.proofs.Common.{◌≡◌, ◌<◌, ◌≤◌, ◌+◌, ◌-◌, ℕ, Bool, true, false, Option, IfSome, set, sym, ap, subst}
+use Rattle.std.proofs.Common.{◌≡◌, ◌<◌, ◌≤◌, ◌+◌, ◌-◌, ℕ, Bool, true, false, Option, IfSome, length, set, sym, ap, subst}
 use Rattle.std.proofs.Common.{◌∙◌, arith}
 use mir.Syntax.{w64}
 use mir.Val.{Fits}
@@ -102,3 +102,16 @@ pub place-requires-clause-delay : goal.place-requires-clause-delay
 place-requires-clause-delay g c =
     most c.weight_at.result c.from-3.result c.args.waited c.args.self.now.limits.patience c.weight_at.ensures.most
     c.from-3.ensures c.requires.waited (sound-rows c.self.invariant c.self.view_is).most_patience
+
+pub home_of-home-requires : goal.home_of-home-requires
+home_of-home-requires g c = c.requires.machine_there
+
+pub place_at-ran-requires : goal.place_at-ran-requires
+place_at-ran-requires g c = record {
+  there = subst (λ n. c.args.place < n) (sym (ap (λ (rows : TenantRows). length rows.tasks) c.self.view_is))
+      c.requires.there;
+}
+
+pub job-requires : goal.job-requires
+job-requires g c =
+    subst (λ n. c.args.place < n) (sym (tasks-counted c.self.invariant c.self.view_is)) c.requires.there

@@ -1,4 +1,6 @@
-use Rattle.std.proofs.Common.{List, ℕ, remove, sym, ap, ◌∙◌, arith}
+use Rattle.std.proofs.Common.{◌<◌, List, [], None, ℕ, length, remove, sym, ap, subst, ◌∙◌, arith}
+use Rattle.std.proofs.lemmas.List.{length-map}
+use Rattle.std.proofs.lemmas.Option.{slice_get-get_or}
 use Rattle.std.specs.Map.{values_of}
 use Rattle.indexmap.proofs.SetLemmas.{map-remove}
 use Rattle.firm_rules.specs.Book.{TenantRows}
@@ -63,3 +65,12 @@ returns-clause-tasks g c =
     ap values_of c.shift_remove_index.ensures.entries
     ∙ map-remove (λ (e : List ℕ × Task). e.1) c.self.inside.tasks.entries c.args.place
     ∙ ap (λ (rows : TenantRows). remove rows.tasks c.args.place) c.self.view_is
+
+pub unreachable-requires : goal.unreachable-requires
+unreachable-requires g c =
+    let entries : List (List ℕ × Task) = c.self.inside.tasks.entries in
+    let none : Task = record { name = []; job = []; preferred = []; machine = None; waited = 0 } in
+    c.in_default.not-Some _ (c.shift_remove_index.ensures.entry ∙ slice_get-get_or entries c.args.place ([], none)
+    (subst (λ n. c.args.place < n)
+    (sym (ap (λ (rows : TenantRows). length rows.tasks) c.self.view_is)
+    ∙ length-map entries (λ (e : List ℕ × Task). e.1)) c.requires.there))

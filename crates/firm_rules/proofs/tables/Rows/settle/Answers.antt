@@ -117,3 +117,31 @@ returns-clause-sound g c =
     (tables-settled c.self.invariant.tables c.self.view_is c.args.choices.now
     c.requires.legal c.settle_all-self-inside.ensures.names c.patience-patience.ensures.value
     c.settle_all-self-inside.ensures.tasks c.settle_all-self-inside.ensures.running).tables.sound
+
+pub settle_all-self-inside-requires-clause-patience : goal.settle_all-self-inside-requires-clause-patience
+settle_all-self-inside-requires-clause-patience g c = c.patience-patience.ensures.most
+
+pub settle_all-self-inside-requires-clause-one_each : goal.settle_all-self-inside-requires-clause-one_each
+settle_all-self-inside-requires-clause-one_each g c =
+    let rows : TenantRows = c.args.self.now in
+    (to_legal (case_of rows) c.args.choices.now c.requires.legal).one_each ∙ length-map rows.tasks (demand_of rows)
+    ∙ ap (λ (r : TenantRows). length r.tasks) (sym c.self.view_is)
+
+pub settle_all-self-inside-requires-clause-demands : goal.settle_all-self-inside-requires-clause-demands
+settle_all-self-inside-requires-clause-demands g c =
+    (to_legal (case_of c.args.self.now) c.args.choices.now c.requires.legal).one_each
+    ∙ ap (λ (k : Case). length k.tasks) (sym (is-case c.self.invariant c.self.view_is))
+
+pub settle_all-self-inside-requires-clause-places : goal.settle_all-self-inside-requires-clause-places
+settle_all-self-inside-requires-clause-places g c =
+    let rows : TenantRows = c.args.self.now in
+    subst (λ n. All (IsPlace n) c.args.choices.now)
+    (length-map rows.machines (λ (m : Machine). m.slots)
+    ∙ ap (λ (r : TenantRows). length r.machines) (sym c.self.view_is))
+    (to_legal (case_of rows) c.args.choices.now c.requires.legal).places
+
+pub returns-clause-rows : goal.returns-clause-rows
+returns-clause-rows g c =
+    (tables-settled c.self.invariant.tables c.self.view_is c.args.choices.now
+    c.requires.legal c.settle_all-self-inside.ensures.names c.patience-patience.ensures.value
+    c.settle_all-self-inside.ensures.tasks c.settle_all-self-inside.ensures.running).view
