@@ -1,8 +1,10 @@
-use Rattle.std.proofs.Common.{sym, ap, ◌∙◌}
+use Rattle.std.proofs.Common.{◌≡◌, None, Some, sym, ap, ◌∙◌}
+use Rattle.std.specs.Map.{values_of}
+use Rattle.std.proofs.lemmas.Option.{slice_get-get_or}
 use Rattle.indexmap.proofs.CallerLemmas.{keys-with_value_at}
 use Rattle.firm_rules.proofs.PreferredNames.{evicted-other}
 use Rattle.firm_rules.proofs.SoundRows.{one_if, one_if-from_bool}
-use Rattle.firm_rules.proofs.TaskWrites.{evicted-written}
+use Rattle.firm_rules.proofs.TaskWrites.{evicted-written, no_task}
 use Rattle.firm_rules.proofs.tables.evict_at.Goals as goal
 
 pub returns-then-not-names_machine-clause-names : goal.returns-then-not-names_machine-clause-names
@@ -51,3 +53,17 @@ returns-clause-preferences g c d =
     c.len-2.ensures.value
     ∙ (evicted-written c.args.name c.args.tasks.now.entries c.args.place c.in-Some.task.now c.in-Some.ensures.value
     c.without_machine.result c.without_machine.ensures d).2
+
+never : {X : Type 0} (x : X) → None ≡ Some x → ⊥
+never x e = cc
+
+pub unreachable-requires : goal.unreachable-requires
+unreachable-requires g c =
+    never _ (c.in_default.ensures.value
+    ∙ slice_get-get_or (values_of c.args.tasks.now.entries) c.args.place no_task c.requires.there)
+
+pub returns-then-not-names_machine-clause-few : goal.returns-then-not-names_machine-clause-few
+returns-then-not-names_machine-clause-few g c = c.len.ensures.most
+
+pub returns-clause-few : goal.returns-clause-few
+returns-clause-few g c = c.len-2.ensures.most

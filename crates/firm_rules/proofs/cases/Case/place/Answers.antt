@@ -38,3 +38,9 @@ returns g c =
     ∙ ap (λ (l : List RoundDemand). set l c.args.task (placed c.args.home c.args.delay (seen it))) tasks
     ∙ ap (λ (d : RoundDemand). set c.args.self.now.tasks c.args.task (placed c.args.home c.args.delay d))
     (seen-at demands c.args.task it c.args.self.now.tasks tasks c.requires.there c.index_mut-demand.ensures.value))
+
+pub index_mut-demand-requires : goal.index_mut-demand-requires
+index_mut-demand-requires g c =
+    subst (λ n. c.args.task < n)
+    (sym (ap (λ (case : Case). length case.tasks) c.self.view_is) ∙ length-map c.self.inside.demands.items seen
+    ∙ sym c.self.inside.demands.ok.0) c.requires.there
