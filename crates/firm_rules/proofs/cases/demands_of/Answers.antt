@@ -4,6 +4,7 @@ use Rattle.std.specs.Prelude.{slice_get, slice_index_or}
 use Rattle.std.proofs.lemmas.List.{map_push}
 use Rattle.std.proofs.lemmas.List.Elements.{All-nil, All-push}
 use Rattle.std.specs.List.{All}
+use borrow.Author.Count.{falls}
 use Rattle.firm_rules.specs.Book.{machine_names}
 use Rattle.firm_rules.specs.Names.{is_among}
 use Rattle.firm_rules.specs.Round.{demand_of}
@@ -79,3 +80,6 @@ returns-clause-seen c =
 
 pub returns-clause-fit : goal.returns-clause-fit
 returns-clause-fit c = c.loop-number.invariant.fit
+
+pub loop-number-smaller : goal.loop-number-smaller
+loop-number-smaller c = falls c.task_count-number-end.result c.loop-number.number c.loop-number-test.true

@@ -1,6 +1,7 @@
 use Rattle.std.proofs.Common.{◌≤◌, sym, subst, ◌∙◌, List, [], ℕ}
 use Rattle.std.specs.List.{All}
 use Rattle.std.proofs.lemmas.List.Elements.{All-nil, All-push}
+use borrow.Author.Count.{falls}
 use Rattle.firm_rules.specs.declared.book.Machine.{Machine}
 use Rattle.firm_rules.proofs.CaseLists.{grown_all, grown_by, read_below}
 use Rattle.firm_rules.proofs.cases.slot_counts.Goals as goal
@@ -36,3 +37,6 @@ returns-clause-slots c =
 
 pub returns-clause-most : goal.returns-clause-most
 returns-clause-most c = c.loop-place.invariant.most
+
+pub loop-place-smaller : goal.loop-place-smaller
+loop-place-smaller c = falls c.machine_count-place-end.result c.loop-place.place c.loop-place-test.true

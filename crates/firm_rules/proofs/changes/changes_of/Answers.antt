@@ -1,6 +1,7 @@
-use Rattle.std.proofs.Common.{◌≡◌, ◌<◌, ◌≤◌, ◌+◌, ◌-◌, ◌++◌, ℕ, true, List, [], length, drop, sym, ap, subst, ◌∙◌, arith}
+use Rattle.std.proofs.Common.{◌≡◌, ◌<◌, ◌≤◌, ◌++◌, ℕ, true, List, [], length, drop, sym, ap, subst, ◌∙◌, arith}
 use Rattle.std.specs.Prelude.{slice_index_or}
 use Rattle.std.specs.List.{flat_map}
+use borrow.Author.Count.{falls}
 use Rattle.std.proofs.lemmas.List.{append-nil, drop_all, length-map}
 use Rattle.firm_rules.specs.Book.{TenantRows}
 use Rattle.firm_rules.specs.Placement.{IsPlace, is_legal}
@@ -79,8 +80,5 @@ returns g c =
     (changes_made c.args.rows.now c.args.placement.now) c.args.rows.now.tasks c.args.placement.now c.loop-task.task
     (subst (λ n. n ≤ c.loop-task.task) c.task_count-task-end.ensures c.loop-task-test.false) c.loop-task.invariant
 
-falls : (task count : ℕ) → task < count → count - (task + 1) < count - task
-falls task count there = omega (arith, there)
-
 pub loop-task-smaller : goal.loop-task-smaller
-loop-task-smaller g c = falls c.loop-task.task c.task_count-task-end.result c.loop-task-test.true
+loop-task-smaller g c = falls c.task_count-task-end.result c.loop-task.task c.loop-task-test.true

@@ -1,6 +1,7 @@
 use Rattle.std.proofs.Common.{◌≡◌, ◌<◌, ℕ, length, sym, ap, ◌∙◌, arith}
 use Rattle.std.specs.Prelude.{slice_index_or}
 use Rattle.std.proofs.lemmas.List.{length-map}
+use borrow.Author.Count.{falls}
 use Rattle.firm_rules.specs.Placement.{Case, task_at, rank}
 use Rattle.firm_rules.specs.Round.{case_of}
 use Rattle.firm_rules.specs.declared.book.Machine.{Machine}
@@ -37,3 +38,6 @@ loop-task-preserved g c =
     c.case-case.ensures
     ∙ ap (λ (n : ℕ). rank n (task_at case i).home (slice_index_or second i (On 0))) machines)
     ∙ c.loop-task.invariant
+
+pub loop-task-smaller : goal.loop-task-smaller
+loop-task-smaller g c = falls c.task_count-task-end.result c.loop-task.task c.loop-task-test.true

@@ -1,6 +1,7 @@
 use Rattle.std.proofs.Common.{◌≡◌, ◌<◌, ◌≤◌, ℕ, List, length, take, refl, sym, ap, ◌∙◌, arith}
 use Rattle.std.specs.Prelude.{count_by}
 use Rattle.std.proofs.lemmas.List.{get_or-replicate, take_all}
+use borrow.Author.Count.{falls}
 use Rattle.firm_rules.specs.Placement.{Case, Demand, home_choice, runs_at, task_at}
 use Rattle.firm_rules.specs.Round.{case_of}
 use Rattle.firm_rules.proofs.Seating.{no_demand}
@@ -54,3 +55,6 @@ returns c j below =
     c.loop-task.invariant.1 j (omega (arith, below, sound.fits.nodes, sound.most_nodes))
     ∙ ap (count_by (λ (task : Demand). runs_at task.home j)) (take_all c.loop-task.task tasks far)
     ∙ homes-named rows sound j below
+
+pub loop-task-smaller : goal.loop-task-smaller
+loop-task-smaller c = falls c.task_count-task-end.result c.loop-task.task c.loop-task-test.true

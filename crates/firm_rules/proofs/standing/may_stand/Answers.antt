@@ -7,6 +7,7 @@ use Rattle.firm_rules.specs.Book.{machine_names}
 use Rattle.firm_rules.specs.Names.{is_among}
 use Rattle.firm_rules.proofs.CaseLists.{known, read_below}
 use Rattle.std.specs.Prelude.{slice_get}
+use borrow.Author.Count.{falls}
 use Rattle.firm_rules.specs.SoundBook.{may_pay, may_stand}
 use Rattle.firm_rules.specs.declared.book.Task.{Task}
 use Rattle.firm_rules.proofs.StandingTasks.{all-next, idle-stands, one-fails}
@@ -77,3 +78,6 @@ pub returns : goal.returns
 returns c =
     tried (λ (t : Task). may_stand c.args.rows.now c.args.rounds t t.machine) c.args.rows.now.tasks c.loop-place.place
     c.task_count-place-end.result c.task_count-place-end.ensures c.loop-place-test.false c.loop-place.invariant
+
+pub loop-place-smaller : goal.loop-place-smaller
+loop-place-smaller c = falls c.task_count-place-end.result c.loop-place.place c.loop-place-test.true

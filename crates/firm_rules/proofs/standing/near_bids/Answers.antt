@@ -4,6 +4,7 @@ use Rattle.std.specs.Prelude.{slice_get}
 use Rattle.std.specs.List.{list_any}
 use Rattle.std.proofs.lemmas.List.{get_or-replicate, length-map}
 use Rattle.std.proofs.lemmas.Option.{slice_get-get_or}
+use borrow.Author.Count.{falls}
 use Rattle.firm_rules.specs.ChoiceCost.{near}
 use Rattle.firm_rules.specs.Placement.{Case, task_at}
 use Rattle.firm_rules.specs.Round.{case_of}
@@ -54,3 +55,6 @@ loop-number-preserved c = λ j below.
     c.bid_of.ensures
     ∙ next-near rows sound c.limits.ensures.form j below c.loop-number.number task there old
     (c.loop-number.invariant j below)
+
+pub loop-number-smaller : goal.loop-number-smaller
+loop-number-smaller c = falls c.task_count-number-end.result c.loop-number.number c.loop-number-test.true

@@ -2,6 +2,7 @@ use Rattle.std.proofs.Common.{◌<◌, length, arith, refl, ap, sym, subst, ◌�
 use Rattle.std.specs.Prelude.{slice_index_or}
 use Rattle.indexmap.specs.IndexMap.{keys, values}
 use Rattle.std.proofs.lemmas.List.{take_all}
+use borrow.Author.Count.{falls}
 use Rattle.firm_rules.specs.Book.{running_count}
 use Rattle.firm_rules.specs.Round.{settled, zipped}
 use Rattle.firm_rules.proofs.SoundRows.{length-zipped}
@@ -108,3 +109,6 @@ settle_at-running-requires-clause-machine g c = c.requires.places c.loop-place.p
 
 pub settle_at-running-requires-clause-patience : goal.settle_at-running-requires-clause-patience
 settle_at-running-requires-clause-patience g c = c.requires.patience
+
+pub loop-place-smaller : goal.loop-place-smaller
+loop-place-smaller g c = falls (length c.args.choices.now) c.loop-place.place c.loop-place-test.true

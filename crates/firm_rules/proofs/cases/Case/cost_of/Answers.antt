@@ -2,6 +2,7 @@ use Rattle.std.proofs.Common.{◌≡◌, ◌+◌, ◌*◌, ◌^◌, ◌<◌, ◌
 use Rattle.std.specs.Prelude.{slice_index, slice_index_or}
 use Rattle.std.proofs.Math.Nat.{mul-le-mul}
 use Rattle.std.proofs.lemmas.List.{get_or-replicate, length-set, take_all}
+use borrow.Author.Count.{falls}
 use mir.Syntax.{w16, w64}
 use mir.Val.{Fits}
 use Rattle.firm_rules.specs.declared.rounds.Choice.{Choice}
@@ -142,3 +143,6 @@ returns-clause-cost g c =
     whole c.args.self.now c.args.placement.now c.loop-task.task c.task_count-task-end.result c.loop-task.cost
     c.loop-task.loads c.loop-task.invariant.spent c.loop-task-test.false c.task_count-task-end.ensures.count
     c.requires
+
+pub loop-task-smaller : goal.loop-task-smaller
+loop-task-smaller g c = falls c.task_count-task-end.result c.loop-task.task c.loop-task-test.true

@@ -3,6 +3,7 @@ use Rattle.std.proofs.Math.Nat.{mul-le-mul}
 use mir.Syntax.{w64}
 use mir.Val.{Fits}
 use Rattle.std.proofs.lemmas.List.{take_all}
+use borrow.Author.Count.{falls}
 use Rattle.firm_rules.specs.Placement.{load, load_cost, total}
 use Rattle.firm_rules.specs.declared.rounds.Choice.{Choice}
 use Rattle.firm_rules.proofs.RunningCosts.{load-few}
@@ -64,3 +65,6 @@ overflow_add-cost g c =
     fits c.loop-place.place c.loop-place.cost c.cost_of_load-cost.result
     (within c.loop-place.place c.machine_count-place-end.result c.loop-place-test.true
     c.machine_count-place-end.ensures.few) c.loop-place.invariant.1 c.cost_of_load-cost.ensures.most
+
+pub loop-place-smaller : goal.loop-place-smaller
+loop-place-smaller g c = falls c.machine_count-place-end.result c.loop-place.place c.loop-place-test.true

@@ -2,6 +2,7 @@ use Rattle.std.proofs.Common.{ℕ, ◌≡◌, ◌+◌, ◌<◌, ◌≤◌, List,
 use mir.Syntax.{w8}
 use mir.Val.{Fits}
 use Rattle.std.specs.Prelude.{slice_index}
+use borrow.Author.Count.{falls}
 use Rattle.firm_rules.specs.declared.rounds.Choice.TheVariants.{On}
 use Rattle.firm_rules.proofs.CountedLoads.{Counted, counted-on, counted-wait, legal-counted, not_legal-beyond}
 use Rattle.firm_rules.proofs.CountedLoads.{not_legal-full, not_legal-length}
@@ -98,3 +99,6 @@ overflow_add-loads g c =
     small (slice_index c.loop-choice.loads c.in-On.place) c.from.result
     (slice_index c.all_slots-slots.result.now c.in-On.place) c.from.ensures c.if-from-slots.false
     (c.all_slots-slots.ensures.most c.in-On.place 0 c.if-at-slots.false)
+
+pub loop-choice-smaller : goal.loop-choice-smaller
+loop-choice-smaller g c = falls (length c.args.placement.now) c.loop-choice.choice-index c.loop-choice-test.true

@@ -1,5 +1,6 @@
 use Rattle.std.proofs.Common.{◌<◌, ◌&&◌, Bool, ℕ, sym, ap, ◌∙◌, arith}
 use Rattle.std.specs.Prelude.{nat_le, slice_index}
+use borrow.Author.Count.{falls}
 use Rattle.firm_rules.specs.Placement.{load}
 use Rattle.firm_rules.proofs.CaseLists.{room_more}
 use Rattle.firm_rules.proofs.cases.Case.has_room.Goals.{then-has_room, else-has_room}
@@ -21,3 +22,6 @@ loop-place-preserved g c =
           ∙ ap (λ b. b && fits place) (sym (sym c.loop-place.invariant ∙ w.if-has_room.false))
           ∙ room_more fits place
     ]
+
+pub loop-place-smaller : goal.loop-place-smaller
+loop-place-smaller g c = falls c.machine_count-place-end.result c.loop-place.place c.loop-place-test.true

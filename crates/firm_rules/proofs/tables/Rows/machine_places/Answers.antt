@@ -8,6 +8,7 @@ use Rattle.std.proofs.lemmas.List.Sums.{list_all-from_AllPass}
 use Rattle.std.proofs.lemmas.List.Folds.{list_all_at}
 use Rattle.std.proofs.lemmas.List.Elements.{All-nil, All-push}
 use Rattle.std.proofs.lemmas.Option.{slice_get_read}
+use borrow.Author.Count.{falls}
 use Rattle.firm_rules.specs.Book.{machine_names}
 use Rattle.firm_rules.specs.Names.{is_among}
 use Rattle.firm_rules.specs.Round.{place_of}
@@ -95,3 +96,6 @@ overflow_cast-place g c =
     let rows = c.args.self.now in
     small c.in_ok-place.place (length rows.machines) (length rows.jobs) (length rows.tasks) rows.limits.nodes
     c.in_ok-place.ensures.below c.limits.ensures.fit.nodes c.limits.ensures.sound.most_nodes
+
+pub loop-name-smaller : goal.loop-name-smaller
+loop-name-smaller g c = falls (length c.args.names.now) c.loop-name.name-index c.loop-name-test.true
