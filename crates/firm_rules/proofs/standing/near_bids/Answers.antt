@@ -1,13 +1,16 @@
-use Rattle.std.proofs.Common.{ℕ, ◌≡◌, ◌<◌, ◌==◌, List, [], Some, None, All, length, max, slice_index, sym, ap, subst}
-use Rattle.std.proofs.Common.{◌∙◌, arith, if◌then◌else◌}
+use Rattle.std.proofs.Common.{ℕ, ◌≡◌, ◌<◌, ◌≤◌, ◌==◌, List, [], Some, None, All, length, max, slice_index, sym, ap}
+use Rattle.std.proofs.Common.{subst, ◌∙◌, arith, if◌then◌else◌}
 use Rattle.std.specs.Prelude.{slice_get}
 use Rattle.std.specs.List.{list_any}
-use Rattle.std.proofs.lemmas.List.{get_or-replicate, length-map}
+use Rattle.std.proofs.lemmas.List.{get_or-replicate, length-map, take_all}
 use Rattle.std.proofs.lemmas.Option.{slice_get-get_or}
 use borrow.Author.Count.{falls}
+use Rattle.firm_rules.specs.Book.{machine_names, name_at}
 use Rattle.firm_rules.specs.ChoiceCost.{near}
+use Rattle.firm_rules.specs.SoundBook.{highest}
+use Rattle.firm_rules.specs.inner.Bids.{near_bid}
 use Rattle.firm_rules.specs.Placement.{Case, task_at}
-use Rattle.firm_rules.specs.Round.{case_of}
+use Rattle.firm_rules.specs.Round.{case_of, demand_of}
 use Rattle.firm_rules.specs.declared.book.Machine.{Machine}
 use Rattle.firm_rules.specs.declared.book.Task.{Task}
 use Rattle.firm_rules.proofs.NearBids.{next-near}
@@ -58,3 +61,18 @@ loop-number-preserved c = λ j below.
 
 pub loop-number-smaller : goal.loop-number-smaller
 loop-number-smaller c = falls c.task_count-number-end.result c.loop-number.number c.loop-number-test.true
+
+pub near-requires : goal.near-requires
+near-requires c =
+    let rows = c.args.rows.now in
+    subst (λ n. c.loop-number.number < n)
+    (c.task_count-number-end.ensures ∙ sym (length-map rows.tasks (demand_of rows))
+    ∙ ap (λ (k : Case). length k.tasks) (sym c.case-case.ensures)) c.loop-number-test.true
+
+pub returns : goal.returns
+returns c = λ j below.
+    let rows = c.args.rows.now in
+    c.loop-number.invariant j below
+    ∙ ap (highest (near_bid rows (name_at (machine_names rows) j)))
+    (take_all c.loop-number.number rows.tasks
+    (subst (λ n. n ≤ c.loop-number.number) c.task_count-number-end.ensures c.loop-number-test.false))

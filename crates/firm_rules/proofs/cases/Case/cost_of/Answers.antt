@@ -7,7 +7,8 @@ use mir.Syntax.{w16, w64}
 use mir.Val.{Fits}
 use Rattle.firm_rules.specs.declared.rounds.Choice.{Choice}
 use Rattle.firm_rules.specs.declared.rounds.Choice.TheVariants.{On}
-use Rattle.firm_rules.specs.Placement.{Case, Demand, load, load_cost, placement_cost, task_at, task_cost, tasks_cost, total}
+use Rattle.firm_rules.specs.Placement.{Case, Demand, load, load_cost, placement_cost, task_at, task_cost, tasks_cost}
+use Rattle.firm_rules.specs.Placement.{total}
 use Rattle.firm_rules.proofs.RunningCosts.{Spent, load-few, spent-beyond, spent-none, spent-on, spent-wait}
 use Rattle.firm_rules.proofs.cases.Case.cost_of.Goals.{in-On+then-at-machines, in-On+else-at-machines, in_default}
 use Rattle.firm_rules.proofs.cases.Case.cost_of.Goals as goal

@@ -1,7 +1,5 @@
-use Rattle.std.proofs.Common.{◌≡◌, ◌+◌, ◌*◌, ◌^◌, ◌<◌, ◌≤◌, ℕ, suc, List, length, refl, ap, ◌∙◌, arith}
-use Rattle.std.proofs.Math.Nat.{mul-le-mul}
-use mir.Syntax.{w64}
-use mir.Val.{Fits}
+use Rattle.std.proofs.Common.{◌≡◌, ◌+◌, ◌*◌, ◌^◌, ◌<◌, ◌≤◌, ℕ, suc, List, length, refl, sym, ap, subst, ◌∙◌}
+use Rattle.std.proofs.Common.{arith}
 use Rattle.std.proofs.lemmas.List.{take_all}
 use borrow.Author.Count.{falls}
 use Rattle.firm_rules.specs.Placement.{load, load_cost, total}
@@ -32,6 +30,16 @@ bounds-loads-place g c =
 pub cost_of_load-cost-requires-clause-least_spread : goal.cost_of_load-cost-requires-clause-least_spread
 cost_of_load-cost-requires-clause-least_spread g c = c.spread-spread.ensures.most
 
+pub cost_of_load-cost-requires-clause-few_tasks : goal.cost_of_load-cost-requires-clause-few_tasks
+cost_of_load-cost-requires-clause-few_tasks g c =
+    let placement = c.args.placement.now in
+    let place = c.loop-place.place in
+    let inside : place < 4096 =
+    within place c.machine_count-place-end.result c.loop-place-test.true c.machine_count-place-end.ensures.few in
+    subst (λ n. n ≤ 4096) (sym (c.from.ensures ∙ c.loads_of-loads.ensures place inside))
+    (few-there placement place c.task_count.result (c.requires ∙ sym c.task_count.ensures.count)
+    c.task_count.ensures.few)
+
 -- the cost of one more machine
 more : (f : ℕ → ℕ) (place cost one after : ℕ) → cost ≡ total f place → one ≡ f place → after ≡ cost + one
     → after ≡ total f (place + 1)
@@ -56,15 +64,6 @@ loop-place-preserved g c =
           ∙ ap (load_cost spread) (c.from.ensures ∙ c.loads_of-loads.ensures place inside)) refl,
       most place cost one c.loop-place.invariant.1 c.cost_of_load-cost.ensures.most,
     )
-
-fits : (place cost one : ℕ) → place < 4096 → cost ≤ place * 8589934592 → one ≤ 2 ^ 33 → Fits w64 (cost + one)
-fits place cost one inside so_far here = omega (arith, inside, so_far, here)
-
-pub overflow_add-cost : goal.overflow_add-cost
-overflow_add-cost g c =
-    fits c.loop-place.place c.loop-place.cost c.cost_of_load-cost.result
-    (within c.loop-place.place c.machine_count-place-end.result c.loop-place-test.true
-    c.machine_count-place-end.ensures.few) c.loop-place.invariant.1 c.cost_of_load-cost.ensures.most
 
 pub loop-place-smaller : goal.loop-place-smaller
 loop-place-smaller g c = falls c.machine_count-place-end.result c.loop-place.place c.loop-place-test.true

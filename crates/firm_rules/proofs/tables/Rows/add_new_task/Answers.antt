@@ -58,8 +58,8 @@ put_task-requires-clause-places g c = c.demand_of_new-demand.ensures.fits
 
 pub returns-clause-ok : goal.returns-clause-ok
 returns-clause-ok g c =
-    subst (λ (t : Task). OnOk c.put_task.result (c.put_task.new.self ≡ with_restored c.args.self.now t)) c.waiting.ensures
-    c.put_task.ensures.ok
+    subst (λ (t : Task). OnOk c.put_task.result (c.put_task.new.self ≡ with_restored c.args.self.now t))
+    c.waiting.ensures c.put_task.ensures.ok
 
 pub returns-clause-err : goal.returns-clause-err
 returns-clause-err g c = c.put_task.ensures.err

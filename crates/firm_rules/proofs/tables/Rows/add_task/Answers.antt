@@ -47,8 +47,8 @@ restore_task-requires-clause-fits g c =
 
 pub returns-clause-ok : goal.returns-clause-ok
 returns-clause-ok g c =
-    subst (λ (t : Task). OnOk c.restore_task.result (c.restore_task.new.self ≡ with_restored c.args.self.now t)) c.waiting.ensures
-    c.restore_task.ensures.ok
+    subst (λ (t : Task). OnOk c.restore_task.result (c.restore_task.new.self ≡ with_restored c.args.self.now t))
+    c.waiting.ensures c.restore_task.ensures.ok
 
 pub returns-clause-err : goal.returns-clause-err
 returns-clause-err g c = c.restore_task.ensures.err

@@ -1,5 +1,5 @@
-use Rattle.std.proofs.Common.{◌≡◌, ◌<◌, ◌≤◌, ◌+◌, ◌-◌, ℕ, Bool, true, false, Option, IfSome, length, set, sym, ap, subst}
-use Rattle.std.proofs.Common.{◌∙◌, arith}
+use Rattle.std.proofs.Common.{◌≡◌, ◌<◌, ◌≤◌, ◌+◌, ◌-◌, ℕ, Bool, true, false, Option, IfSome, length, set, sym, ap}
+use Rattle.std.proofs.Common.{subst, ◌∙◌, arith}
 use mir.Syntax.{w64}
 use mir.Val.{Fits}
 use Rattle.firm_rules.specs.Book.{TenantRows}
