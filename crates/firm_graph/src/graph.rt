@@ -43,7 +43,6 @@ use std::alloc::{AllocError, Global};
 use std::marker::Model;
 
 /// The rows of a tenant, and a net that is kept equal to the network that they make.
-#[derive(Drop)]
 pub struct Graph {
     rows: Rows,
     net: Net,
@@ -54,6 +53,29 @@ pub struct Graph {
     tasks: Vec<TaskParts>,
     sources: Vec<NodeId>,
     asked: u64,
+}
+
+impl Drop for Graph {
+    // Written out so that who drops a graph proves one call, and not all that it owns.
+    fn drop(self) {
+        let Self {
+            rows,
+            net,
+            hub: _,
+            sink: _,
+            machines,
+            jobs,
+            tasks,
+            sources,
+            asked: _,
+        } = self;
+        drop(rows);
+        drop(net);
+        drop(machines);
+        drop(jobs);
+        drop(tasks);
+        drop(sources);
+    }
 }
 
 impl Model for Graph {
