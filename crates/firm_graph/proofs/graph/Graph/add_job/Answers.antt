@@ -1,3 +1,4 @@
+use Rattle.std.proofs.lemmas.Grind.{common_steps}
 use Rattle.std.proofs.Common.{◌≡◌, ◌+◌, ℕ, arith, ap, subst, ◌∙◌, List, ◌++◌, ◌∷◌, [], refl}
 use Rattle.firm_graph.specs.Graph.{Graph, Mirrors}
 use Rattle.firm_rules.specs.Limits.{TenantLimits}
@@ -66,3 +67,18 @@ invariant_of-self-2 c =
 
 pub returns-clause-graph : goal.returns-clause-graph
 returns-clause-graph c = record { sound = c.in-Ok.ensures.sound; mirrors = kept c }
+
+pub returns-in_err-find_room-clause-nodes : goal.returns-in_err-find_room-clause-nodes
+returns-in_err-find_room-clause-nodes c = grind (arith, common_steps)
+
+pub returns-in_err-find_room-clause-arcs : goal.returns-in_err-find_room-clause-arcs
+returns-in_err-find_room-clause-arcs c = grind (arith, common_steps)
+
+pub grow_jobs-requires-clause-fits : goal.grow_jobs-requires-clause-fits
+grow_jobs-requires-clause-fits c = grind (arith, common_steps)
+
+pub returns-in_default-clause-nodes : goal.returns-in_default-clause-nodes
+returns-in_default-clause-nodes c = grind (arith, common_steps)
+
+pub returns-in_default-clause-arcs : goal.returns-in_default-clause-arcs
+returns-in_default-clause-arcs c = grind (arith, common_steps)

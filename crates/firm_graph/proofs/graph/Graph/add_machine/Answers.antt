@@ -1,3 +1,4 @@
+use Rattle.std.proofs.lemmas.Grind.{common_steps}
 use Rattle.std.proofs.Common.{◌≡◌, ◌+◌, ℕ, arith, ap, subst, sym, ◌∙◌, List, ◌++◌, ◌∷◌, [], refl}
 use Rattle.firm_rules.specs.Limits.{TenantLimits}
 use Rattle.firm_net.specs.Edits.{IsEdit}
@@ -94,3 +95,18 @@ invariant_of-self-2 c =
 
 pub returns-clause-graph : goal.returns-clause-graph
 returns-clause-graph c = record { sound = c.in-Ok.ensures.sound; mirrors = kept c }
+
+pub returns-in_err-find_room-clause-nodes : goal.returns-in_err-find_room-clause-nodes
+returns-in_err-find_room-clause-nodes c = grind (arith, common_steps)
+
+pub returns-in_err-find_room-clause-arcs : goal.returns-in_err-find_room-clause-arcs
+returns-in_err-find_room-clause-arcs c = grind (arith, common_steps)
+
+pub grow_machines-requires-clause-fits : goal.grow_machines-requires-clause-fits
+grow_machines-requires-clause-fits c = grind (arith, common_steps)
+
+pub returns-in_default-clause-nodes : goal.returns-in_default-clause-nodes
+returns-in_default-clause-nodes c = grind (arith, common_steps)
+
+pub returns-in_default-clause-arcs : goal.returns-in_default-clause-arcs
+returns-in_default-clause-arcs c = grind (arith, common_steps)

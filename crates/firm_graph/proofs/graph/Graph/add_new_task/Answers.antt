@@ -1,3 +1,4 @@
+use Rattle.std.proofs.lemmas.Grind.{common_steps}
 use Rattle.std.proofs.Common.{◌≡◌, ◌≢◌, ◌<◌, ◌≤◌, ◌+◌, ℕ, cond, ltb, map, length, get_or, arith, ap, ap₂, sym, ◌∙◌}
 use Rattle.std.proofs.Common.{List, ◌++◌, ◌∷◌, [], Some, bytes_eq, is_some, refl, subst}
 use Rattle.std.specs.List.{All, position, slice_get}
@@ -242,3 +243,18 @@ index-requires c =
       c.self.invariant.graph.mirrors.jobs,
       c.self.inside.jobs.ok.0,
     )
+
+pub returns-in_err-find_room-clause-nodes : goal.returns-in_err-find_room-clause-nodes
+returns-in_err-find_room-clause-nodes c = grind (arith, common_steps)
+
+pub returns-in_err-find_room-clause-arcs : goal.returns-in_err-find_room-clause-arcs
+returns-in_err-find_room-clause-arcs c = grind (arith, common_steps)
+
+pub grow_tasks-requires-clause-fits : goal.grow_tasks-requires-clause-fits
+grow_tasks-requires-clause-fits c = grind (arith, common_steps)
+
+pub returns-in_default-grow_tasks-clause-nodes : goal.returns-in_default-grow_tasks-clause-nodes
+returns-in_default-grow_tasks-clause-nodes c = grind (arith, common_steps)
+
+pub returns-in_default-grow_tasks-clause-arcs : goal.returns-in_default-grow_tasks-clause-arcs
+returns-in_default-grow_tasks-clause-arcs c = grind (arith, common_steps)
