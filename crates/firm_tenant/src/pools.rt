@@ -1,18 +1,17 @@
 //! The pool of a tenant: its graph, the costs of its rounds, and the effect of each command on them.
-ghost use Rattle.std.specs.Prelude.{◌≡◌, ◌+◌, ◌^◌, ◌<◌, ◌≤◌, ℕ, true, IfOk, MatchResult, length};
-ghost use Rattle.firm_paths.specs.NetArcs.{limits_of};
+ghost use Rattle.std.specs.Prelude.{◌≡◌, ◌+◌, ◌^◌, ◌<◌, ◌≤◌, ℕ, true, All, IfOk, MatchResult, length};
 ghost use Rattle.firm_rules.specs.Placement.{is_legal};
 ghost use Rattle.firm_rules.specs.Round.{case_of, round_placement};
+ghost use Rattle.firm_rules.specs.SoundBook.{is_cost};
 ghost use Rattle.firm_tenant.specs.Step.{effect, counts_of, is_memory_outcome};
 ghost use Rattle.firm_tenant.specs.inner.Outcomes.{outcome_of, plain_or};
-ghost use Rattle.firm_tenant.specs.inner.Pools.{book_of, IsOpeningPool, IsPoolOf, IsSoundPool, placed_in};
+ghost use Rattle.firm_tenant.specs.inner.Pools.{book_of, IsMadeFor, IsOpeningPool, IsPoolOf, IsSoundPool, placed_in};
 ghost use Rattle.firm_tenant.specs.inner.Pools.{HasBegunOnce, HasCountedFor};
 
 use crate::proposals::Proposals;
 use circular_buffer::HeapCircularBuffer;
 use firm_canon::first_best;
 use firm_graph::{Graph, GraphRefusal};
-use firm_net::Net;
 use firm_paths::{Prices, Scratch};
 use firm_rules::{
     Book, Choice, Command, Limits, MOST_COSTS, Name, NewTask, Outcome, Preferred, RecentCosts,
@@ -56,16 +55,8 @@ impl Pool {
         ensures { IfOk result (IsOpeningPool limits) }
     {
         let costs = HeapCircularBuffer::with_capacity(alloc, MOST_COSTS)?;
-        let proposals = Proposals::open(alloc, limits)?;
         let graph = Graph::open(alloc, limits)?;
-        let (prices, scratch) = workspace(alloc, graph.net())?;
-        Ok(Pool {
-            graph,
-            proposals,
-            prices,
-            scratch,
-            costs,
-        })
+        Pool::of_graph(alloc, graph, costs)
     }
 
     /// The pool of a book, with all the memory of its net and proposals. Fails only if memory is refused.
@@ -73,9 +64,25 @@ impl Pool {
         ensures { IfOk result (IsPoolOf book.now) }
     {
         let costs = ring_of(alloc, book.costs())?;
-        let proposals = Proposals::open(alloc, book.rows().limits())?;
         let graph = Graph::of_rows(alloc, book.rows())?;
-        let (prices, scratch) = workspace(alloc, graph.net())?;
+        Pool::of_graph(alloc, graph, costs)
+    }
+
+    // The pool of a graph, with these costs. Fails only if memory is refused.
+    fn of_graph(
+        alloc: Global,
+        graph: Graph,
+        costs: HeapCircularBuffer<i64>,
+    ) -> Result<Pool, AllocError>
+        requires capacity { costs.capacity ≡ 8 }
+        requires costs { All (λ cost. is_cost cost ≡ true) costs.items }
+        ensures rows { IfOk result (λ pool. pool.rows ≡ graph.rows) }
+        ensures costs { IfOk result (λ pool. pool.costs ≡ costs.items) }
+        ensures asked { IfOk result (λ pool. pool.asked ≡ graph.asked) }
+        ensures counts { IfOk result (λ pool. (pool.workspace.begins ≡ 0) × (pool.workspace.searches ≡ 0)
+            × (pool.workspace.looks ≡ 0)) }
+    {
+        let (proposals, prices, scratch) = workspace(alloc, &graph)?;
         Ok(Pool {
             graph,
             proposals,
@@ -350,13 +357,16 @@ fn ring_of(alloc: Global, costs: RecentCosts) -> Result<HeapCircularBuffer<i64>,
     Ok(ring)
 }
 
-// The workspace of the rounds of a net.
-fn workspace(alloc: Global, net: &Net) -> Result<(Prices, Scratch), AllocError>
-    ensures limits { IfOk result (λ made. (made.0.limits ≡ limits_of net.now) × (made.1.limits ≡ limits_of net.now)) }
-    ensures counts { IfOk result (λ made. (made.1.begins ≡ 0) × (made.1.searches ≡ 0) × (made.1.looks ≡ 0)) }
+// What proposes and what searches the rounds of a graph.
+fn workspace(alloc: Global, graph: &Graph) -> Result<(Proposals, Prices, Scratch), AllocError>
+    ensures prices { IfOk result (λ made. IsMadeFor made.1.limits graph.now.rows.limits) }
+    ensures scratch { IfOk result (λ made. IsMadeFor made.2.limits graph.now.rows.limits) }
+    ensures counts { IfOk result (λ made. (made.2.begins ≡ 0) × (made.2.searches ≡ 0) × (made.2.looks ≡ 0)) }
 {
-    let prices = Prices::new(alloc, net)?;
-    Ok((prices, Scratch::new(alloc, net)?))
+    let proposals = Proposals::open(alloc, graph.rows().limits())?;
+    let prices = Prices::new(alloc, graph.net())?;
+    let scratch = Scratch::new(alloc, graph.net())?;
+    Ok((proposals, prices, scratch))
 }
 
 // The outcome of adding a row.
