@@ -25,10 +25,18 @@ pub(crate) enum Part {
 }
 
 // A tenant, and how far its round has come.
-#[derive(Drop)]
 pub(crate) struct Occupant {
     tenant: Tenant,
     part: Part,
+}
+
+impl Drop for Occupant {
+    // Written out, so that who drops an occupant has one call for it.
+    fn drop(self) {
+        let Self { tenant, part } = self;
+        drop(tenant);
+        drop(part);
+    }
 }
 
 impl Occupant {

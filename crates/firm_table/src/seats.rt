@@ -1,15 +1,15 @@
 //! A place of the table: its occupant, and how often it was used.
 
 ghost use Rattle.std.specs.Prelude.{◌≡◌, ℕ, Bool, true, false, IfOk};
-ghost use Rattle.firm_rules.specs.Book.{opening_book};
-ghost use Rattle.firm_table.specs.Interleaving.{home, next_ticket, unused_seat, is_held, taken_by};
+ghost use Rattle.firm_table.specs.Interleaving.{next_ticket, is_held, taken_by};
 ghost use Rattle.firm_table.specs.Interleaving.{posted, asked, solved, collected, admitted, retired, local};
 ghost use Rattle.firm_table.specs.Fitting.{asks};
 ghost use Rattle.firm_table.specs.inner.Seats.{Becomes};
+ghost use Rattle.firm_table.specs.inner.Tables.{first_seat};
 
 use crate::events::{Answer, Event};
 use crate::occupants::Occupant;
-use firm_rules::{Command, Limits, Ticket};
+use firm_rules::{Command, Limits, Name, Ticket};
 use firm_tenant::steps_count_once;
 use firm_text::MOST_ADMISSIONS;
 use std::alloc::{AllocError, Global};
@@ -36,22 +36,18 @@ impl Model for Seat {
 }
 
 impl Seat {
-    // A place that was never given.
-    pub(crate) fn unused() -> Seat
-        ensures { result ≡ unused_seat }
+    // A place before the first event: given for the first time, to the tenant of the roster's row, which is home, or
+    // never, if there is no row.
+    pub(crate) fn first(alloc: Global, row: Option<(Name, Limits)>) -> Result<Seat, AllocError>
+        ensures { IfOk result (λ seat. seat ≡ first_seat row) }
     {
-        Seat {
-            occupant: None,
-            rounds: 0,
-            admissions: 0,
-        }
-    }
-
-    // A place given for the first time, to a tenant with these limits, which is home.
-    pub(crate) fn given(alloc: Global, limits: Limits) -> Result<Seat, AllocError>
-        ensures { IfOk result (λ seat. seat
-            ≡ record { station = home (opening_book limits); rounds = 0; admissions = 1 }) }
-    {
+        let Some((_, limits)) = row else {
+            return Ok(Seat {
+                occupant: None,
+                rounds: 0,
+                admissions: 0,
+            });
+        };
         Ok(Seat {
             occupant: Some(Occupant::admit(alloc, limits)?),
             rounds: 0,

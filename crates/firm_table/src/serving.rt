@@ -1,13 +1,12 @@
 //! The service on one thread: the lines of an input are answered in turn.
 
-ghost use Rattle.std.specs.Prelude.{◌≡◌, ◌≤◌, ◌^◌, Bool, [], false, option_map, OnOk, IfOk, IfErr};
+ghost use Rattle.std.specs.Prelude.{◌≡◌, ◌≤◌, ◌^◌, Bool, [], false, OnOk, IfOk, IfErr};
 ghost use Rattle.firm_table.specs.Ends.{ServedTo};
 ghost use Rattle.firm_table.specs.Openings.{places_opened};
 ghost use Rattle.firm_table.specs.Progress.{state_is, tenants_at};
 ghost use Rattle.firm_table.specs.Service.{Answers, Served, Stopped, UpToDate, between, device};
 ghost use Rattle.firm_table.specs.Service.{AnswersFrom, ServedFrom, StoppedFrom};
 ghost use Rattle.firm_table.specs.declared.faults.ServeFault.TheVariants.{Read};
-ghost use Rattle.firm_table.specs.inner.Books.{book_named};
 ghost use Rattle.firm_table.specs.inner.Granting.{ToldAs};
 ghost use Rattle.firm_table.specs.inner.Serving.{state_of};
 
@@ -17,8 +16,7 @@ use crate::openings::Opening;
 use crate::reading::serve_lines;
 use crate::tenants::Tenants;
 use crate::writing::write_held;
-use firm_rules::Name;
-use firm_tenant::{Tenant, unmarked_steps_are_granted};
+use firm_tenant::unmarked_steps_are_granted;
 use firm_text::{Line, Roster, Sink, Source, refuses_for_the_form};
 use std::alloc::{AllocError, Global};
 
@@ -105,7 +103,7 @@ pub fn serve_to_state<R: Source, W: Sink>(
         return Err(ServeFault::Memory);
     };
     match serve_lines(reader, writer, &mut service, most) {
-        Ok(()) => Ok(service.into_tenants()),
+        Ok(()) => Ok(service.tenants),
         Err(fault) => Err(fault),
     }
 }
@@ -116,7 +114,7 @@ pub(crate) struct Service<'a> {
     alloc: Global,
     // Only clauses read it.
     opening: Opening<'a>,
-    tenants: Tenants,
+    pub(crate) tenants: Tenants,
     output: Vec<u8>,
     // Whether the service ends where memory is refused to a line.
     all_granted: bool,
@@ -141,25 +139,6 @@ impl<'a> Service<'a> {
         })
     }
 
-    // The tenants, once all is written.
-    fn into_tenants(self) -> Tenants
-        ensures { result ≡ self.entry.tenants }
-    {
-        let Service { tenants, .. } = self;
-        tenants
-    }
-
-    // Whether the last line was answered by a solved round.
-    pub(crate) fn has_solved(&self) -> bool {
-        self.tenants.has_solved()
-    }
-
-    // The tenant of this name, if it is there.
-    pub(crate) fn tenant_of(&self, name: Name) -> Option<&Tenant>
-        ensures { option_map (λ tenant. tenant.now) result ≡ book_named self.now.tenants name }
-    {
-        self.tenants.tenant_of(name)
-    }
 }
 
 // The clerk that answers each line at once, and holds answers back only to write many in one call.

@@ -1,13 +1,12 @@
 //! The tenants of a roster as one table, on which one event happens at a time.
 
-ghost use Rattle.std.specs.Prelude.{◌≡◌, ◌≢◌, ℕ, ◌+◌, ◌≤◌, ◌++◌, ◌↔◌, false, IfOk, length, slice_get};
+ghost use Rattle.std.specs.Prelude.{◌≡◌, ◌≢◌, ℕ, ◌+◌, ◌≤◌, ◌++◌, ◌↔◌, false, IfOk, length};
 ghost use Rattle.std.specs.VecDeque.{deque_capacity, deque_len};
 ghost use Rattle.std.specs.List.{list_any};
 ghost use Rattle.firm_table.specs.Interleaving.{opening_seats, opening_table, event_place, place_held, is_held};
 ghost use Rattle.firm_table.specs.Interleaving.{queue_more};
 ghost use Rattle.firm_table.specs.Fitting.{IsEventStep, fits};
 ghost use Rattle.firm_table.specs.inner.Events.{IsDone};
-ghost use Rattle.firm_table.specs.inner.Tables.{first_seat};
 
 use crate::events::{Answer, Event};
 use crate::seats::Seat;
@@ -132,19 +131,9 @@ fn seats_of(alloc: Global, roster: &Roster) -> Result<Vec<Seat>, AllocError>
     prove!(roster.len() <= PLACES);
     let mut seats = Vec::with_capacity(alloc, PLACES)?;
     for place in 0..PLACES {
-        seats.push(first_seat(alloc, roster, place)?)?;
+        seats.push(Seat::first(alloc, roster.get(place))?)?;
     }
     Ok(seats)
-}
-
-// The seat of the roster's tenant at a place, or an unused one if there is none.
-fn first_seat(alloc: Global, roster: &Roster, place: usize) -> Result<Seat, AllocError>
-    ensures { IfOk result (λ seat. seat ≡ first_seat (slice_get roster.now place)) }
-{
-    match roster.get(place) {
-        Some((_, limits)) => Seat::given(alloc, limits),
-        None => Ok(Seat::unused()),
-    }
 }
 
 // Puts the ticket of a round that was asked for at the back of the queue.

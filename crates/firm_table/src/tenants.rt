@@ -25,12 +25,23 @@ use std::alloc::{AllocError, Global};
 use std::marker::Model;
 
 /// The tenants at the 64 places of a service, and the register of which tenant has which place.
-#[derive(Drop)]
 pub struct Tenants {
     register: Register,
     places: Vec<Option<Tenant>>,
     // Whether the last answer is the reply to a solved round.
     has_solved: bool,
+}
+
+impl Drop for Tenants {
+    // Written out, so that who owns the tenants has one call where they are dropped.
+    fn drop(self) {
+        let Self {
+            register: _,
+            places,
+            has_solved: _,
+        } = self;
+        drop(places);
+    }
 }
 
 impl Model for Tenants {

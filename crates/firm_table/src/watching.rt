@@ -96,7 +96,7 @@ impl<V: Watcher> Watched<'_, '_, V> {
         ensures same { self.new.service ≡ self.old.service }
         ensures shown { IfSome (book_named self.old.service.tenants name) (V.awaits self.new.watcher.now name) }
     {
-        if let Some(tenant) = self.service.tenant_of(name) {
+        if let Some(tenant) = self.service.tenants.tenant_of(name) {
             self.watcher
                 .before_round(name, tenant.rows(), tenant.costs(), tenant.given());
         }
@@ -116,7 +116,7 @@ impl<V: Watcher> Watched<'_, '_, V> {
         ensures opening { places_opened self.new.service.opening ≡ places_opened self.old.service.opening }
     {
         self.service.finish(writer)?;
-        let Some(tenant) = self.service.tenant_of(name) else {
+        let Some(tenant) = self.service.tenants.tenant_of(name) else {
             return Ok(());
         };
         match self.watcher.after_round(name, tenant.rows()) {
@@ -146,7 +146,7 @@ impl<V: Watcher> Clerk for Watched<'_, '_, V> {
         };
         self.show_before(name);
         self.service.answer(writer, line)?;
-        if self.service.has_solved() {
+        if self.service.tenants.has_solved() {
             self.show_after(writer, name)?;
         }
         Ok(())

@@ -39,7 +39,7 @@ returns-in-Ok-serve_lines-clause-served g c =
     let e = c.in-Ok-serve_lines.ensures in
     served_to (places_opened c.args.opening) c.serve_lines.new.clerk.all_granted
     (state_of c.serve_lines.new.clerk) c.args.most _ _ _ same
-    (c.serve_lines.ensures.kept ∙ c.in-Ok.ensures.granted) c.into_tenants.ensures e.finished e.told
+    (c.serve_lines.ensures.kept ∙ c.in-Ok.ensures.granted) refl e.finished e.told
     (rw began at e.served)
 
 pub returns-in-Err-clause-in_full : goal.returns-in-Err-clause-in_full
