@@ -132,8 +132,10 @@ fn answer_first<'b, W: Sink, C: Clerk>(
         return Ok(behind);
     }
     let line = cutter.take();
-    clerk.answer(writer, line)?;
-    Ok(behind)
+    match clerk.answer(writer, line) {
+        Ok(()) => Ok(behind),
+        Err(fault) => Err(fault),
+    }
 }
 
 // Answers the unterminated last line and writes all answers.

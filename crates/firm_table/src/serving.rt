@@ -165,13 +165,15 @@ impl Clerk for Service<'_> {
             unmarked_steps_are_granted();
             refuses_for_the_form();
             self.output.truncate(before);
-            write_held(writer, &mut self.output)?;
-            return Err(ServeFault::Memory);
+            return match write_held(writer, &mut self.output) {
+                Ok(()) => Err(ServeFault::Memory),
+                Err(fault) => Err(fault),
+            };
         };
-        if self.output.len() >= FULL {
-            write_held(writer, &mut self.output)?;
+        if self.output.len() < FULL {
+            return Ok(());
         }
-        Ok(())
+        write_held(writer, &mut self.output)
     }
 
     fn write_out<S: Source, W: Sink>(

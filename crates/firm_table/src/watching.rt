@@ -102,7 +102,7 @@ impl<V: Watcher> Watched<'_, '_, V> {
         }
     }
 
-    // Shows the rows after a round, once all answers are written.
+    // Shows the rows after a round, if the last answer is the reply to one, once all answers are written.
     fn show_after<W: Sink>(&mut self, writer: &mut W, name: Name) -> Result<(), ServeFault>
         requires { W.write_failed writer.old ≡ false }
         ensures told { OnOk result ((text : List ℕ) (written : Option (List ℕ))
@@ -115,6 +115,9 @@ impl<V: Watcher> Watched<'_, '_, V> {
         ensures well { OnOk result (W.write_failed writer.new ≡ false) }
         ensures opening { places_opened self.new.service.opening ≡ places_opened self.old.service.opening }
     {
+        if !self.service.tenants.has_solved() {
+            return Ok(());
+        }
         self.service.finish(writer)?;
         let Some(tenant) = self.service.tenants.tenant_of(name) else {
             return Ok(());
@@ -145,11 +148,10 @@ impl<V: Watcher> Clerk for Watched<'_, '_, V> {
             return self.service.answer(writer, line);
         };
         self.show_before(name);
-        self.service.answer(writer, line)?;
-        if self.service.tenants.has_solved() {
-            self.show_after(writer, name)?;
+        match self.service.answer(writer, line) {
+            Ok(()) => self.show_after(writer, name),
+            Err(fault) => Err(fault),
         }
-        Ok(())
     }
 
     fn write_out<S: Source, W: Sink>(

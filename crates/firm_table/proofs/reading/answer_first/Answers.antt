@@ -1,6 +1,5 @@
-use Rattle.std.proofs.Common.{◌≡◌, ◌∙◌, rules, sym, ap, take, drop, List, ℕ, [], ◌∷◌, ◌++◌, append-nil, true}
+use Rattle.std.proofs.Common.{◌≡◌, ◌∙◌, refl, rules, sym, ap, take, drop, List, ℕ, [], ◌∷◌, ◌++◌, append-nil, true}
 use Rattle.std.proofs.lemmas.List.{append_cancel_right, take-append-drop}
-use Rattle.std.proofs.lemmas.Result.{err_from_is_err_and}
 use Rattle.std.specs.List.{position_or_len}
 use Rattle.firm_text.specs.Inputs.{input_lines}
 use Rattle.firm_text.specs.Lines.{is_line_feed}
@@ -8,27 +7,26 @@ use Rattle.firm_text.specs.declared.inputs.Line.{Line}
 use Rattle.firm_table.proofs.Pieces.{cut_at, both_ended, ended_more, halts_at, input_more}
 use Rattle.firm_table.proofs.reading.answer_first.Goals as goal
 
-pub returns-in_err-answer-clause-halted : goal.returns-in_err-answer-clause-halted
-returns-in_err-answer-clause-halted g c =
-    let p = err_from_is_err_and c.from_residual.result c.from_residual.ensures.1 in
+pub returns-in-Err-clause-halted : goal.returns-in-Err-clause-halted
+returns-in-Err-clause-halted g c =
     let bytes : List ℕ = take (position_or_len is_line_feed c.args.piece.now) c.args.piece.now in
     let ended : c.feed-fed.result.ended ≡ true = search rules in
     let behind : drop c.feed-fed.result.used c.args.piece.now ≡ c.split_at.result.1.now = cc in
     let whole : c.args.piece.now ≡ (bytes ++ 10 ∷ []) ++ c.split_at.result.1.now =
     cut_at c.args.piece.now c.feed-fed.result.used (sym c.feed-fed.ensures.ended ∙ ended) c.feed-fed.ensures.used
     ∙ ap (λ (l : List ℕ). (bytes ++ 10 ∷ []) ++ l) behind in
-    rw p.1 (λ heard written h.
+    λ heard written h.
     let stands = c.feed-fed.ensures.stands h.rest h.stands in
     halts_at (g.C.Clerk.opening c.args.clerk.now) heard h.text h.rest bytes c.args.piece.now c.split_at.result.1.now
     written _ h.both whole
     (ended_more h.text (h.rest ++ bytes) h.ended stands.in_line).ends
-    (c.in_err-answer.ensures.begins h.text (h.text ++ ((h.rest ++ bytes) ++ 10 ∷ [])) written
+    (c.in-Err.ensures.begins h.text (h.text ++ ((h.rest ++ bytes) ++ 10 ∷ [])) written
     (input_more h.text (h.rest ++ bytes) h.ended stands.in_line
     ∙ ap (λ (l : Line). input_lines h.text ++ l ∷ []) (sym (c.take-line.ensures.line (h.rest ++ bytes) stands)))
-    h.told))
+    h.told)
 
-pub returns-clause-heard : goal.returns-clause-heard
-returns-clause-heard g c heard front written cut h =
+pub returns-in-Ok-clause-heard : goal.returns-in-Ok-clause-heard
+returns-in-Ok-clause-heard g c heard front written cut h =
     let bytes : List ℕ = take (position_or_len is_line_feed c.args.piece.now) c.args.piece.now in
     let ended : c.feed-fed.result.ended ≡ true = search rules in
     let behind : drop c.feed-fed.result.used c.args.piece.now ≡ c.split_at.result.1.now = cc in
@@ -44,39 +42,37 @@ returns-clause-heard g c heard front written cut h =
       both = both_ended heard h.text h.rest bytes front h.both same ∙ sym (append-nil _);
       ended = ended_more h.text (h.rest ++ bytes) h.ended stands.in_line;
       stands = c.take-line.ensures.stands;
-      told = c.in_ok-answer.ensures.told h.text (h.text ++ ((h.rest ++ bytes) ++ 10 ∷ [])) written
+      told = c.in-Ok.ensures.told h.text (h.text ++ ((h.rest ++ bytes) ++ 10 ∷ [])) written
           (input_more h.text (h.rest ++ bytes) h.ended stands.in_line
           ∙ ap (λ (l : Line). input_lines h.text ++ l ∷ [])
           (sym (c.take-line.ensures.line (h.rest ++ bytes) stands)))
           h.told;
     }
 
-pub returns-in_err-answer-clause-part : goal.returns-in_err-answer-clause-part
-returns-in_err-answer-clause-part g c = rw (err_from_is_err_and c.from_residual.result c.from_residual.ensures.1).1 tt
+pub returns-in-Err-clause-part : goal.returns-in-Err-clause-part
+returns-in-Err-clause-part g c = tt
 
-pub returns-in_err-answer-clause-shorter : goal.returns-in_err-answer-clause-shorter
-returns-in_err-answer-clause-shorter g c =
-    rw (err_from_is_err_and c.from_residual.result c.from_residual.ensures.1).1 tt
+pub returns-in-Err-clause-shorter : goal.returns-in-Err-clause-shorter
+returns-in-Err-clause-shorter g c = tt
 
-pub returns-in_err-answer-clause-heard : goal.returns-in_err-answer-clause-heard
-returns-in_err-answer-clause-heard g c = rw (err_from_is_err_and c.from_residual.result c.from_residual.ensures.1).1 tt
+pub returns-in-Err-clause-heard : goal.returns-in-Err-clause-heard
+returns-in-Err-clause-heard g c = tt
 
-pub returns-in_err-answer-clause-cut : goal.returns-in_err-answer-clause-cut
-returns-in_err-answer-clause-cut g c = rw (err_from_is_err_and c.from_residual.result c.from_residual.ensures.1).1 tt
+pub returns-in-Err-clause-cut : goal.returns-in-Err-clause-cut
+returns-in-Err-clause-cut g c = tt
 
-pub returns-in_err-answer-clause-well : goal.returns-in_err-answer-clause-well
-returns-in_err-answer-clause-well g c = rw (err_from_is_err_and c.from_residual.result c.from_residual.ensures.1).1 tt
+pub returns-in-Err-clause-well : goal.returns-in-Err-clause-well
+returns-in-Err-clause-well g c = tt
 
-pub returns-in_err-answer-clause-cause : goal.returns-in_err-answer-clause-cause
-returns-in_err-answer-clause-cause g c =
-    let p = err_from_is_err_and c.from_residual.result c.from_residual.ensures.1 in
-    rw (p.1, p.2) c.in_err-answer.ensures.cause
+pub returns-in-Err-clause-cause : goal.returns-in-Err-clause-cause
+returns-in-Err-clause-cause g c =
+    c.in-Err.ensures.cause
 
-pub returns-clause-halted : goal.returns-clause-halted
-returns-clause-halted g c = tt
+pub returns-in-Ok-clause-halted : goal.returns-in-Ok-clause-halted
+returns-in-Ok-clause-halted g c = tt
 
-pub returns-clause-cause : goal.returns-clause-cause
-returns-clause-cause g c = tt
+pub returns-in-Ok-clause-cause : goal.returns-in-Ok-clause-cause
+returns-in-Ok-clause-cause g c = tt
 
 pub returns-then-not-fed-clause-halted : goal.returns-then-not-fed-clause-halted
 returns-then-not-fed-clause-halted g c = tt
@@ -91,9 +87,42 @@ returns-then-not-fed-clause-part g c = (
       (sym (take-append-drop c.feed-fed.result.used c.args.piece.now)),
 )
 
-pub returns-clause-part : goal.returns-clause-part
-returns-clause-part g c = (
+pub returns-in-Ok-clause-part : goal.returns-in-Ok-clause-part
+returns-in-Ok-clause-part g c = (
   c.split_at.result.0.now,
   rw (c.split_at.ensures.front, c.split_at.ensures.back)
       (sym (take-append-drop c.feed-fed.result.used c.args.piece.now)),
 )
+
+pub returns-then-not-fed-clause-open : goal.returns-then-not-fed-clause-open
+returns-then-not-fed-clause-open g c = c.requires.open
+
+pub returns-then-not-fed-clause-opening : goal.returns-then-not-fed-clause-opening
+returns-then-not-fed-clause-opening g c = refl
+
+pub returns-then-not-fed-clause-kept : goal.returns-then-not-fed-clause-kept
+returns-then-not-fed-clause-kept g c = refl
+
+pub returns-then-not-fed-clause-well : goal.returns-then-not-fed-clause-well
+returns-then-not-fed-clause-well g c = c.requires.writer
+
+pub returns-in-Ok-clause-open : goal.returns-in-Ok-clause-open
+returns-in-Ok-clause-open g c = c.in-Ok.ensures.open
+
+pub returns-in-Ok-clause-opening : goal.returns-in-Ok-clause-opening
+returns-in-Ok-clause-opening g c = c.in-Ok.ensures.opening
+
+pub returns-in-Ok-clause-kept : goal.returns-in-Ok-clause-kept
+returns-in-Ok-clause-kept g c = c.in-Ok.ensures.kept
+
+pub returns-in-Ok-clause-well : goal.returns-in-Ok-clause-well
+returns-in-Ok-clause-well g c = c.in-Ok.ensures.well
+
+pub returns-in-Err-clause-open : goal.returns-in-Err-clause-open
+returns-in-Err-clause-open g c = c.in-Err.ensures.open
+
+pub returns-in-Err-clause-opening : goal.returns-in-Err-clause-opening
+returns-in-Err-clause-opening g c = c.in-Err.ensures.opening
+
+pub returns-in-Err-clause-kept : goal.returns-in-Err-clause-kept
+returns-in-Err-clause-kept g c = c.in-Err.ensures.kept

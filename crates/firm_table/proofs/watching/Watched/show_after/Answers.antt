@@ -1,4 +1,4 @@
-use Rattle.std.proofs.Common.{List, subst}
+use Rattle.std.proofs.Common.{List, refl, subst}
 use Rattle.firm_table.specs.Places.{Place}
 use Rattle.firm_table.specs.Service.{BeginsAnswersFrom}
 use Rattle.firm_table.proofs.Progress.{told_begins}
@@ -8,3 +8,18 @@ pub returns-in-Err-clause-begins : goal.returns-in-Err-clause-begins
 returns-in-Err-clause-begins g c text written told =
     subst (λ (places : List Place). BeginsAnswersFrom places text written (g.W.Sink.written c.finish.new.writer))
     c.in_ok-finish.ensures.opening (told_begins _ text written _ (c.in_ok-finish.ensures.told text written told).told)
+
+pub returns-then-not-has_solved-clause-told : goal.returns-then-not-has_solved-clause-told
+returns-then-not-has_solved-clause-told g c = λ text written told. told
+
+pub returns-then-not-has_solved-clause-begins : goal.returns-then-not-has_solved-clause-begins
+returns-then-not-has_solved-clause-begins g c = tt
+
+pub returns-then-not-has_solved-clause-cause : goal.returns-then-not-has_solved-clause-cause
+returns-then-not-has_solved-clause-cause g c = tt
+
+pub returns-then-not-has_solved-clause-well : goal.returns-then-not-has_solved-clause-well
+returns-then-not-has_solved-clause-well g c = c.requires
+
+pub returns-then-not-has_solved-clause-opening : goal.returns-then-not-has_solved-clause-opening
+returns-then-not-has_solved-clause-opening g c = refl
