@@ -1,7 +1,7 @@
 -- Words that are added to a text one group after the other.
 use Rattle.std.proofs.Common.{◌≡◌, ◌∙◌, ◌+◌, ◌<◌, ◌≤◌, ℕ, List, [], ◌∷◌, ◌++◌, ap, sym, append_assoc, Result, Ok, Err}
 use Rattle.std.proofs.Common.{length, get_or, drop, add-one, drop-cons}
-use Rattle.std.specs.Prelude.{OnOk, codes}
+use Rattle.std.specs.Prelude.{OnOk, codes, is_ok, if◌then◌else◌}
 use Rattle.std.specs.Fmt.{decimal}
 use Rattle.std.specs.Io.{StartsWith}
 use Rattle.std.proofs.Transfers.{starts_with_of_append, starts_with_trans}
@@ -49,6 +49,29 @@ place_added (Ok done) text new n e =
     e ∙ append_assoc text (codes "place admissions ") (decimal n)
     ∙ ap (λ (l : List ℕ). text ++ (codes "place admissions " ++ l)) (sym (append-nil (decimal n)))
 place_added (Err refused) text new n e = tt
+
+-- the same, where the last was added with success
+pub then_added : {A E : Type 0} (result : Result A E) (new first text a b all : List ℕ)
+    → first ≡ text ++ a → OnOk result (new ≡ first ++ b) → a ++ b ≡ all → OnOk result (new ≡ text ++ all)
+then_added (Ok done) new first text a b all e f same = two_added new first text a b all e f same
+then_added (Err refused) new first text a b all e f same = tt
+
+-- what was added last with success stands behind what was there
+pub last_added : {A E : Type 0} (result : Result A E) (new first text b : List ℕ)
+    → first ≡ text → OnOk result (new ≡ first ++ b) → OnOk result (new ≡ text ++ b)
+last_added (Ok done) new first text b e f = f ∙ ap (λ (l : List ℕ). l ++ b) e
+last_added (Err refused) new first text b e f = tt
+
+-- what the library says of bytes that were added: they were added with success, and what stood before was kept
+pub bytes_added : {A E : Type 0} (result : Result A E) (new text bytes : List ℕ)
+    → new ≡ (if is_ok result then text ++ bytes else text) → OnOk result (new ≡ text ++ bytes)
+bytes_added (Ok done) new text bytes e = e
+bytes_added (Err refused) new text bytes e = tt
+
+pub bytes_kept : {A E : Type 0} (result : Result A E) (new text bytes : List ℕ)
+    → new ≡ (if is_ok result then text ++ bytes else text) → StartsWith new text
+bytes_kept (Ok done) new text bytes e = starts_with_of_append new text bytes e
+bytes_kept (Err refused) new text bytes e = starts_with_of_append new text [] (e ∙ sym (append-nil text))
 
 -- three parts that were added one after the other
 pub three_joined : (text first second new a b d all : List ℕ)

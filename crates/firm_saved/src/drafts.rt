@@ -24,11 +24,23 @@ use std::alloc::{AllocError, Global};
 use std::mem;
 
 /// The places that were read, how often the last of them was given, and its tenant so far.
-#[derive(Drop)]
 pub struct Draft {
     before: Vec<SavedPlace>,
     present: Option<u32>,
     tenant: Option<TenantDraft>,
+}
+
+impl Drop for Draft {
+    // Written out, so that who owns a draft has one call where it is dropped.
+    fn drop(self) {
+        let Self {
+            before,
+            present: _,
+            tenant,
+        } = self;
+        drop(before);
+        drop(tenant);
+    }
 }
 
 impl Draft {

@@ -26,9 +26,16 @@ impl SavedPlace {
 }
 
 /// The 64 places of a service in their order.
-#[derive(Drop)]
 pub struct Saved {
     places: Vec<SavedPlace>,
+}
+
+impl Drop for Saved {
+    // Written out, so that who owns a state has one call where it is dropped.
+    fn drop(self) {
+        let Self { places } = self;
+        drop(places);
+    }
 }
 
 impl Model for Saved {

@@ -1,5 +1,6 @@
 use Rattle.std.proofs.Common.{map, ◌++◌, refl}
 use Rattle.std.specs.List.{flat_map}
+use Rattle.std.proofs.lemmas.Result.{err_from_is_err_and}
 use Rattle.firm_saved.specs.StateText.{row_text}
 use Rattle.firm_saved.specs.declared.rows.Row.TheVariants as row
 use Rattle.firm_saved.proofs.Puts.{kept_trans, three_joined}
@@ -25,3 +26,36 @@ returns-in_err-put_rows-clause-kept c =
 pub returns-clause-kept : goal.returns-clause-kept
 returns-clause-kept c =
     kept_trans _ _ _ c.put_rows.ensures.kept (kept_trans _ _ _ c.put_row-2.ensures.kept c.put_row.ensures.kept)
+
+pub returns-in_err-put_row-clause-added : goal.returns-in_err-put_row-clause-added
+returns-in_err-put_row-clause-added c = rw (err_from_is_err_and c.from_residual.result c.from_residual.ensures.1).1 tt
+
+pub returns-in_err-put_row-clause-count : goal.returns-in_err-put_row-clause-count
+returns-in_err-put_row-clause-count c = rw (err_from_is_err_and c.from_residual.result c.from_residual.ensures.1).1 tt
+
+pub returns-in_err-put_row-clause-few : goal.returns-in_err-put_row-clause-few
+returns-in_err-put_row-clause-few c = rw (err_from_is_err_and c.from_residual.result c.from_residual.ensures.1).1 tt
+
+pub returns-in_err-put_row-2-clause-added : goal.returns-in_err-put_row-2-clause-added
+returns-in_err-put_row-2-clause-added c =
+    rw (err_from_is_err_and c.from_residual-in_err-put_row-2.result c.from_residual-in_err-put_row-2.ensures.1).1 tt
+
+pub returns-in_err-put_row-2-clause-count : goal.returns-in_err-put_row-2-clause-count
+returns-in_err-put_row-2-clause-count c =
+    rw (err_from_is_err_and c.from_residual-in_err-put_row-2.result c.from_residual-in_err-put_row-2.ensures.1).1 tt
+
+pub returns-in_err-put_row-2-clause-few : goal.returns-in_err-put_row-2-clause-few
+returns-in_err-put_row-2-clause-few c =
+    rw (err_from_is_err_and c.from_residual-in_err-put_row-2.result c.from_residual-in_err-put_row-2.ensures.1).1 tt
+
+pub returns-in_err-put_rows-clause-added : goal.returns-in_err-put_rows-clause-added
+returns-in_err-put_rows-clause-added c =
+    rw (err_from_is_err_and c.from_residual-in_err-put_rows.result c.from_residual-in_err-put_rows.ensures.1).1 tt
+
+pub returns-in_err-put_rows-clause-count : goal.returns-in_err-put_rows-clause-count
+returns-in_err-put_rows-clause-count c =
+    rw (err_from_is_err_and c.from_residual-in_err-put_rows.result c.from_residual-in_err-put_rows.ensures.1).1 tt
+
+pub returns-in_err-put_rows-clause-few : goal.returns-in_err-put_rows-clause-few
+returns-in_err-put_rows-clause-few c =
+    rw (err_from_is_err_and c.from_residual-in_err-put_rows.result c.from_residual-in_err-put_rows.ensures.1).1 tt

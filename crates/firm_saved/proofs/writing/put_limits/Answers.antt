@@ -1,5 +1,6 @@
 use Rattle.std.proofs.Common.{refl}
 use Rattle.std.specs.List.{flat_map}
+use Rattle.std.proofs.lemmas.Result.{err_from_is_err_and}
 use Rattle.firm_text.specs.Replies.{spaced}
 use Rattle.firm_saved.specs.StateText.{limits_words, patience_words}
 use Rattle.firm_saved.proofs.Puts.{kept_trans, labels_added}
@@ -62,3 +63,27 @@ returns-clause-kept c =
     (kept_trans _ _ _ c.put_labelled-4.ensures.kept
     (kept_trans _ _ _ c.put_labelled-3.ensures.kept
     (kept_trans _ _ _ c.put_labelled-2.ensures.kept c.put_labelled.ensures.kept)))))
+
+pub returns-in_err-put_labelled-clause-added : goal.returns-in_err-put_labelled-clause-added
+returns-in_err-put_labelled-clause-added c =
+    rw (err_from_is_err_and c.from_residual.result c.from_residual.ensures.1).1 tt
+
+pub returns-in_err-put_labelled-2-clause-added : goal.returns-in_err-put_labelled-2-clause-added
+returns-in_err-put_labelled-2-clause-added c =
+    rw (err_from_is_err_and c.from_residual-in_err-put_labelled-2.result c.from_residual-in_err-put_labelled-2.ensures.1).1 tt
+
+pub returns-in_err-put_labelled-3-clause-added : goal.returns-in_err-put_labelled-3-clause-added
+returns-in_err-put_labelled-3-clause-added c =
+    rw (err_from_is_err_and c.from_residual-in_err-put_labelled-3.result c.from_residual-in_err-put_labelled-3.ensures.1).1 tt
+
+pub returns-in_err-put_labelled-4-clause-added : goal.returns-in_err-put_labelled-4-clause-added
+returns-in_err-put_labelled-4-clause-added c =
+    rw (err_from_is_err_and c.from_residual-in_err-put_labelled-4.result c.from_residual-in_err-put_labelled-4.ensures.1).1 tt
+
+pub returns-in_err-put_labelled-5-clause-added : goal.returns-in_err-put_labelled-5-clause-added
+returns-in_err-put_labelled-5-clause-added c =
+    rw (err_from_is_err_and c.from_residual-in_err-put_labelled-5.result c.from_residual-in_err-put_labelled-5.ensures.1).1 tt
+
+pub returns-in_err-put_labelled-6-clause-added : goal.returns-in_err-put_labelled-6-clause-added
+returns-in_err-put_labelled-6-clause-added c =
+    rw (err_from_is_err_and c.from_residual-in_err-put_labelled-6.result c.from_residual-in_err-put_labelled-6.ensures.1).1 tt

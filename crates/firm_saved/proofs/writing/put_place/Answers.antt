@@ -1,5 +1,6 @@
 use Rattle.std.proofs.Common.{◌≡◌, ◌∙◌, ◌++◌, List, ℕ, ap, refl, sym}
 use Rattle.std.specs.List.{flat_map}
+use Rattle.std.proofs.lemmas.Result.{err_from_is_err_and}
 use Rattle.firm_rules.specs.Book.{Book}
 use Rattle.firm_saved.specs.StateText.{book_rows, place_rows, row_text, tenant_rows}
 use Rattle.firm_saved.specs.declared.rows.Row.{Row}
@@ -29,3 +30,24 @@ returns-in_err-count-in-Some-clause-kept c = kept_trans _ _ _ c.put_book.ensures
 
 pub returns-in_ok-count-in-Some-clause-kept : goal.returns-in_ok-count-in-Some-clause-kept
 returns-in_ok-count-in-Some-clause-kept c = kept_trans _ _ _ c.put_book.ensures.kept c.put_row.ensures.kept
+
+pub returns-in_err-put_row-clause-added : goal.returns-in_err-put_row-clause-added
+returns-in_err-put_row-clause-added c = rw (err_from_is_err_and c.from_residual.result c.from_residual.ensures.1).1 tt
+
+pub returns-in_err-put_row-clause-count : goal.returns-in_err-put_row-clause-count
+returns-in_err-put_row-clause-count c = rw (err_from_is_err_and c.from_residual.result c.from_residual.ensures.1).1 tt
+
+pub returns-in_err-put_row-clause-few : goal.returns-in_err-put_row-clause-few
+returns-in_err-put_row-clause-few c = rw (err_from_is_err_and c.from_residual.result c.from_residual.ensures.1).1 tt
+
+pub returns-in_err-count-in-Some-clause-added : goal.returns-in_err-count-in-Some-clause-added
+returns-in_err-count-in-Some-clause-added c =
+    rw (err_from_is_err_and c.from_residual-in_err-count-in-Some.result c.from_residual-in_err-count-in-Some.ensures.1).1 tt
+
+pub returns-in_err-count-in-Some-clause-count : goal.returns-in_err-count-in-Some-clause-count
+returns-in_err-count-in-Some-clause-count c =
+    rw (err_from_is_err_and c.from_residual-in_err-count-in-Some.result c.from_residual-in_err-count-in-Some.ensures.1).1 tt
+
+pub returns-in_err-count-in-Some-clause-few : goal.returns-in_err-count-in-Some-clause-few
+returns-in_err-count-in-Some-clause-few c =
+    rw (err_from_is_err_and c.from_residual-in_err-count-in-Some.result c.from_residual-in_err-count-in-Some.ensures.1).1 tt

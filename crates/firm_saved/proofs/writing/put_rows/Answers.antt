@@ -1,6 +1,7 @@
 use Rattle.std.proofs.Common.{map, ◌∙◌, ◌++◌, List, ℕ, ap, sym, append_assoc}
 use Rattle.std.specs.List.{flat_map}
 use Rattle.std.proofs.lemmas.List.Concat.{flat_map-append}
+use Rattle.std.proofs.lemmas.Result.{err_from_is_err_and}
 use Rattle.firm_saved.specs.StateText.{row_text}
 use Rattle.firm_saved.specs.declared.rows.Row.TheVariants as row
 use Rattle.firm_saved.proofs.Puts.{kept_trans, three_added}
@@ -25,3 +26,11 @@ returns-in_err-put_jobs-clause-kept c = kept_trans _ _ _ c.put_jobs.ensures.kept
 pub returns-clause-kept : goal.returns-clause-kept
 returns-clause-kept c =
     kept_trans _ _ _ c.put_tasks.ensures.kept (kept_trans _ _ _ c.put_jobs.ensures.kept c.put_machines.ensures.kept)
+
+pub returns-in_err-put_machines-clause-added : goal.returns-in_err-put_machines-clause-added
+returns-in_err-put_machines-clause-added c =
+    rw (err_from_is_err_and c.from_residual.result c.from_residual.ensures.1).1 tt
+
+pub returns-in_err-put_jobs-clause-added : goal.returns-in_err-put_jobs-clause-added
+returns-in_err-put_jobs-clause-added c =
+    rw (err_from_is_err_and c.from_residual-in_err-put_jobs.result c.from_residual-in_err-put_jobs.ensures.1).1 tt
