@@ -11,6 +11,7 @@ pub mod Places
 pub mod RowFacts
 pub mod States
 pub mod Puts
+pub mod Numbers
 pub mod LoadRows
 pub mod Allowed
 pub mod Running

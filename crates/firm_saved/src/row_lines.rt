@@ -86,13 +86,20 @@ fn limits_at(behind: &[u8]) -> Result<(Limits, &[u8]), FaultKind>
     ensures { MatchResult result (λ read. limits_at (words_behind behind.now) ≡ Ok (read.0, words_behind read.1.now))
         (λ kind. limits_at (words_behind behind.now) ≡ Err kind) }
 {
-    let (nodes, behind) = labelled_at(behind)?;
-    let (arcs, behind) = labelled_at(behind)?;
-    let (life, behind) = labelled_at(behind)?;
-    let (spread, behind) = labelled_at(behind)?;
-    let (churn, behind) = labelled_at(behind)?;
-    let (remote, behind) = labelled_at(behind)?;
-    let (patience, behind) = patience_at(behind)?;
+    let (nodes, rest) = number_in(Ok(behind));
+    let (arcs, rest) = number_in(rest);
+    let (life, rest) = number_in(rest);
+    let (spread, rest) = number_in(rest);
+    let (churn, rest) = number_in(rest);
+    let (remote, rest) = number_in(rest);
+    let behind = match rest {
+        Ok(behind) => behind,
+        Err(kind) => return Err(kind),
+    };
+    let (patience, behind) = match patience_at(behind) {
+        Ok(read) => read,
+        Err(kind) => return Err(kind),
+    };
     let Some(limits) = Limits::check(nodes, arcs, life, spread, churn, remote) else {
         return Err(FaultKind::BadNumber);
     };
@@ -100,6 +107,22 @@ fn limits_at(behind: &[u8]) -> Result<(Limits, &[u8]), FaultKind>
         return Err(FaultKind::BadNumber);
     };
     Ok((limits, behind))
+}
+
+// The number behind the next label, and what follows it or the first fault: so `limits_at` has one way out for six.
+fn number_in(read: Result<&[u8], FaultKind>) -> (u64, Result<&[u8], FaultKind>)
+    ensures { MatchResult read.entry
+        (λ was. MatchResult result.1 (λ rest. labelled_at (words_behind was.now) ≡ Ok (result.0, words_behind rest.now))
+            (λ kind. labelled_at (words_behind was.now) ≡ Err kind))
+        (λ first. MatchResult result.1 (λ _. ⊥) (λ kind. kind ≡ first)) }
+{
+    match read {
+        Ok(behind) => match labelled_at(behind) {
+            Ok((number, rest)) => (number, Ok(rest)),
+            Err(kind) => (0, Err(kind)),
+        },
+        Err(kind) => (0, Err(kind)),
+    }
 }
 
 // The patience, which stands only where it is not the longest, and the rest behind it.
