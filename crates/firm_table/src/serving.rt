@@ -138,7 +138,6 @@ impl<'a> Service<'a> {
             all_granted,
         })
     }
-
 }
 
 // The clerk that answers each line at once, and holds answers back only to write many in one call.
