@@ -25,7 +25,8 @@ pass : {X B : Type 0} (words : X → List (List ℕ)) (read next : Result X Faul
 pass words (Ok was) (Ok rest) n then e = ap (λ (r : Result (ℕ × List (List ℕ)) FaultKind). r >>= then) e
 pass words (Ok was) (Err kind) n then e = ap (λ (r : Result (ℕ × List (List ℕ)) FaultKind). r >>= then) e
 pass words (Err first) (Ok rest) n then e = absurd e
-pass {X} {B} words (Err first) (Err kind) n then e = ap (λ (k : FaultKind). let r : Result B FaultKind = Err k in r) (sym e)
+pass {X} {B} words (Err first) (Err kind) n then e =
+    ap (λ (k : FaultKind). let r : Result B FaultKind = Err k in r) (sym e)
 
 -- the limits of these six numbers, and the patience behind them
 abbrev pub ends : ℕ → ℕ → ℕ → ℕ → ℕ → ℕ → List (List ℕ) → Result (TenantLimits × List (List ℕ)) FaultKind
@@ -42,11 +43,14 @@ pub six_read : {X : Type 0} (words : X → List (List ℕ)) (start : X) (r1 r2 r
     → limits_at (words start) ≡ (told words r6 >>= λ w. ends n1 n2 n3 n4 n5 n6 w)
 six_read words start r1 r2 r3 r4 r5 r6 n1 n2 n3 n4 n5 n6 p1 p2 p3 p4 p5 p6 =
     pass words (Ok start) r1 n1
-    (λ a. labelled_at a.1 >>= λ b. labelled_at b.1 >>= λ d. labelled_at d.1 >>= λ e. labelled_at e.1 >>= λ f. labelled_at f.1 >>= λ g. ends a.0 b.0 d.0 e.0 f.0 g.0 g.1) p1
+    (λ a. labelled_at a.1 >>= λ b. labelled_at b.1 >>= λ d. labelled_at d.1 >>= λ e. labelled_at e.1
+    >>= λ f. labelled_at f.1 >>= λ g. ends a.0 b.0 d.0 e.0 f.0 g.0 g.1) p1
     ∙ pass words r1 r2 n2
-    (λ b. labelled_at b.1 >>= λ d. labelled_at d.1 >>= λ e. labelled_at e.1 >>= λ f. labelled_at f.1 >>= λ g. ends n1 b.0 d.0 e.0 f.0 g.0 g.1) p2
+    (λ b. labelled_at b.1 >>= λ d. labelled_at d.1 >>= λ e. labelled_at e.1 >>= λ f. labelled_at f.1
+    >>= λ g. ends n1 b.0 d.0 e.0 f.0 g.0 g.1) p2
     ∙ pass words r2 r3 n3
-    (λ d. labelled_at d.1 >>= λ e. labelled_at e.1 >>= λ f. labelled_at f.1 >>= λ g. ends n1 n2 d.0 e.0 f.0 g.0 g.1) p3
+    (λ d. labelled_at d.1 >>= λ e. labelled_at e.1 >>= λ f. labelled_at f.1
+    >>= λ g. ends n1 n2 d.0 e.0 f.0 g.0 g.1) p3
     ∙ pass words r3 r4 n4
     (λ e. labelled_at e.1 >>= λ f. labelled_at f.1 >>= λ g. ends n1 n2 n3 e.0 f.0 g.0 g.1) p4
     ∙ pass words r4 r5 n5

@@ -113,7 +113,7 @@ fn limits_at(behind: &[u8]) -> Result<(Limits, &[u8]), FaultKind>
 fn number_in(read: Result<&[u8], FaultKind>) -> (u64, Result<&[u8], FaultKind>)
     ensures { MatchResult read.entry
         (λ was. MatchResult result.1 (λ rest. labelled_at (words_behind was.now) ≡ Ok (result.0, words_behind rest.now))
-            (λ kind. labelled_at (words_behind was.now) ≡ Err kind))
+        (λ kind. labelled_at (words_behind was.now) ≡ Err kind))
         (λ first. MatchResult result.1 (λ _. ⊥) (λ kind. kind ≡ first)) }
 {
     match read {

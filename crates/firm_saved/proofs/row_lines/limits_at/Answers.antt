@@ -17,8 +17,8 @@ returns-in-Err c =
     c.number_in-remote.result.0 c.number_in-nodes.ensures c.number_in-arcs.ensures c.number_in-life.ensures
     c.number_in-spread.ensures c.number_in-churn.ensures c.number_in-remote.ensures
     ∙ ap (λ (r : Result (Bor (List ℕ)) FaultKind). told words r
-    >>= λ w. ends c.number_in-nodes.result.0 c.number_in-arcs.result.0 c.number_in-life.result.0 c.number_in-spread.result.0
-    c.number_in-churn.result.0 c.number_in-remote.result.0 w) c.in-Err.is
+    >>= λ w. ends c.number_in-nodes.result.0 c.number_in-arcs.result.0 c.number_in-life.result.0
+    c.number_in-spread.result.0 c.number_in-churn.result.0 c.number_in-remote.result.0 w) c.in-Err.is
 
 pub returns-in-Err-patience_at : goal.returns-in-Err-patience_at
 returns-in-Err-patience_at c =
@@ -28,8 +28,8 @@ returns-in-Err-patience_at c =
     c.number_in-remote.result.0 c.number_in-nodes.ensures c.number_in-arcs.ensures c.number_in-life.ensures
     c.number_in-spread.ensures c.number_in-churn.ensures c.number_in-remote.ensures
     ∙ ap (λ (r : Result (Bor (List ℕ)) FaultKind). told words r
-    >>= λ w. ends c.number_in-nodes.result.0 c.number_in-arcs.result.0 c.number_in-life.result.0 c.number_in-spread.result.0
-    c.number_in-churn.result.0 c.number_in-remote.result.0 w) c.in-Ok.is
+    >>= λ w. ends c.number_in-nodes.result.0 c.number_in-arcs.result.0 c.number_in-life.result.0
+    c.number_in-spread.result.0 c.number_in-churn.result.0 c.number_in-remote.result.0 w) c.in-Ok.is
     ∙ rw c.in-Err-patience_at.ensures refl
 
 pub returns-in_default : goal.returns-in_default
@@ -40,8 +40,8 @@ returns-in_default c =
     c.number_in-remote.result.0 c.number_in-nodes.ensures c.number_in-arcs.ensures c.number_in-life.ensures
     c.number_in-spread.ensures c.number_in-churn.ensures c.number_in-remote.ensures
     ∙ ap (λ (r : Result (Bor (List ℕ)) FaultKind). told words r
-    >>= λ w. ends c.number_in-nodes.result.0 c.number_in-arcs.result.0 c.number_in-life.result.0 c.number_in-spread.result.0
-    c.number_in-churn.result.0 c.number_in-remote.result.0 w) c.in-Ok.is
+    >>= λ w. ends c.number_in-nodes.result.0 c.number_in-arcs.result.0 c.number_in-life.result.0
+    c.number_in-spread.result.0 c.number_in-churn.result.0 c.number_in-remote.result.0 w) c.in-Ok.is
     ∙ rw c.in-Ok-patience_at.ensures (search rules)
 
 pub returns-in_default-with_patience : goal.returns-in_default-with_patience
@@ -52,8 +52,8 @@ returns-in_default-with_patience c =
     c.number_in-remote.result.0 c.number_in-nodes.ensures c.number_in-arcs.ensures c.number_in-life.ensures
     c.number_in-spread.ensures c.number_in-churn.ensures c.number_in-remote.ensures
     ∙ ap (λ (r : Result (Bor (List ℕ)) FaultKind). told words r
-    >>= λ w. ends c.number_in-nodes.result.0 c.number_in-arcs.result.0 c.number_in-life.result.0 c.number_in-spread.result.0
-    c.number_in-churn.result.0 c.number_in-remote.result.0 w) c.in-Ok.is
+    >>= λ w. ends c.number_in-nodes.result.0 c.number_in-arcs.result.0 c.number_in-life.result.0
+    c.number_in-spread.result.0 c.number_in-churn.result.0 c.number_in-remote.result.0 w) c.in-Ok.is
     ∙ rw c.in-Ok-patience_at.ensures (search rules)
 
 pub returns : goal.returns
@@ -64,6 +64,6 @@ returns c =
     c.number_in-remote.result.0 c.number_in-nodes.ensures c.number_in-arcs.ensures c.number_in-life.ensures
     c.number_in-spread.ensures c.number_in-churn.ensures c.number_in-remote.ensures
     ∙ ap (λ (r : Result (Bor (List ℕ)) FaultKind). told words r
-    >>= λ w. ends c.number_in-nodes.result.0 c.number_in-arcs.result.0 c.number_in-life.result.0 c.number_in-spread.result.0
-    c.number_in-churn.result.0 c.number_in-remote.result.0 w) c.in-Ok.is
+    >>= λ w. ends c.number_in-nodes.result.0 c.number_in-arcs.result.0 c.number_in-life.result.0
+    c.number_in-spread.result.0 c.number_in-churn.result.0 c.number_in-remote.result.0 w) c.in-Ok.is
     ∙ rw c.in-Ok-patience_at.ensures (search rules)

@@ -1,6 +1,8 @@
-use Rattle.std.proofs.Common.{map, ◌++◌, refl}
+use Rattle.std.proofs.Common.{◌≡◌, ◌∙◌, ◌+◌, ◌++◌, length, map, refl, sym, arith}
 use Rattle.std.specs.List.{flat_map}
+use Rattle.std.proofs.lemmas.List.{length-append, length-map}
 use Rattle.std.proofs.lemmas.Result.{err_from_is_err_and}
+use Rattle.firm_rules.specs.Book.{TenantRows}
 use Rattle.firm_saved.specs.StateText.{row_text}
 use Rattle.firm_saved.specs.declared.rows.Row.TheVariants as row
 use Rattle.firm_saved.proofs.Puts.{kept_trans, three_joined}
@@ -59,3 +61,16 @@ returns-in_err-put_rows-clause-count c =
 pub returns-in_err-put_rows-clause-few : goal.returns-in_err-put_rows-clause-few
 returns-in_err-put_rows-clause-few c =
     rw (err_from_is_err_and c.from_residual-in_err-put_rows.result c.from_residual-in_err-put_rows.ensures.1).1 tt
+
+count_rows : (rows : TenantRows)
+    → length (map row.Machine rows.machines ++ map row.Job rows.jobs ++ map row.Task rows.tasks)
+    ≡ length rows.machines + length rows.jobs + length rows.tasks
+count_rows rows = simp (length-append, length-map)
+
+pub returns-clause-count : goal.returns-clause-count
+returns-clause-count c =
+    let rows = c.row_count.ensures.count ∙ sym (count_rows c.args.rows.now) in
+    omega (arith, rows)
+
+pub returns-clause-few : goal.returns-clause-few
+returns-clause-few c = omega (arith, c.row_count.ensures.few)

@@ -70,20 +70,30 @@ returns-in_err-put_labelled-clause-added c =
 
 pub returns-in_err-put_labelled-2-clause-added : goal.returns-in_err-put_labelled-2-clause-added
 returns-in_err-put_labelled-2-clause-added c =
-    rw (err_from_is_err_and c.from_residual-in_err-put_labelled-2.result c.from_residual-in_err-put_labelled-2.ensures.1).1 tt
+    rw
+    (err_from_is_err_and c.from_residual-in_err-put_labelled-2.result
+    c.from_residual-in_err-put_labelled-2.ensures.1).1 tt
 
 pub returns-in_err-put_labelled-3-clause-added : goal.returns-in_err-put_labelled-3-clause-added
 returns-in_err-put_labelled-3-clause-added c =
-    rw (err_from_is_err_and c.from_residual-in_err-put_labelled-3.result c.from_residual-in_err-put_labelled-3.ensures.1).1 tt
+    rw
+    (err_from_is_err_and c.from_residual-in_err-put_labelled-3.result
+    c.from_residual-in_err-put_labelled-3.ensures.1).1 tt
 
 pub returns-in_err-put_labelled-4-clause-added : goal.returns-in_err-put_labelled-4-clause-added
 returns-in_err-put_labelled-4-clause-added c =
-    rw (err_from_is_err_and c.from_residual-in_err-put_labelled-4.result c.from_residual-in_err-put_labelled-4.ensures.1).1 tt
+    rw
+    (err_from_is_err_and c.from_residual-in_err-put_labelled-4.result
+    c.from_residual-in_err-put_labelled-4.ensures.1).1 tt
 
 pub returns-in_err-put_labelled-5-clause-added : goal.returns-in_err-put_labelled-5-clause-added
 returns-in_err-put_labelled-5-clause-added c =
-    rw (err_from_is_err_and c.from_residual-in_err-put_labelled-5.result c.from_residual-in_err-put_labelled-5.ensures.1).1 tt
+    rw
+    (err_from_is_err_and c.from_residual-in_err-put_labelled-5.result
+    c.from_residual-in_err-put_labelled-5.ensures.1).1 tt
 
 pub returns-in_err-put_labelled-6-clause-added : goal.returns-in_err-put_labelled-6-clause-added
 returns-in_err-put_labelled-6-clause-added c =
-    rw (err_from_is_err_and c.from_residual-in_err-put_labelled-6.result c.from_residual-in_err-put_labelled-6.ensures.1).1 tt
+    rw
+    (err_from_is_err_and c.from_residual-in_err-put_labelled-6.result
+    c.from_residual-in_err-put_labelled-6.ensures.1).1 tt

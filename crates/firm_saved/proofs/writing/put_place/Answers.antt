@@ -42,12 +42,18 @@ returns-in_err-put_row-clause-few c = rw (err_from_is_err_and c.from_residual.re
 
 pub returns-in_err-count-in-Some-clause-added : goal.returns-in_err-count-in-Some-clause-added
 returns-in_err-count-in-Some-clause-added c =
-    rw (err_from_is_err_and c.from_residual-in_err-count-in-Some.result c.from_residual-in_err-count-in-Some.ensures.1).1 tt
+    rw
+    (err_from_is_err_and c.from_residual-in_err-count-in-Some.result
+    c.from_residual-in_err-count-in-Some.ensures.1).1 tt
 
 pub returns-in_err-count-in-Some-clause-count : goal.returns-in_err-count-in-Some-clause-count
 returns-in_err-count-in-Some-clause-count c =
-    rw (err_from_is_err_and c.from_residual-in_err-count-in-Some.result c.from_residual-in_err-count-in-Some.ensures.1).1 tt
+    rw
+    (err_from_is_err_and c.from_residual-in_err-count-in-Some.result
+    c.from_residual-in_err-count-in-Some.ensures.1).1 tt
 
 pub returns-in_err-count-in-Some-clause-few : goal.returns-in_err-count-in-Some-clause-few
 returns-in_err-count-in-Some-clause-few c =
-    rw (err_from_is_err_and c.from_residual-in_err-count-in-Some.result c.from_residual-in_err-count-in-Some.ensures.1).1 tt
+    rw
+    (err_from_is_err_and c.from_residual-in_err-count-in-Some.result
+    c.from_residual-in_err-count-in-Some.ensures.1).1 tt

@@ -1,6 +1,7 @@
 use Rattle.std.proofs.Common.{◌≡◌, ◌∙◌, ◌+◌, ◌++◌, ◌∷◌, List, ℕ, ap, sym, arith, append_assoc, drop, length, refl}
 use Rattle.std.specs.List.{flat_map}
-use Rattle.std.proofs.lemmas.List.{drop_more, length-append}
+use Rattle.std.proofs.lemmas.List.{drop_all, drop_more, length-append}
+use Rattle.std.proofs.lemmas.Result.{err_from_is_err_and}
 use Rattle.std.proofs.lemmas.List.Concat.{flat_map-append}
 use Rattle.firm_saved.specs.StateText.{place_rows, row_text}
 use Rattle.firm_saved.specs.declared.rows.Row.{Row}
@@ -42,3 +43,22 @@ pub returns-clause-added : goal.returns-clause-added
 returns-clause-added c =
     all_added (λ places. flat_map row_text (flat_map place_rows places)) refl c.args.places.now
     c.loop-place.place-index c.loop-place-test.false _ _ c.loop-place.invariant.added
+
+pub overflow_add-count : goal.overflow_add-count
+overflow_add-count c =
+    omega (arith, c.requires, c.loop-place-test.true, c.loop-place.invariant.few, c.in_ok-count.ensures.few)
+
+pub returns-clause-count : goal.returns-clause-count
+returns-clause-count c =
+    let none = drop_all c.loop-place.place-index c.args.places.now c.loop-place-test.false in
+    let all = rw none at c.loop-place.invariant.counted in
+    omega (arith, all)
+
+pub returns-clause-kept : goal.returns-clause-kept
+returns-clause-kept c = c.loop-place.invariant.kept
+
+pub returns-in_err-count-clause-added : goal.returns-in_err-count-clause-added
+returns-in_err-count-clause-added c = rw (err_from_is_err_and c.from_residual.result c.from_residual.ensures.1).1 tt
+
+pub returns-in_err-count-clause-count : goal.returns-in_err-count-clause-count
+returns-in_err-count-clause-count c = rw (err_from_is_err_and c.from_residual.result c.from_residual.ensures.1).1 tt

@@ -26,4 +26,6 @@ returns-in_err-put_word-clause-added c =
 
 pub returns-in_err-put_standing-clause-added : goal.returns-in_err-put_standing-clause-added
 returns-in_err-put_standing-clause-added c =
-    rw (err_from_is_err_and c.from_residual-in_err-put_standing.result c.from_residual-in_err-put_standing.ensures.1).1 tt
+    rw
+    (err_from_is_err_and c.from_residual-in_err-put_standing.result
+    c.from_residual-in_err-put_standing.ensures.1).1 tt
