@@ -1,9 +1,10 @@
 -- Where the arcs of a task lead.
 use Rattle.std.proofs.Common.{◌≡◌, ℕ, ◌<◌, Option, Some, None, length, refl, sym, ap, subst, ◌∙◌}
 use Rattle.std.specs.Prelude.{◌≢◌, IfSome, IfNone, IsSome}
+use Rattle.std.proofs.lemmas.Bool.{false≢true}
 use Rattle.std.proofs.lemmas.Option.{same_Some}
 use Rattle.firm_net.specs.Row.{Row}
-use Rattle.firm_net.specs.Net.{IsArc, IsNode, row_at}
+use Rattle.firm_net.specs.Net.{IsArc, IsNode, row_at, Net}
 use Rattle.firm_net.specs.declared.row.NodeId.{NodeId}
 use Rattle.firm_net.specs.declared.row.ArcId.{ArcId}
 use Rattle.firm_paths.specs.Network.{Arc}
@@ -15,6 +16,12 @@ use Rattle.firm_graph.specs.declared.network.Node.TheVariants.{Sink, Hub, Machin
 use Rattle.firm_graph.specs.declared.network.Key.{Key}
 use Rattle.firm_graph.specs.declared.network.Key.TheVariants.{Stay, Prefer}
 use Rattle.firm_canon.proofs.Shown.{arc_at, key_at, listed_at, row_shown}
+
+-- an arc that is there has a row
+pub has_row : (net shown : Net) (arc : ArcId) (found : Option Row) → shown ≡ net → found ≡ row_at shown arc
+    → IsArc net arc → found ≡ None → ⊥
+has_row net shown arc found same is there none =
+    false≢true (subst (λ (o : Option Row). IsSome o) (ap (λ (n : Net). row_at n arc) (sym same) ∙ sym is ∙ none) there)
 
 -- the place of a machine's node; the rest are none
 number_of : Node → Option ℕ

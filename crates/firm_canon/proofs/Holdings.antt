@@ -13,7 +13,7 @@ use Rattle.firm_graph.specs.declared.network.Key.TheVariants.{Through, Slot, Exi
 use Rattle.firm_graph.specs.Network.{demand, IsKeyOf}
 use Rattle.firm_canon.specs.inner.Placed.{wide, stay, waits, near, number, prefer}
 use Rattle.firm_net.specs.Row.{Row}
-use Rattle.firm_graph.specs.View.{View, Shows, IsSameCase, CanHold, lows, low_of_row, flow_of_row}
+use Rattle.firm_graph.specs.View.{View, Shows, IsSameCase, CanHold, lows, low_of_row, flow_of_row, flows}
 use Rattle.firm_canon.specs.inner.Choosing.{low_of, Keeps, IsChosen}
 use Rattle.firm_canon.proofs.First.{pick_past, wide_none}
 use Rattle.firm_canon.proofs.Totals.{cond_zero}
@@ -26,6 +26,13 @@ use Rattle.firm_canon.proofs.Prefixes.{kept_one}
 pub can_hold : (low : ℕ) (o : Option Row) → 0 < low → low ≤ flow_of_row o → CanHold low o
 can_hold low None l h = absurd (omega (arith, l, h))
 can_hold low (Some row) l h = h
+
+-- or to the unit that the choice asks of it
+pub can_hold_one : (v : View) (key : Key) (id : ArcId) (asked : ℕ) → asked ≡ 1 → asked ≤ flows v key → id ≡ v.arc key
+    → CanHold 1 (row_at v.net id)
+can_hold_one v key id asked one room is =
+    can_hold 1 (row_at v.net id) (omega arith)
+    (omega (arith, one, room, ap (λ (i : ArcId). flow_of_row (row_at v.net i)) is))
 
 -- what a hold leaves
 pub record IsHold (old new : Net) (id : ArcId) (low : ℕ) : Type 0 where

@@ -1,6 +1,7 @@
 -- Steps of the choice, one after another.
-use Rattle.std.proofs.Common.{◌≡◌, ℕ, ◌+◌, ◌<◌, ◌≤◌, Bool, List, length, arith, refl, sym, ap, subst}
+use Rattle.std.proofs.Common.{◌≡◌, ℕ, ◌+◌, ◌<◌, ◌≤◌, Bool, List, length, arith, refl, sym, ap, subst, false, true}
 use Rattle.std.proofs.Common.{◌∙◌}
+use Rattle.std.proofs.lemmas.Bool.{false≢true}
 use Rattle.firm_net.specs.declared.row.ArcId.{ArcId}
 use Rattle.firm_rules.specs.declared.rounds.Choice.{Choice}
 use Rattle.firm_rules.specs.ArenaUse.{arena_arcs}
@@ -11,12 +12,13 @@ use Rattle.firm_paths.specs.Workspace.{Workspace, HasSearched}
 use Rattle.firm_graph.specs.Graph.{Graph}
 use Rattle.firm_graph.specs.Ids.{view_of}
 use Rattle.firm_graph.specs.Network.{demand}
-use Rattle.firm_graph.specs.View.{View, Shows}
-use Rattle.firm_graph.specs.declared.network.Key.TheVariants.{Through}
+use Rattle.firm_graph.specs.View.{View, Shows, flows}
+use Rattle.firm_graph.specs.declared.network.Key.TheVariants.{Through, Wide}
 use Rattle.firm_canon.specs.inner.Graphs.{IsSameGraph}
 use Rattle.firm_canon.specs.inner.Turns.{Turned}
 use Rattle.firm_canon.specs.inner.Choosing.{Keeps, IsSpent, best}
-use Rattle.firm_canon.specs.inner.State.{GoesOn, IsReady, IsReadyFor, IsUnchanged, left, prefix, price, view}
+use Rattle.firm_canon.specs.inner.State.{GoesOn, HasWaysBack, IsReady, IsReadyFor, IsUnchanged, left, prefix, price}
+use Rattle.firm_canon.specs.inner.State.{view}
 use Rattle.firm_canon.specs.declared.choosing.Choosing.{Choosing}
 use Rattle.firm_canon.specs.declared.reads.Wishes.{Wishes}
 use Rattle.firm_canon.proofs.Tries.{turned_keeps}
@@ -45,6 +47,21 @@ goes_both old now new first then most one two fits = record {
 pub goes_more : (old now new : Choosing) (most : ℕ) → GoesOn old now most → GoesOn now new 0 → GoesOn old new most
 goes_more old now new most one two = goes_both old now new most 0 most one two (omega arith)
 
+-- where so many searches may be made, more may
+pub goes_within : (old new : Choosing) (less most : ℕ) → GoesOn old new less → less ≤ most → GoesOn old new most
+goes_within old new less most goes fits = record {
+  same = goes.same;
+  graph = goes.graph;
+  scratch = goes.scratch;
+  prices = goes.prices;
+  chosen = goes.chosen;
+  best = goes.best;
+  made = goes.made;
+  few = omega (arith, goes.few, fits);
+  searched = goes.searched;
+  ready = goes.ready;
+}
+
 -- the same, with another graph and scratch, before or after a search
 abbrev pub moved : Choosing → Graph → Workspace → Bool → Choosing
 moved s g w b = record s { graph = record s.graph { now = g }; scratch = record s.scratch { now = w }; searched = b }
@@ -72,6 +89,26 @@ goes_counted s w b spent made most ready passed few searched = record {
     spent = passed;
   };
 }
+
+pub goes_still : (s : Choosing) → IsReady s → GoesOn s s 0
+goes_still s ready =
+    goes_counted s s.scratch.now s.searched s.spent 0 0 ready ready.spent (omega arith) (nothing_made s.scratch.now _)
+
+-- where the scratch was borrowed, and is as it was
+pub goes_rested : (s : Choosing) (w : Workspace) → IsReady s → w ≡ s.scratch.now
+    → GoesOn s (moved s s.graph.now w s.searched) 0
+goes_rested s w ready same =
+    subst (λ (z : Workspace). GoesOn s (moved s s.graph.now z s.searched) 0) (sym same) (goes_still s ready)
+
+pub ways_rested : (s : Choosing) (w : Workspace) (at_hub : Bool) → w ≡ s.scratch.now → HasWaysBack s at_hub
+    → HasWaysBack (moved s s.graph.now w s.searched) at_hub
+ways_rested s w at_hub same ways =
+    subst (λ (z : Workspace). HasWaysBack (moved s s.graph.now z s.searched) at_hub) (sym same) ways
+
+-- before the first search of a choice
+pub unsearched : (s : Choosing) (at_hub : Bool) → s.searched ≡ false
+    → (at_hub ≡ true → flows (view s) (Wide (length (prefix s))) ≡ 1) → HasWaysBack s at_hub
+unsearched s at_hub none hub = record { ways = λ e. absurd (false≢true (sym none ∙ e)); hub = hub }
 
 -- A TURN of the flow
 pub goes_turned : (s : Choosing) (g : Graph) (w : Workspace) (arc : ArcId) → IsReady s → IsSameGraph s.graph.now g

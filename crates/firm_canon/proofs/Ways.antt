@@ -8,7 +8,7 @@ use Rattle.std.proofs.lemmas.Bool.{cases_Bool, cases_lt, both_ways}
 use Rattle.std.proofs.lemmas.List.Elements.{All-contains, All-weaker}
 use Rattle.std.proofs.lemmas.Option.{same_Some}
 use Rattle.firm_net.specs.Row.{Row}
-use Rattle.firm_net.specs.Net.{row_at}
+use Rattle.firm_net.specs.Net.{row_at, Net}
 use Rattle.firm_net.specs.declared.row.ArcId.{ArcId}
 use Rattle.firm_paths.specs.Network.{Arc, Tight, StaysInside}
 use Rattle.firm_paths.specs.NetArcs.{arc_of}
@@ -20,10 +20,10 @@ use Rattle.firm_graph.specs.declared.network.Node.TheVariants.{Hub, Machine, Tas
 use Rattle.firm_graph.specs.declared.network.Key.{Key}
 use Rattle.firm_graph.specs.declared.network.Key.TheVariants.{Through, Wide, Stay, Wait, Prefer}
 use Rattle.firm_graph.specs.Network.{network, demand, preferred_at, stay_head, runs, IsKeyOf, IsNodeOf}
-use Rattle.firm_graph.specs.View.{View, IsSameCase, flows, flow_of_row, named, spot_of}
+use Rattle.firm_graph.specs.View.{View, IsSameCase, flows, flow_of_row, named, spot_of, low_of_row}
 use Rattle.firm_canon.specs.inner.Keys.{IsArcOf, key_of, machine_of}
 use Rattle.firm_canon.specs.inner.Placed.{wide, prefer, pick, wide_at, guests}
-use Rattle.firm_canon.specs.inner.Turns.{IsClosedAt, IsFullInto, IsLooseAt}
+use Rattle.firm_canon.specs.inner.Turns.{IsClosedAt, IsFullInto, IsLooseAt, IsBlocked, IsIdle}
 use Rattle.firm_canon.specs.inner.Choosing.{low_of, Keeps, best, IsAsCheap, IsBare, IsSpent, StaysAtNoCost}
 use Rattle.firm_canon.specs.inner.State.{root}
 use Rattle.firm_canon.specs.declared.reads.TaskArc.{TaskArc}
@@ -46,6 +46,32 @@ pub flows_at : (old new : View) (key : Key) (id : ArcId) → IsSameCase old new 
 flows_at old new key id same is =
     ap (λ (arc : Key → ArcId). flow_of_row (row_at new.net (arc key))) same.arc
     ∙ ap (λ (a : ArcId). flow_of_row (row_at new.net a)) (sym is)
+
+-- an arc with no surplus, as it was read, or with no unit, is idle
+pub idle_read : (net shown : Net) (id : ArcId) → shown ≡ net
+    → flow_of_row (row_at shown id) ≤ low_of_row (row_at shown id) → IsIdle net id
+idle_read net shown id same few row there =
+    subst (λ (o : Option Row). flow_of_row o ≤ low_of_row o) (ap (λ (n : Net). row_at n id) same ∙ there) few
+
+pub idle_none : (v : View) (key : Key) (id : ArcId) → id ≡ v.arc key → flows v key ≡ 0 → IsIdle v.net id
+idle_none v key id is none row there =
+    omega (arith, none, ap (λ (a : ArcId). flow_of_row (row_at v.net a)) is, ap flow_of_row there)
+
+-- a blocked arc is closed
+pub closed_blocked : (net : Net) (price : ℕ → ℕ) (to : ℕ) (id : ArcId) → IsBlocked net price id
+    → IsClosedAt net price to id
+closed_blocked net price to id blocked row there =
+    ⊎_elim (λ (full : row.cap ≤ row.flow). inl full) (λ loose. inr (inl loose)) (blocked row there)
+
+-- so is one from whose head no way leads to the place
+pub closed_cut : (net : Net) (price : ℕ → ℕ) (to : ℕ) (id : ArcId) (found : Row) (head : ℕ) (inside : ℕ → Bool)
+    → row_at net id ≡ Some found → head ≡ found.head.id.place → IsTightCut net price [] head to inside
+    → IsClosedAt net price to id
+closed_cut net price to id found head inside is_row is_head cut row there = inr (inr (
+  inside,
+  subst (λ (n : ℕ). IsTightCut net price [] n to inside)
+      (is_head ∙ ap (λ (r : Row). r.head.id.place) (same_Some found row (sym is_row ∙ there))) cut,
+))
 
 -- under valid prices an arc with room leads to no price above its cost, and one with more than it needs to none below
 abbrev pub Prices : (Node → ℕ) → Arc Node Key → Type 0

@@ -1,12 +1,17 @@
-use Rattle.std.proofs.Common.{List, ◌∙◌}
+use Rattle.std.proofs.Common.{List, ◌∙◌, length, sym, subst, Some}
+use Rattle.firm_net.specs.Net.{Net, IsArc}
 use Rattle.firm_paths.specs.PriceTable.{price_of}
 use Rattle.firm_rules.specs.declared.rounds.Choice.{Choice}
 use Rattle.firm_rules.specs.declared.rounds.Choice.TheVariants.{On}
-use Rattle.firm_graph.specs.declared.network.Key.TheVariants.{Through}
+use Rattle.firm_graph.specs.declared.network.Key.TheVariants.{Through, Wide}
 use Rattle.firm_graph.specs.View.{View, IsSameCase}
-use Rattle.firm_canon.proofs.Tries.{low_is, best_held}
-use Rattle.firm_canon.proofs.Holdings.{held_other, can_come}
+use Rattle.firm_graph.specs.Network.{demand}
+use Rattle.firm_canon.specs.inner.Placed.{wide}
+use Rattle.firm_canon.proofs.Tries.{low_is, best_held, there_at}
+use Rattle.firm_canon.proofs.Holdings.{held_other, can_come, can_hold_one}
 use Rattle.firm_graph.specs.Ids.{view_of}
+use Rattle.firm_canon.proofs.Graphs.{same_on}
+use Rattle.firm_canon.proofs.Nears.{wide_is}
 use Rattle.firm_canon.proofs.holds.hold_by_hub.Goals as goal
 
 pub returns-clause-keeps : goal.returns-clause-keeps
@@ -53,3 +58,21 @@ returns-clause-best c =
       arc = k.same.case.arc ∙ h.same.case.arc;
     })
     (λ b. k.flows b ∙ h.flows b)
+
+pub low_on-low-requires : goal.low_on-low-requires
+low_on-low-requires c =
+    subst (λ (n : Net). IsArc n c.through_arc-arc.result) (sym c.net.ensures.value)
+    (there_at (view_of c.args.graph.now) (price_of c.args.prices.now) c.args.chosen.now (Through c.args.machine)
+    c.through_arc-arc.result c.requires.keeps c.requires.chosen.place c.through_arc-arc.ensures)
+
+pub hold_at-requires-clause-allowed : goal.hold_at-requires-clause-allowed
+hold_at-requires-clause-allowed c =
+    let old : View = view_of c.args.graph.now in
+    let n = length c.args.chosen.now in
+    can_hold_one old (Wide n) c.task_arc.result (wide (demand old.case n) (Some (On c.args.machine)))
+    (wide_is (demand old.case n) c.args.machine c.requires.other c.requires.far) c.requires.chosen.room.at_wide
+    c.task_arc.ensures
+
+pub returns-clause-same : goal.returns-clause-same
+returns-clause-same c =
+    same_on c.args.graph.now c.hold_at.new.graph c.hold_at-2.new.graph c.hold_at.ensures.same c.hold_at-2.ensures.same

@@ -1,14 +1,15 @@
-use Rattle.std.proofs.Common.{ℕ, List, length, sym, ap, ◌∙◌}
+use Rattle.std.proofs.Common.{ℕ, List, length, sym, ap, ◌∙◌, Some, ◌<◌, subst}
 use Rattle.firm_paths.specs.PriceTable.{price_of}
 use Rattle.firm_rules.specs.declared.rounds.Choice.{Choice}
 use Rattle.firm_rules.specs.declared.rounds.Choice.TheVariants.{On}
 use Rattle.firm_rules.specs.Placement.{runs_at}
 use Rattle.firm_graph.specs.Network.{demand}
-use Rattle.firm_graph.specs.declared.network.Key.TheVariants.{Prefer}
+use Rattle.firm_graph.specs.declared.network.Key.TheVariants.{Prefer, Stay}
 use Rattle.firm_graph.specs.View.{View}
-use Rattle.firm_canon.proofs.Nears.{preferred_found, preferred_missed}
+use Rattle.firm_canon.specs.inner.Placed.{stay}
+use Rattle.firm_canon.proofs.Nears.{preferred_found, preferred_missed, own_stay, number_in}
 use Rattle.firm_canon.proofs.Tries.{best_held}
-use Rattle.firm_canon.proofs.Holdings.{held_own, held_near, can_go}
+use Rattle.firm_canon.proofs.Holdings.{held_own, held_near, can_go, can_hold_one}
 use Rattle.firm_graph.specs.Ids.{view_of}
 use Rattle.firm_canon.proofs.holds.hold_machine.Goals as goal
 
@@ -68,3 +69,19 @@ returns-in-Some-clause-best c =
     let h = c.hold_at-in-Some.ensures in
     best_held (view_of c.args.graph.now) (view_of c.hold_at-in-Some.new.graph) c.args.chosen.now (On c.args.machine)
     h.same.case h.flows
+
+pub hold_at-requires-clause-allowed : goal.hold_at-requires-clause-allowed
+hold_at-requires-clause-allowed c =
+    let old : View = view_of c.args.graph.now in
+    let n = length c.args.chosen.now in
+    can_hold_one old (Stay n) c.task_arc.result (stay (demand old.case n).home (Some (On c.args.machine)))
+    (own_stay (demand old.case n).home c.args.machine
+    (ap (λ h. runs_at h c.args.machine) (sym c.requires.home) ∙ (sym c.is_home.ensures ∙ c.if-is_home.true)))
+    c.requires.chosen.room.at_stay c.task_arc.ensures
+
+pub task_arc-requires-in-Some-clause-arc : goal.task_arc-requires-in-Some-clause-arc
+task_arc-requires-in-Some-clause-arc c =
+    let task = demand (view_of c.args.graph.now).case (length c.args.chosen.now) in
+    let it = preferred_found task c.deref.result.now c.args.machine c.in-Some.number
+    (c.deref.ensures.0 ∙ c.requires.places) (sym c.preference_for.ensures ∙ c.in-Some.is) in
+    subst (λ (k : ℕ). k < length task.preferred) (sym it.1) (number_in task.preferred c.args.machine it.0).0

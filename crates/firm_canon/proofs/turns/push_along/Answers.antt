@@ -1,12 +1,13 @@
-use Rattle.std.proofs.Common.{◌≡◌, true, false, ◌+◌, List, drop, get_or, arith, ap, subst, ◌∙◌}
+use Rattle.std.proofs.Common.{◌≡◌, true, false, ◌+◌, List, drop, get_or, arith, ap, subst, ◌∙◌, refl, take_all, sym}
 use Rattle.std.proofs.lemmas.List.{drop_more}
+use Rattle.std.specs.Prelude.{All, ◌≢◌}
 use Rattle.firm_net.specs.Net.{with_row, with_unit}
 use Rattle.firm_net.specs.declared.row.Way.TheVariants.{Forward}
 use Rattle.firm_paths.specs.declared.search.Step.{Step}
 use Rattle.std.proofs.Math.ListN.{drop_of_length-le}
 use Rattle.firm_graph.specs.Graph.{Graph}
 use Rattle.firm_canon.proofs.Cycles.{IsGoing, going_more, going_done, push_lows, off_more}
-use Rattle.firm_canon.proofs.Graphs.{same_on, same_or_renetted}
+use Rattle.firm_canon.proofs.Graphs.{same_on, same_or_renetted, same_self}
 use Rattle.firm_canon.proofs.turns.push_along.Goals as goal
 
 abbrev no_step : Step
@@ -47,3 +48,18 @@ returns-clause-carries c =
     (drop c.loop-step.step-index c.args.steps.now)
     (drop_of_length-le c.args.steps.now {i = c.loop-step.step-index} (omega (arith, c.loop-step-test.false)))
     c.loop-step.invariant.going
+
+pub loop-step-init : goal.loop-step-init
+loop-step-init c = record {
+  shows = c.requires.shows;
+  same = same_self c.args.graph.now;
+  lows = λ b. refl;
+  others = λ b off. refl;
+  going = λ found price sources sink origin at to before more start. (at, start);
+}
+
+pub returns-clause-others : goal.returns-clause-others
+returns-clause-others c b off =
+    c.loop-step.invariant.others b
+    (subst (All (λ (s : Step). s.arc ≢ b))
+    (sym (take_all c.loop-step.step-index c.args.steps.now (omega (arith, c.loop-step-test.false)))) off)

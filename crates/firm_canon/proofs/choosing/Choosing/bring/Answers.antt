@@ -1,19 +1,22 @@
-use Rattle.std.proofs.Common.{◌≡◌, ◌∙◌, ℕ, ◌≤◌, length, ap, arith, refl, sym, subst}
+use Rattle.std.proofs.Common.{◌≡◌, ◌∙◌, ℕ, ◌≤◌, length, ap, arith, refl, sym, subst, true, ◌<◌}
+use Rattle.std.proofs.lemmas.Bool.{false≢true}
 use Rattle.firm_net.specs.Net.{Net, IsArc, row_at}
 use Rattle.firm_net.specs.declared.row.ArcId.{ArcId}
 use Rattle.firm_graph.specs.declared.network.Node.TheVariants.{Hub}
 use Rattle.firm_graph.specs.declared.network.Key.{Key}
 use Rattle.firm_graph.specs.declared.network.Key.TheVariants.{Through, Wide}
 use Rattle.firm_graph.specs.View.{flows, spot_of, flow_of_row}
+use Rattle.firm_graph.specs.Graph.{Graph}
+use Rattle.firm_graph.specs.Ids.{view_of}
 use Rattle.firm_canon.specs.inner.Choosing.{IsSpent, best}
 use Rattle.firm_canon.specs.inner.Placed.{guests}
-use Rattle.firm_canon.specs.inner.State.{prefix, price, view}
+use Rattle.firm_canon.specs.inner.State.{prefix, price, view, HasWaysBack}
 use Rattle.firm_canon.specs.declared.choosing.Choosing.{Choosing}
 use Rattle.firm_canon.proofs.Tries.{there_at, flow_is, low_is}
 use Rattle.firm_canon.proofs.Choices.{through_held}
-use Rattle.firm_canon.proofs.Ways.{closed_at, flows_at, through_spent, through_tail, wide_full}
+use Rattle.firm_canon.proofs.Ways.{closed_at, flows_at, through_spent, through_tail, wide_full, idle_read}
 use Rattle.firm_canon.proofs.Returns.{round_by}
-use Rattle.firm_canon.proofs.States.{still_on}
+use Rattle.firm_canon.proofs.States.{still_on, goes_more, goes_still, case_on}
 use Rattle.firm_canon.proofs.choosing.Choosing.bring.Goals as goal
 use Rattle.firm_canon.proofs.choosing.Choosing.bring.Goals.{Else-go_round}
 
@@ -117,3 +120,50 @@ returns-then-go_round-clause-yes c e =
       flows_at (view s) (view c.go_round.new.self) (Through c.args.machine) c.through_arc-arc.result
           c.if-go_round.ensures.goes_on.same.case c.through_arc-arc.ensures,
     )
+
+pub returns-then-machine-self-clause-goes_on : goal.returns-then-machine-self-clause-goes_on
+returns-then-machine-self-clause-goes_on c = goes_still c.args.self.now c.requires.ready
+
+pub returns-then-has_surplus_on-clause-goes_on : goal.returns-then-has_surplus_on-clause-goes_on
+returns-then-has_surplus_on-clause-goes_on c = goes_still c.args.self.now c.requires.ready
+
+pub go_round-requires-clause-idle : goal.go_round-requires-clause-idle
+go_round-requires-clause-idle c =
+    idle_read c.args.self.now.graph.now.net c.net.result.now c.through_arc-arc.result c.net.ensures.value
+    (c.if-has_surplus_on.ensures.no refl)
+
+pub pass-requires-clause-machine : goal.pass-requires-clause-machine
+pass-requires-clause-machine c =
+    case_on (λ d b. c.args.machine < length d.slots) c.args.self.now c.go_round.new.self 0 c.go_round.ensures.goes_on
+    c.requires.machine
+
+pub returns-clause-goes_on : goal.returns-clause-goes_on
+returns-clause-goes_on c =
+    goes_more c.args.self.now c.go_round.new.self c.pass.new.self 0 c.go_round.ensures.goes_on c.pass.ensures.goes_on
+
+pub returns-clause-unchanged : goal.returns-clause-unchanged
+returns-clause-unchanged c e =
+    ap (λ (z : Choosing). z.graph.now) c.pass.ensures.same ∙ c.if-go_round.ensures.unchanged refl
+
+pub returns-clause-hub : goal.returns-clause-hub
+returns-clause-hub c =
+    ap (λ (g : Graph). flows (view_of g) (Wide (length (prefix c.args.self.now)))) (returns-clause-unchanged c refl)
+    ∙ c.requires.ways.hub refl
+
+pub returns-clause-ways : goal.returns-clause-ways
+returns-clause-ways c e =
+    let ways = c.if-go_round.ensures.ways refl in
+    subst (λ (z : Choosing). HasWaysBack z true) (sym c.pass.ensures.same)
+    (record { ways = ways.ways; hub = ways.hub })
+
+pub returns-then-machine-self-clause-yes : goal.returns-then-machine-self-clause-yes
+returns-then-machine-self-clause-yes c e = absurd (false≢true e)
+
+pub returns-then-has_surplus_on-clause-spent : goal.returns-then-has_surplus_on-clause-spent
+returns-then-has_surplus_on-clause-spent c e = absurd (false≢true (sym e))
+
+pub returns-then-go_round-clause-spent : goal.returns-then-go_round-clause-spent
+returns-then-go_round-clause-spent c e = absurd (false≢true (sym e))
+
+pub returns-clause-yes : goal.returns-clause-yes
+returns-clause-yes c e = absurd (false≢true e)

@@ -1,4 +1,5 @@
 use Rattle.std.proofs.Common.{◌≡◌, ◌≤◌, false, length, arith, refl}
+use Rattle.std.proofs.lemmas.Bool.{false≢true}
 use Rattle.firm_rules.specs.declared.rounds.Choice.TheVariants.{Wait}
 use Rattle.firm_graph.specs.View.{flows}
 use Rattle.firm_graph.specs.declared.network.Key.TheVariants.{Wide, Stay}
@@ -7,7 +8,7 @@ use Rattle.firm_canon.specs.inner.State.{GoesOn, IsReadyFor, prefix, price, view
 use Rattle.firm_canon.specs.declared.choosing.Choosing.{Choosing}
 use Rattle.firm_canon.proofs.Choices.{sends_one}
 use Rattle.firm_canon.proofs.Ends.{all_passed}
-use Rattle.firm_canon.proofs.States.{goes_more, kept_on, ready_on, still_on}
+use Rattle.firm_canon.proofs.States.{goes_more, kept_on, ready_on, still_on, unsearched}
 use Rattle.firm_canon.proofs.choosing.Choosing.choose_apart.Goals as goal
 use Rattle.firm_canon.proofs.choosing.Choosing.choose_apart.Goals.{After-take}
 
@@ -83,3 +84,18 @@ returns-in-None-clause-some c =
     (still_on (λ v z b. flows v (Stay (length b)) ≡ 0) two three 0 lost.goes_on (lost.unchanged refl)
     (still_on (λ v z b. flows v (Stay (length b)) ≡ 0) one two 0 none.goes_on none.unchanged none.idle))
     passed.none)
+
+pub reach_own-requires-clause-ready : goal.reach_own-requires-clause-ready
+reach_own-requires-clause-ready c =
+    ready_on c.args.self.now c.begin.new.self 1 c.args.wishes.now c.begin.ensures.goes_on c.requires.ready
+
+pub reach_own-requires-clause-ways : goal.reach_own-requires-clause-ways
+reach_own-requires-clause-ways c = unsearched c.begin.new.self false c.begin.ensures.open (λ e. absurd (false≢true e))
+
+pub take-requires-clause-next : goal.take-requires-clause-next
+take-requires-clause-next c =
+    (ready_on c.begin.new.self c.reach_own.new.self 0 c.args.wishes.now c.reach_own.ensures.goes_on
+    (ready_on c.args.self.now c.begin.new.self 1 c.args.wishes.now c.begin.ensures.goes_on c.requires.ready)).next
+
+pub find_machine-requires-clause-ready : goal.find_machine-requires-clause-ready
+find_machine-requires-clause-ready c = ready (goal.at.find_machine-requires-clause-ready c).After-take

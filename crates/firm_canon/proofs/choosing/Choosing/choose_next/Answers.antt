@@ -1,5 +1,5 @@
-use Rattle.std.proofs.Common.{◌≡◌, ◌<◌, ℕ, Bool, List, [], ◌∷◌, ◌++◌, length, arith, sym, ap, subst, ◌∙◌}
-use Rattle.std.specs.Prelude.{vec_len}
+use Rattle.std.proofs.Common.{◌≡◌, ◌<◌, ℕ, Bool, List, [], ◌∷◌, ◌++◌, length, arith, sym, ap, subst, ◌∙◌, ◌+◌}
+use Rattle.std.specs.Prelude.{vec_len, vec_capacity}
 use Rattle.firm_rules.specs.declared.rounds.Choice.{Choice}
 use Rattle.firm_rules.specs.Placement.{Case}
 use Rattle.firm_graph.specs.declared.network.Key.TheVariants.{Through}
@@ -12,6 +12,7 @@ use Rattle.firm_canon.specs.declared.choosing.Choosing.{Choosing}
 use Rattle.firm_canon.specs.declared.reads.Wishes.{Wishes}
 use Rattle.firm_canon.proofs.AsCheap.{spent_longer}
 use Rattle.firm_canon.proofs.States.{ready_on}
+use Rattle.firm_canon.proofs.Graphs.{same_on}
 use Rattle.firm_canon.proofs.choosing.Choosing.choose_next.Goals as goal
 use Rattle.firm_canon.proofs.choosing.Choosing.choose_next.Goals.{After-choose-choice}
 
@@ -97,3 +98,26 @@ returns-clause-ready c =
           (spent_longer (view mid).case (prefix mid) o (best (view mid) (prefix mid)) (Through j)
           (chosen (goal.at.returns-clause-ready c).After-choose-choice).next (ready.spent j l))));
     }
+
+pub hold_choice-requires-clause-next : goal.hold_choice-requires-clause-next
+hold_choice-requires-clause-next c =
+    subst (λ (q : List Choice). length q < length (view c.choose-choice.new.self).case.tasks)
+    (sym c.deref.ensures.value)
+    (chosen (goal.at.hold_choice-requires-clause-next c).After-choose-choice).next
+
+pub push_reserved-requires : goal.push_reserved-requires
+push_reserved-requires c =
+    subst (λ z. vec_len z.now < vec_capacity z.now) (sym c.choose-choice.ensures.goes_on.chosen) c.requires.room
+
+pub returns-clause-same : goal.returns-clause-same
+returns-clause-same c =
+    same_on c.args.self.now.graph.now c.choose-choice.new.self.graph.now c.hold_choice.new.graph
+    c.choose-choice.ensures.goes_on.same c.hold_choice.ensures.same
+
+pub returns-clause-capacity : goal.returns-clause-capacity
+returns-clause-capacity c =
+    omega (arith, c.push_reserved.ensures.capacity, ap (λ z. vec_capacity z.now) c.choose-choice.ensures.goes_on.chosen)
+
+pub returns-clause-len : goal.returns-clause-len
+returns-clause-len c =
+    c.push_reserved.ensures.len ∙ ap (λ z. vec_len z.now + 1) c.choose-choice.ensures.goes_on.chosen

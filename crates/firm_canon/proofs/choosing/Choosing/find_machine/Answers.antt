@@ -9,7 +9,7 @@ use Rattle.firm_canon.specs.inner.Choosing.{HasRoom, IsChosen, IsPassed, IsSpent
 use Rattle.firm_canon.specs.inner.State.{GoesOn, HasWaysBack, IsUnchanged, prefix, view}
 use Rattle.firm_canon.specs.declared.choosing.Choosing.{Choosing}
 use Rattle.firm_canon.proofs.Ends.{first_found}
-use Rattle.firm_canon.proofs.States.{case_on, goes_more, kept_back, kept_on, ready_on, still_back, still_on}
+use Rattle.firm_canon.proofs.States.{case_on, goes_more, kept_back, kept_on, ready_on, still_back, still_on, goes_still}
 use Rattle.firm_canon.proofs.choosing.Choosing.find_machine.Goals as goal
 use Rattle.firm_canon.proofs.choosing.Choosing.find_machine.Goals.{else-not-is_home-via-else-not-is_home}
 use Rattle.firm_canon.proofs.choosing.Choosing.find_machine.Goals.{else-not-is_home-via-then-not-is_home+else-reach}
@@ -85,3 +85,11 @@ loop-machine-preserved c =
             (λ other. absurd (both_ways (runs_at home o) other (sym c.is_home.ensures ∙ w.if-not-is_home.false)));
       }
     ]
+
+pub loop-machine-init : goal.loop-machine-init
+loop-machine-init c = record {
+  goes = goes_still c.args.self.now c.requires.ready.ready;
+  still = refl;
+  ways = c.requires.ways;
+  passed = λ k l. absurd (omega (arith, l));
+}

@@ -12,7 +12,7 @@ use Rattle.firm_canon.specs.declared.reads.Wishes.{Wishes}
 use Rattle.firm_canon.proofs.Nears.{number_in, preferred_found, preferred_missed}
 use Rattle.firm_canon.proofs.Choices.{room_far, room_near, shut_near}
 use Rattle.firm_canon.proofs.Ends.{passed_far}
-use Rattle.firm_canon.proofs.States.{case_on, kept_on, ready_on}
+use Rattle.firm_canon.proofs.States.{case_on, kept_on, ready_on, goes_still}
 use Rattle.firm_canon.proofs.choosing.Choosing.reach.Goals as goal
 
 -- the machine is not the task's own
@@ -87,3 +87,14 @@ returns-else-at_hub-clause-passed c e =
     (other_at s c.args.wishes.now c.args.machine ready c.requires.other)
     (far_at s c.args.wishes.now c.deref.result.now c.args.machine ready c.deref.ensures.0 (sym c.in-None.ensures))
     c.requires.apart (λ there. absurd (both_ways c.args.at_hub c.if-at_hub.false there))
+
+pub returns-else-at_hub-clause-goes_on : goal.returns-else-at_hub-clause-goes_on
+returns-else-at_hub-clause-goes_on c = goes_still c.args.self.now c.requires.ready.ready
+
+pub take-requires-clause-arc : goal.take-requires-clause-arc
+take-requires-clause-arc c =
+    let s : Choosing = c.args.self.now in
+    let task = demand (view s).case (length (prefix s)) in
+    let it = preferred_found task c.deref.result.now c.args.machine c.in-Some.number
+    (c.deref.ensures.0 ∙ c.requires.ready.places) (sym c.in-Some.ensures) in
+    subst (λ (k : ℕ). k < length task.preferred) (sym it.1) (number_in task.preferred c.args.machine it.0).0

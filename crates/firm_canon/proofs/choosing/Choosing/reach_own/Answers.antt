@@ -1,4 +1,5 @@
 use Rattle.std.proofs.Common.{◌≡◌, ℕ, ◌≤◌, Option, Some, None, length, refl, sym, ap, ◌∙◌}
+use Rattle.std.proofs.lemmas.Bool.{false≢true}
 use Rattle.firm_rules.specs.Placement.{runs_at}
 use Rattle.firm_graph.specs.View.{flows}
 use Rattle.firm_graph.specs.declared.network.Key.TheVariants.{Stay}
@@ -6,7 +7,7 @@ use Rattle.firm_canon.specs.inner.State.{prefix, price, view}
 use Rattle.firm_canon.specs.declared.choosing.Choosing.{Choosing}
 use Rattle.firm_canon.proofs.Choices.{chose_own, no_stay_home}
 use Rattle.firm_canon.proofs.Ends.{passed_own}
-use Rattle.firm_canon.proofs.States.{kept_on, ready_on}
+use Rattle.firm_canon.proofs.States.{kept_on, ready_on, goes_still}
 use Rattle.firm_canon.proofs.choosing.Choosing.reach_own.Goals as goal
 
 none_of : (o : Option ℕ) → ((x : ℕ) → o ≡ Some x → ⊥) → o ≡ None
@@ -37,3 +38,11 @@ returns-clause-some c =
     chose_own (view now) (price now) (prefix now) c.in-Some.own ready.ready.keeps ready.next
     (sym ready.home ∙ c.in-Some.is)
     (kept_on (λ b. 1 ≤ flows (view now) (Stay (length b))) s now 0 taken.goes_on (taken.yes refl))
+
+pub returns-in_default-clause-goes_on : goal.returns-in_default-clause-goes_on
+returns-in_default-clause-goes_on c = goes_still c.args.self.now c.requires.ready.ready
+
+pub returns-in_default-clause-passed : goal.returns-in_default-clause-passed
+returns-in_default-clause-passed c j own =
+    absurd (false≢true (ap (λ (h : Option ℕ). runs_at h j)
+    (sym (none_of c.args.wishes.now.home c.in_default.not-Some)) ∙ own))

@@ -5,7 +5,7 @@ use Rattle.firm_paths.specs.Visits.{paths_of}
 use Rattle.firm_paths.specs.Workspace.{HasSearched}
 use Rattle.firm_canon.specs.inner.State.{left, prefix, price, root, view}
 use Rattle.firm_canon.specs.declared.choosing.Choosing.{Choosing}
-use Rattle.firm_canon.proofs.States.{goes_counted}
+use Rattle.firm_canon.proofs.States.{goes_counted, goes_still}
 use Rattle.firm_canon.proofs.choosing.Choosing.search_back.Goals as goal
 use Rattle.firm_canon.proofs.choosing.Choosing.search_back.Goals.{After-tight_paths}
 
@@ -48,3 +48,6 @@ returns-clause-ways c none = record {
   ways = λ e. ways (goal.at.returns-clause-ways c).After-tight_paths none;
   hub = c.requires.ways.hub;
 }
+
+pub returns-then-self-clause-goes_on : goal.returns-then-self-clause-goes_on
+returns-then-self-clause-goes_on c = goes_still c.args.self.now c.requires.ready
