@@ -1,7 +1,7 @@
 //! What stands at a tenant's place while the hall serves.
 ghost use Rattle.std.specs.Prelude.{◌≡◌, ◌≢◌, IsSome, Some, false, true};
 ghost use Rattle.firm_hall.specs.inner.DeskStates.{IsAdmitted, IsAway, IsBack, IsFree, IsHome, IsHomeOf, IsRetired};
-ghost use Rattle.firm_hall.specs.inner.DeskStates.{IsTaken, IsTakenAt, IsTurned, with_waiting};
+ghost use Rattle.firm_hall.specs.inner.DeskStates.{IsTakenAt, IsTurned, with_waiting};
 ghost use Rattle.firm_rules.specs.declared.commands.Command.TheVariants.{Round};
 
 use crate::desks::{Asked, AskedPoll, Desk};
@@ -86,15 +86,24 @@ impl DeskState {
         if !self.is_answered() {
             return None;
         }
-        let DeskState::Away(asked) = mem::replace(self, DeskState::Gone) else {
-            unreachable!()
-        };
-        let (desk_state, reply) = match asked.poll() {
-            AskedPoll::Back(desk, reply) => (DeskState::Home(desk, true), Some(reply)),
-            AskedPoll::Not(same) => (DeskState::Away(same), None),
-        };
+        let (desk_state, reply) = mem::replace(self, DeskState::Gone).polled();
         let _gone = mem::replace(self, desk_state);
         reply
+    }
+
+    // The same by value, so that a way out has either the place or what was taken from it.
+    fn polled(self) -> (DeskState, Option<Reply>)
+        requires { IsAway self }
+        ensures turned { IsTurned self result.0 result.1 }
+        ensures home { IsSome result.1 → IsHome result.0 }
+    {
+        match self {
+            DeskState::Away(asked) => match asked.poll() {
+                AskedPoll::Back(desk, reply) => (DeskState::Home(desk, true), Some(reply)),
+                AskedPoll::Not(same) => (DeskState::Away(same), None),
+            },
+            _ => unreachable!(),
+        }
     }
 
     // Gives a command to the desk that is home at this place; returns the reply, unless the command is a round that is
@@ -117,15 +126,15 @@ impl DeskState {
     }
 
     // The same for a command that is not a round, apart so that it is not copied on most lines' way.
-    pub(crate) fn tell<R: Wait>(&mut self, setting: &Setting<'_, R>, command: Command) -> Reply
-        requires home { IsHomeOf setting.now.hall.now.id self.old }
+    pub(crate) fn tell(&mut self, alloc: Global, command: Command) -> Reply
+        requires home { IsHome self.old }
         requires other { command ≢ Round }
         ensures { IsTakenAt self.old command self.new (Some result) }
     {
         let DeskState::Home(desk, _) = self else {
             unreachable!()
         };
-        desk.command(setting.alloc, command)
+        desk.command(alloc, command)
     }
 
     // The same for a round, out of line so that other commands do not pay for its locals.
@@ -134,12 +143,25 @@ impl DeskState {
         requires { IsHomeOf setting.now.hall.now.id self.old }
         ensures { IsTakenAt self.old Round self.new result }
     {
-        let DeskState::Home(desk, waits) = mem::replace(self, DeskState::Gone) else {
-            unreachable!()
-        };
-        let (desk_state, reply) = ask(setting, desk, waits);
+        let (desk_state, reply) = mem::replace(self, DeskState::Gone).asked(setting);
         let _gone = mem::replace(self, desk_state);
         reply
+    }
+
+    // The same by value.
+    fn asked<R: Wait>(self, setting: &Setting<'_, R>) -> (DeskState, Option<Reply>)
+        requires { IsHomeOf setting.now.hall.now.id self }
+        ensures { IsTakenAt self Round result.0 result.1 }
+    {
+        match self {
+            DeskState::Home(desk, waits) => {
+                match desk.ask_unrung(setting.rt, setting.alloc, setting.hall) {
+                    Ok(asked) => (DeskState::Away(asked), None),
+                    Err((desk, reply)) => (DeskState::Home(desk, waits), Some(reply)),
+                }
+            }
+            _ => unreachable!(),
+        }
     }
 
     // Admits a tenant with these limits to the empty place. Returns `false` only if memory is refused, with the place
@@ -148,16 +170,24 @@ impl DeskState {
         requires { IsFree self.old }
         ensures { IsAdmitted self.old limits result self.new }
     {
-        let DeskState::Empty(place) = mem::replace(self, DeskState::Gone) else {
-            unreachable!()
-        };
-        let (desk_state, came) = match place.admit(alloc, limits) {
-            Ok(desk) => (DeskState::Home(desk, false), true),
-            Err(AdmitFault::Memory(place)) => (DeskState::Empty(place), false),
-            Err(AdmitFault::Worn(_)) => unreachable!(),
-        };
+        let (desk_state, came) = mem::replace(self, DeskState::Gone).admitted(alloc, limits);
         let _gone = mem::replace(self, desk_state);
         came
+    }
+
+    // The same by value.
+    fn admitted(self, alloc: Global, limits: Limits) -> (DeskState, bool)
+        requires { IsFree self }
+        ensures { IsAdmitted self limits result.1 result.0 }
+    {
+        match self {
+            DeskState::Empty(place) => match place.admit(alloc, limits) {
+                Ok(desk) => (DeskState::Home(desk, false), true),
+                Err(AdmitFault::Memory(place)) => (DeskState::Empty(place), false),
+                Err(AdmitFault::Worn(_)) => unreachable!(),
+            },
+            _ => unreachable!(),
+        }
     }
 
     // Retires the tenant, which is home, from the place.
@@ -169,17 +199,5 @@ impl DeskState {
             unreachable!()
         };
         let _gone = mem::replace(self, DeskState::Empty(desk.retire()));
-    }
-}
-
-// Asks for a round at this desk, for which commands wait or none do. Returns what then stands at its place, and the
-// reply, unless the round is away.
-fn ask<R: Wait>(setting: &Setting<'_, R>, desk: Desk, waits: bool) -> (DeskState, Option<Reply>)
-    requires { desk.queue ≡ setting.now.hall.now.id }
-    ensures { IsTaken desk waits Round result.0 result.1 }
-{
-    match desk.ask_unrung(setting.rt, setting.alloc, setting.hall) {
-        Ok(asked) => (DeskState::Away(asked), None),
-        Err((desk, reply)) => (DeskState::Home(desk, waits), Some(reply)),
     }
 }

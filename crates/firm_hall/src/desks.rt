@@ -23,7 +23,7 @@ use std::sync::Wait;
 #[derive(Drop)]
 pub struct Desk {
     tenant: Tenant,
-    place: Place,
+    pub(crate) place: Place,
 }
 
 impl Model for Desk {
@@ -79,7 +79,7 @@ impl Desk {
         // A life is at most 2^40 commands, so ticket numbers never run out.
         prove!(limits.life() <= 1 << 40);
         let tenant = Tenant::admit(alloc, limits)?;
-        let place = Place::unused(pass).given();
+        let place = Place::given_before(pass, 1);
         Ok(Desk { tenant, place })
     }
 
@@ -103,7 +103,7 @@ impl Desk {
         ensures left { OnOk result (self.book.given < self.book.rows.limits.life) }
     {
         let asked = self.ask_unrung(rt, alloc, hall);
-        hall.bell().ring();
+        hall.bell.ring();
         asked
     }
 
@@ -145,15 +145,7 @@ impl Desk {
         ensures { result ≡ place_is self.queue self.place self.put self.admissions }
     {
         let Desk { tenant: _, place } = self;
-        EmptyDesk::of(place)
-    }
-
-    // How many rounds were asked at the place.
-    pub(crate) fn asked(&self) -> u64
-        ensures count { result ≡ self.now.put }
-        ensures few { result ≤ 2 ^ 55 }
-    {
-        self.place.asked()
+        EmptyDesk { place }
     }
 
     // Hands in the pass.

@@ -19,7 +19,7 @@ use std::marker::Model;
 /// asked there and how often the place was given.
 #[derive(Drop)]
 pub struct EmptyDesk {
-    place: Place,
+    pub(crate) place: Place,
 }
 
 impl Model for EmptyDesk {
@@ -40,12 +40,6 @@ pub enum AdmitFault {
 }
 
 impl EmptyDesk {
-    pub(crate) fn of(place: Place) -> EmptyDesk
-        ensures { result ≡ place }
-    {
-        EmptyDesk { place }
-    }
-
     /// Admits a tenant with these limits: its desk has the opening book, and its tickets are numbered on from those of
     /// the tenants before it. Never waits.
     pub fn admit(self, alloc: Global, limits: Limits) -> Result<Desk, AdmitFault>
@@ -64,14 +58,6 @@ impl EmptyDesk {
         prove!(limits.life() <= 1 << 40);
         let EmptyDesk { place } = self;
         Ok(Desk::at(place.given(), tenant))
-    }
-
-    // How many rounds were asked at the place.
-    pub(crate) fn asked(&self) -> u64
-        ensures count { result ≡ self.now.put }
-        ensures few { result ≤ 2 ^ 55 }
-    {
-        self.place.asked()
     }
 
     // Hands in the pass.

@@ -1,5 +1,5 @@
 //! The end of a service: its desks come home and are collected.
-ghost use Rattle.std.specs.Prelude.{◌≡◌, ◌+◌, ◌<◌, ◌≤◌, ◌^◌, ◌++◌, ◌∷◌, [], length, vec_capacity, vec_len};
+ghost use Rattle.std.specs.Prelude.{◌≡◌, ◌+◌, ◌<◌, ◌≤◌, ◌^◌, length, vec_capacity, vec_len};
 ghost use Rattle.firm_text.specs.Rosters.{most_places};
 ghost use Rattle.firm_rounds.specs.Passes.{QueueId};
 ghost use Rattle.firm_rounds.specs.Rounds.{weigh};
@@ -60,26 +60,16 @@ fn put_away(desk_state: DeskState, desks: &mut Vec<Desk>, empty: &mut Vec<EmptyD
     ensures few { result ≤ 2 ^ 55 }
 {
     match desk_state {
-        DeskState::Home(desk, _) => put_desk(desks, desk),
-        DeskState::Empty(place) => {
-            let rounds = place.asked();
-            empty.push_reserved(place);
+        DeskState::Home(desk, _) => {
+            let rounds = desk.place.asked();
+            desks.push_reserved(desk);
+            rounds
+        }
+        DeskState::Empty(empty_desk) => {
+            let rounds = empty_desk.place.asked();
+            empty.push_reserved(empty_desk);
             rounds
         }
         DeskState::Away(_) | DeskState::Gone => unreachable!(),
     }
-}
-
-// Puts a desk with the others. Returns how many rounds were asked there.
-fn put_desk(desks: &mut Vec<Desk>, desk: Desk) -> u64
-    requires room { vec_len desks.old < vec_capacity desks.old }
-    ensures items { desks.new.items ≡ desks.old.items ++ desk ∷ [] }
-    ensures count { vec_len desks.new ≡ vec_len desks.old + 1 }
-    ensures room { vec_capacity desks.new ≡ vec_capacity desks.old }
-    ensures asked { result ≡ desk.put }
-    ensures few { result ≤ 2 ^ 55 }
-{
-    let rounds = desk.asked();
-    desks.push_reserved(desk);
-    rounds
 }

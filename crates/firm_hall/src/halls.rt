@@ -1,7 +1,6 @@
 //! The hall itself: the round queue and the stop word, which desks and workers share.
-ghost use Rattle.std.specs.Prelude.{◌≡◌, ◌+◌, ◌-◌, ◌<◌, ◌≤◌, ◌^◌, ◌++◌, ◌∷◌, [], All, IfOk, MatchOption, length, map};
-ghost use Rattle.firm_rounds.specs.Passes.{put_is, pop_is, new_puts, new_pops};
-ghost use Rattle.firm_rounds.specs.Rounds.{ticket};
+ghost use Rattle.std.specs.Prelude.{◌≡◌, ◌-◌, ◌≤◌, All, IfOk, length, map};
+ghost use Rattle.firm_rounds.specs.Passes.{new_puts, new_pops};
 ghost use Rattle.firm_text.specs.Rosters.{most_places};
 ghost use Rattle.firm_hall.specs.Desks.{place_is};
 ghost use Rattle.firm_hall.specs.Opening.{opening_desks, unused_places};
@@ -12,22 +11,22 @@ use crate::places::Place;
 use crate::workers::WorkerPass;
 use crossbeam_utils::sync::EventCount;
 use firm_bell::Bell;
-use firm_rounds::{Job, PopPass, PutPass, Queue};
+use firm_rounds::{PopPass, PutPass, Queue};
 use firm_text::{PLACES, Roster};
 use firm_tray::Spent;
 use std::alloc::{AllocError, Global};
 use std::marker::Model;
-use std::sync::{Arc, Wait};
+use std::sync::Arc;
 
 /// What desks and workers share. Contracts see which queue it has, and how many desks and workers.
 #[derive(Drop)]
 pub struct Hall {
-    queue: Queue,
+    pub(crate) queue: Queue,
     // Workers without a round sleep until it rings, or tells them that the hall is shut.
-    bell: Bell,
+    pub(crate) bell: Bell,
     // Notified of each solved round, and of room in a queue that was full. The clerk sleeps on it, for these or for
     // input.
-    answers: Arc<EventCount, Global>,
+    pub(crate) answers: Arc<EventCount, Global>,
 }
 
 impl Model for Hall {
@@ -94,43 +93,9 @@ impl Hall {
         self.bell.shut();
     }
 
-    pub(crate) fn bell(&self) -> &Bell {
-        &self.bell
-    }
-
-    // Notified of each solved round, and of room in a queue that was full.
-    pub(crate) fn answers(&self) -> &Arc<EventCount, Global> {
-        &self.answers
-    }
-
     // Tells the clerk that a round was answered, of which this is the proof.
     pub(crate) fn tell(&self, _answered: Spent) {
         self.answers.notify_one();
-    }
-
-    // Whether the queue has room for one more round.
-    pub(crate) fn has_room(&self) -> bool {
-        self.bell.has_room()
-    }
-
-    // Puts a round. If others wait or are being solved, possibly no worker is woken until the bell rings.
-    pub(crate) fn put<R: Wait>(&self, rt: &R, pass: &mut PutPass, job: Job)
-        requires of { pass.old.queue ≡ self.now.id }
-        requires next { job.ticket ≡ ticket pass.old.place (pass.old.put + 1) }
-        requires room { pass.old.put < 2 ^ 55 }
-        ensures { pass.new ≡ put_is pass.old.queue pass.old.place (pass.old.put + 1) }
-    {
-        let (caller, older) = self.bell.expect();
-        self.queue.put(rt, pass, job);
-        self.bell.came(caller, older);
-    }
-
-    pub(crate) fn pop<R: Wait>(&self, rt: &R, pass: &mut PopPass) -> Option<Job>
-        requires { pass.old.queue ≡ self.now.id }
-        ensures { MatchOption result (pass.new ≡ pass.old)
-            (λ job. pass.new ≡ pop_is pass.old.queue (pass.old.got ++ job.ticket ∷ [])) }
-    {
-        self.queue.pop(rt, pass)
     }
 
     // How many desks there are, and how many workers.
@@ -166,11 +131,34 @@ fn open_hall(
         (λ r. All (λ d. d.queue ≡ r.0.id) r.1.items × All (λ p. p.queue ≡ r.0.id) r.2.items) }
     ensures empty_of_this { IfOk result (λ r. All (λ e. e.queue ≡ r.0.id) r.3.items) }
 {
-    let (hall, mut puts, passes) = Hall::open_bare(alloc, places, workers)?;
-    let rest = puts.split_off(roster.len())?;
-    let desks = open_desks(alloc, roster, puts)?;
-    let empty = open_empty(alloc, rest)?;
+    let (hall, puts, passes) = Hall::open_bare(alloc, places, workers)?;
+    let (desks, empty) = open_places(alloc, roster, puts)?;
     Ok((hall, desks, passes, empty))
+}
+
+// What stands at the places of these passes: the tenants of the roster have the first ones. Apart from the hall, which
+// each way out of here would drop.
+fn open_places(
+    alloc: Global,
+    roster: &Roster,
+    passes: Vec<PutPass>,
+) -> Result<(Vec<Desk>, Vec<EmptyDesk>), AllocError>
+    requires count { length roster.now ≤ length passes.items }
+    requires unused { All (λ p. p.put ≡ 0) passes.items }
+    ensures desks { IfOk result (λ r. (id : _) (places : _)
+        → length roster.now ≤ places
+        → passes.items ≡ new_puts id places
+        → r.0.items ≡ opening_desks id 0 roster.now) }
+    ensures empty { IfOk result (λ r. (id : _) (places : _)
+        → length roster.now ≤ places
+        → passes.items ≡ new_puts id places
+        → r.1.items ≡ unused_places id (length roster.now) (places - length roster.now)) }
+{
+    let mut first = passes;
+    let rest = first.split_off(roster.len())?;
+    let empty = open_empty(alloc, rest)?;
+    let desks = open_desks(alloc, roster, first)?;
+    Ok((desks, empty))
 }
 
 // A desk for each row of the roster, in order.
@@ -196,7 +184,9 @@ fn open_empty(alloc: Global, passes: Vec<PutPass>) -> Result<Vec<EmptyDesk>, All
 {
     let mut empty = Vec::with_capacity(alloc, passes.len())?;
     for pass in passes {
-        empty.push_reserved(EmptyDesk::of(Place::unused(pass)));
+        empty.push_reserved(EmptyDesk {
+            place: Place::given_before(pass, 0),
+        });
     }
     Ok(empty)
 }
@@ -207,7 +197,7 @@ fn open_passes(alloc: Global, passes: Vec<PopPass>) -> Result<Vec<WorkerPass>, A
 {
     let mut all = Vec::with_capacity(alloc, passes.len())?;
     for pass in passes {
-        all.push_reserved(WorkerPass::of(pass));
+        all.push_reserved(WorkerPass { taken: pass });
     }
     Ok(all)
 }

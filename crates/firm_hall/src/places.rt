@@ -30,17 +30,6 @@ impl Model for Place {
 }
 
 impl Place {
-    // A place that was never given.
-    pub(crate) fn unused(pass: PutPass) -> Place
-        requires { pass.put ≡ 0 }
-        ensures { result ≡ place_is pass.queue pass.place 0 0 }
-    {
-        Place {
-            pass,
-            admissions: 0,
-        }
-    }
-
     // A place that was given so often, and where no round was asked yet.
     pub(crate) fn given_before(pass: PutPass, admissions: u32) -> Place
         requires unused { pass.put ≡ 0 }
@@ -85,14 +74,17 @@ impl Place {
         self.pass.next().number - 1
     }
 
-    // Asks for a round, whose job has the next ticket.
+    // Asks for a round, whose job has the next ticket. If others wait or are being solved, possibly no worker is woken
+    // until the bell rings.
     pub(crate) fn put<R: Wait>(&mut self, rt: &R, hall: &Hall, job: Job)
         requires of { self.old.queue ≡ hall.now.id }
         requires next { job.ticket ≡ ticket self.old.place (self.old.put + 1) }
         requires room { self.old.put < rounds_of self.old.admissions }
         ensures { self.new ≡ place_is self.old.queue self.old.place (self.old.put + 1) self.old.admissions }
     {
-        hall.put(rt, &mut self.pass, job);
+        let (caller, older) = hall.bell.expect();
+        hall.queue.put(rt, &mut self.pass, job);
+        hall.bell.came(caller, older);
     }
 
     // Hands in the pass.

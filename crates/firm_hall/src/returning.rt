@@ -21,7 +21,7 @@ impl Serving {
         ensures follows { Follows self.old self.new }
         ensures keeps { Keeps self.old self.new }
     {
-        if self.is_idle() {
+        if self.held.is_empty() {
             return;
         }
         self.visit_first(setting);
@@ -71,7 +71,7 @@ impl Serving {
         ensures keeps { Keeps self.old self.new }
     {
         if !self.desk_states[place].is_away() {
-            return self.desk_states[place].has_waiting() && hall.has_room();
+            return self.desk_states[place].has_waiting() && hall.bell.has_room();
         }
         self.comes_home(place)
     }
@@ -134,7 +134,8 @@ impl Serving {
         ensures follows { Follows self.old self.new }
         ensures keeps { Keeps self.old self.new }
     {
-        if command == Command::Round && !setting.hall.has_room() {
+        let hall = setting.hall;
+        if command == Command::Round && !hall.bell.has_room() {
             return false;
         }
         let Some(reply) = self.desk_states[place].take(setting, &command) else {

@@ -51,7 +51,7 @@ fn open_state(
 {
     let place = Place::given_before(pass, opening.admissions_at(at));
     let Some(tenant) = opening.tenant_at(alloc, at)? else {
-        return Ok(DeskState::Empty(EmptyDesk::of(place)));
+        return Ok(DeskState::Empty(EmptyDesk { place }));
     };
     // A life is at most 2^40 commands, and no more were given, so ticket numbers never run out.
     prove!(tenant.limits().life() <= 1 << 40);

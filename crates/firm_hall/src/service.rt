@@ -101,12 +101,12 @@ pub fn serve_from<S: Source, W: Sink, R: Threads + Wait + Sync, G: Gate + Sync>(
         rt,
         alloc,
         hall: &hall,
-        opening,
-    };
-    let Ok(clerk) = HallClerk::open(setting, places) else {
-        return Err(ServeFault::Memory);
     };
     let Ok(team) = Team::open(rt, alloc, &hall, gate, passes) else {
+        return Err(ServeFault::Memory);
+    };
+    // The clerk, which owns most, is opened behind all else that can fail.
+    let Ok(clerk) = HallClerk::open(setting, opening, places) else {
         return Err(ServeFault::Memory);
     };
     let (served, reports) = serve_with(team, clerk, reader, writer, most);
@@ -135,11 +135,11 @@ fn serve_with<S: Source, W: Sink, R: Threads + Wait + Sync, G: Gate + Sync>(
 ) -> (Result<Ended, ServeFault>, Vec<Report>)
     requires open { IsOpen clerk.setting.hall.now.id clerk.serving }
     requires told { (written : Option (List ℕ))
-        → TellsAll (places_opened clerk.setting.opening) clerk.serving [] written written }
+        → TellsAll (places_opened clerk.opening) clerk.serving [] written written }
     requires most { most ≤ 2 ^ 32 }
     requires reader { S.read_failed reader.old ≡ false }
     requires writer { W.write_failed writer.old ≡ false }
-    ensures ran { Ran (places_opened clerk.entry.setting.opening) most
+    ensures ran { Ran (places_opened clerk.entry.opening) most
         (between S.left S.read_failed reader.old reader.new)
         (between W.written W.write_failed writer.old writer.new) result.0 }
     ensures desks { IfOk result.0 (λ ended. AreOf clerk.entry.setting.hall.now.id ended.desks.items ended.empty.items) }
@@ -154,13 +154,13 @@ fn serve_with<S: Source, W: Sink, R: Threads + Wait + Sync, G: Gate + Sync>(
             requires threads { IsSync R.row × IsSync G.row }
             requires open { IsOpen clerk.setting.hall.now.id clerk.serving }
             requires told { (written : Option (List ℕ))
-                → TellsAll (places_opened clerk.setting.opening) clerk.serving [] written written }
+                → TellsAll (places_opened clerk.opening) clerk.serving [] written written }
             requires most { most ≤ 2 ^ 32 }
             requires reader { S.read_failed reader.now ≡ false }
             requires writer { W.write_failed writer.now ≡ false }
             ensures reads { result.2.ghost_name ≡ reader.entry.ghost_name }
             ensures writes { result.3.ghost_name ≡ writer.entry.ghost_name }
-            ensures ran { Ran (places_opened clerk.entry.setting.opening) most
+            ensures ran { Ran (places_opened clerk.entry.opening) most
                 (between S.left S.read_failed reader.entry.now result.2.now)
                 (between W.written W.write_failed writer.entry.now result.3.now) result.0 }
             ensures desks { IfOk result.0
@@ -193,18 +193,24 @@ fn serve_all<S: Source, W: Sink, R: Wait>(
 ) -> Result<Ended, ServeFault>
     requires open { IsOpen clerk.setting.hall.now.id clerk.serving }
     requires told { (written : Option (List ℕ))
-        → TellsAll (places_opened clerk.setting.opening) clerk.serving [] written written }
+        → TellsAll (places_opened clerk.opening) clerk.serving [] written written }
     requires most { most ≤ 2 ^ 32 }
     requires reader { S.read_failed reader.old ≡ false }
     requires writer { W.write_failed writer.old ≡ false }
-    ensures ran { Ran (places_opened clerk.entry.setting.opening) most
+    ensures ran { Ran (places_opened clerk.entry.opening) most
         (between S.left S.read_failed reader.old reader.new)
         (between W.written W.write_failed writer.old writer.new) result }
     ensures desks { IfOk result (λ ended. AreOf clerk.entry.setting.hall.now.id ended.desks.items ended.empty.items) }
     ensures places { IfOk result (λ ended. length ended.desks.items + length ended.empty.items ≡ most_places) }
 {
     serve_lines(reader, writer, &mut clerk, most)?;
-    Ok(clerk.end())
+    let HallClerk {
+        serving,
+        desks,
+        empty,
+        ..
+    } = clerk;
+    Ok(serving.end(desks, empty))
 }
 
 // Ends the hall. Rounds that no worker took are solved here.

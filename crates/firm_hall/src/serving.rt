@@ -1,5 +1,5 @@
 //! Lines are answered in order at the desks, while rounds are away.
-ghost use Rattle.std.specs.Prelude.{◌≡◌, ◌≢◌, ℕ, ◌<◌, ◌++◌, ◌∷◌, All, IfErr, IfOk, IfSome, List, MatchBool, OnErr};
+ghost use Rattle.std.specs.Prelude.{◌≡◌, ◌≢◌, ℕ, ◌<◌, ◌≤◌, ◌++◌, ◌∷◌, IfErr, IfSome, List, MatchBool, OnErr};
 ghost use Rattle.std.specs.Prelude.{OnOk, Option, Some, [], false, length, true};
 ghost use Rattle.firm_text.specs.Inputs.{input_lines};
 ghost use Rattle.firm_text.specs.Registers.{IsRegister, place_in};
@@ -7,27 +7,26 @@ ghost use Rattle.firm_text.specs.Rosters.{most_places};
 ghost use Rattle.firm_rules.specs.declared.commands.Command.TheVariants.{Round};
 ghost use Rattle.firm_text.specs.declared.inputs.Line.TheVariants.{For};
 ghost use Rattle.firm_table.specs.Places.{Place};
-ghost use Rattle.firm_table.specs.Openings.{places_opened};
 ghost use Rattle.firm_table.specs.Service.{BeginsAnswersFrom, IsWritingFault};
-ghost use Rattle.firm_rounds.specs.Passes.{new_puts};
-ghost use Rattle.firm_held.specs.Held.{FirstIsKnown, FirstWaits, HasRoom, most_answers_held};
+ghost use Rattle.firm_held.specs.Held.{FirstWaits, most_answers_held};
 ghost use Rattle.firm_hall.specs.inner.Serving.{Begins, Follows, HasTurn, IsBackAt, IsOpen, IsWrittenOut, Keeps};
-ghost use Rattle.firm_hall.specs.inner.Serving.{Passes, Takes, TellsAll, place_of_line};
+ghost use Rattle.firm_hall.specs.inner.Serving.{Passes, Takes, TellsAll, Stands, place_of_line, serving_is};
+ghost use Rattle.firm_hall.specs.declared.desk_states.DeskState.{DeskState};
+ghost use Rattle.firm_rounds.specs.Passes.{QueueId};
+ghost use Rattle.firm_text.specs.declared.registers.Entry.{Entry};
 
 use crate::desk_states::DeskState;
 use crate::halls::Hall;
 use crate::patience::{Looks, Patience};
-use crate::seating::open_states;
 use crate::setting::Setting;
 use crate::unsettled::Unsettled;
 use crate::waiting::Turn;
 use firm_held::{Held, HeldAnswer};
-use firm_rounds::PutPass;
 use firm_rules::{Command, Name};
 use firm_table::{LineAnswer, ServeFault, answers_add_up};
 use firm_tenant::replies_tell_their_marks;
 use firm_text::{Line, OperatorLine, Register, Sink};
-use std::alloc::AllocError;
+use std::alloc::{AllocError, Global};
 use std::marker::Model;
 use std::snapshot::Snapshot;
 use std::sync::Wait;
@@ -56,31 +55,6 @@ impl Model for Serving {
 }
 
 impl Serving {
-    // The state before the first line, with all tenants at home. Fails only if memory is refused.
-    pub(crate) fn open<R: Wait>(
-        setting: &Setting<'_, R>,
-        passes: Vec<PutPass>,
-    ) -> Result<Serving, AllocError>
-        requires passes { passes.items ≡ new_puts setting.now.hall.now.id most_places }
-        requires unused { All (λ p. p.put ≡ 0) passes.items }
-        ensures open { IfOk result (IsOpen setting.now.hall.now.id) }
-        ensures told { IfOk result (λ serving. (written : Option (List ℕ))
-            → TellsAll (places_opened setting.now.opening) serving [] written written) }
-    {
-        // A law: before the first line nothing is told.
-        answers_add_up();
-        let desk_states = open_states(setting.alloc, setting.opening, passes)?;
-        let held = Held::open(setting.alloc)?;
-        Ok(Serving {
-            hall: Snapshot::of(setting.hall),
-            register: setting.opening.register(),
-            desk_states,
-            held,
-            unsettled: Unsettled::none(),
-            patience: Patience::FIRST,
-        })
-    }
-
     /// Answers one more line, once it has its turn.
     pub(crate) fn answer<R: Wait, W: Sink>(
         &mut self,
@@ -104,22 +78,12 @@ impl Serving {
     {
         // Laws: of one more line.
         answers_add_up();
-        let place = self.place_of(&line);
-        let mut turn = Turn { place };
+        let mut turn = Turn {
+            place: place_of(&self.register, &line),
+        };
         self.take_turn(setting, writer, &mut turn)?;
         self.take_line(setting, line);
         Ok(())
-    }
-
-    // The place of the tenant that a line waits for.
-    fn place_of(&self, line: &Line) -> Option<usize>
-        ensures place { result ≡ place_of_line self.now.register line.now }
-        ensures within { IfSome result (λ place. place < most_places) }
-    {
-        match line {
-            Line::Operator(OperatorLine::Retire(name)) => self.register.place_of(*name),
-            _ => None,
-        }
     }
 
     // Waits for the turn, if it has not come.
@@ -184,7 +148,7 @@ impl Serving {
         } else if is_round(&command) {
             self.take(setting, place, name, command);
         } else {
-            self.tell(setting, place, name, command);
+            self.tell(setting.alloc, place, name, command);
         }
     }
 
@@ -193,7 +157,7 @@ impl Serving {
         requires { place < most_places }
         ensures { result ≡ true → IsBackAt place self.now.desk_states }
     {
-        self.is_back(place) && (!is_round(command) || hall.has_room())
+        self.desk_states[place].is_back() && (!is_round(command) || hall.bell.has_room())
     }
 
     // Gives a command to the tenant of the place, which is at home. Out of line, so that lines other than rounds do not
@@ -224,14 +188,7 @@ impl Serving {
     }
 
     // The same for a command that is not a round, whose reply is known at once.
-    fn tell<R: Wait>(
-        &mut self,
-        setting: &Setting<'_, R>,
-        place: usize,
-        name: Name,
-        command: Command,
-    )
-        requires open { IsOpen setting.now.hall.now.id self.old }
+    fn tell(&mut self, alloc: Global, place: usize, name: Name, command: Command)
         requires place { place < most_places }
         requires sound { IsRegister self.old.register }
         requires found { place_in self.old.register name ≡ Some place }
@@ -244,7 +201,7 @@ impl Serving {
         // Laws: of one more line, and of the marks that replies tell.
         answers_add_up();
         replies_tell_their_marks();
-        let reply = self.desk_states[place].tell(setting, command);
+        let reply = self.desk_states[place].tell(alloc, command);
         self.held
             .push(HeldAnswer::Known(LineAnswer::Replied(name, reply)));
     }
@@ -268,29 +225,6 @@ impl Serving {
         self.held.push(HeldAnswer::Waiting(place, name, command));
     }
 
-    // Puts the first held answer, which is known, after the text to be written.
-    fn put_first(&mut self) -> Result<(), AllocError>
-        requires { FirstIsKnown self.old.answers }
-        ensures keeps { OnOk result (Keeps self.old self.new) }
-        ensures hall { self.new.queue ≡ self.old.queue }
-        ensures register { self.new.register ≡ self.old.register }
-        ensures fewer { length self.new.answers < length self.old.answers }
-    {
-        self.held.put_first()
-    }
-
-    // The same for all known answers up to the first that waits.
-    fn put_known(&mut self) -> Result<(), AllocError>
-        ensures follows { Follows self.old self.new }
-        ensures keeps { OnOk result (Keeps self.old self.new) }
-        ensures first { OnOk result (FirstWaits self.new.answers) }
-    {
-        while self.held.first_is_known() {
-            self.put_first()?;
-        }
-        Ok(())
-    }
-
     /// Looks at the rounds that are away, behind these in vain, and writes the known answers, up to the first that
     /// waits.
     pub(crate) fn write_out<R: Wait, W: Sink>(
@@ -309,43 +243,39 @@ impl Serving {
         ensures follows { Follows self.old self.new }
     {
         self.look(setting);
-        let Ok(()) = self.put_known() else {
+        let Ok(()) = put_known(&mut self.held) else {
             return Err(ServeFault::Memory);
         };
         self.patience = self.patience.after_look(looks);
         self.held.write(writer)
     }
+}
 
-    /// Whether no answer is held.
-    pub(crate) fn is_idle(&self) -> bool
-        ensures { MatchBool result (self.now.answers ≡ []) (0 < length self.now.answers) }
-    {
-        self.held.is_empty()
+// Puts all known answers up to the first that waits after the text to be written. Whatever stands at the places stands
+// then too, and as much is told.
+fn put_known(held: &mut Held) -> Result<(), AllocError>
+    ensures stands { (queue : QueueId) (register : List Entry) (desk_states : List DeskState)
+        → Stands (serving_is queue register desk_states held.old)
+        → Stands (serving_is queue register desk_states held.new) }
+    ensures keeps { OnOk result ((queue : QueueId) (register : List Entry) (desk_states : List DeskState)
+        → Keeps (serving_is queue register desk_states held.old) (serving_is queue register desk_states held.new)) }
+    ensures fewer { length held.new.answers ≤ length held.old.answers }
+    ensures first { OnOk result (FirstWaits held.new.answers) }
+{
+    while held.first_is_known() {
+        held.put_first()?;
     }
+    Ok(())
+}
 
-    /// Whether one more answer can be held.
-    pub(crate) fn has_room(&self) -> bool
-        ensures { result ≡ true → HasRoom self.now.answers }
-    {
-        self.held.has_room()
-    }
-
-    /// How many looks in vain come before a sleep: fewer while rounds come late.
-    pub(crate) fn most_looks(&self) -> u32 {
-        self.patience.most_looks(self.unsettled.are_several())
-    }
-
-    /// How many answers are held.
-    pub(crate) fn count(&self) -> usize {
-        self.held.len()
-    }
-
-    /// Whether the place is empty, or its tenant at home with no command waiting.
-    pub(crate) fn is_back(&self, place: usize) -> bool
-        requires { place < most_places }
-        ensures { result ≡ true → IsBackAt place self.now.desk_states }
-    {
-        self.desk_states[place].is_back()
+// The place of the tenant that a line waits for.
+fn place_of(register: &Register, line: &Line) -> Option<usize>
+    ensures place { result ≡ place_of_line register.now line.now }
+    ensures within { IfSome result (λ place. place < most_places) }
+{
+    match line {
+        Line::Operator(OperatorLine::Retire(name)) => register.place_of(*name),
+        _ => None,
     }
 }
 

@@ -15,11 +15,10 @@ pub struct Setup<'s, R, G> {
     pub gate: &'s G,
 }
 
-/// The runtime, the memory and the hall of a service, and what it opens with.
+/// The runtime, the memory and the hall of a service.
 #[derive(Drop)]
 pub(crate) struct Setting<'h, R: Wait> {
     pub(crate) rt: &'h R,
     pub(crate) alloc: Global,
     pub(crate) hall: &'h Hall,
-    pub(crate) opening: Opening<'h>,
 }

@@ -63,12 +63,12 @@ impl Turn {
     pub(crate) fn is_there(&self, serving: &Serving) -> bool
         ensures { result ≡ true → HasTurn self.now.place serving.now }
     {
-        if !serving.has_room() {
+        if !serving.held.has_room() {
             return false;
         }
         match self.place {
             None => true,
-            Some(place) => serving.is_back(place),
+            Some(place) => serving.desk_states[place].is_back(),
         }
     }
 }
@@ -94,7 +94,7 @@ impl<S: Source> Awaited for Input<'_, S> {
     ghost has_come = { λ _ serving. IsWrittenOut serving };
 
     fn look(&mut self, serving: &Serving, waker: Option<&Arc<EventCount, Global>>) -> bool {
-        if serving.is_idle() {
+        if serving.held.is_empty() {
             return true;
         }
         self.reader.is_ready(waker)
@@ -109,7 +109,7 @@ impl Awaited for End {
     ghost has_come = { λ _ serving. IsFinished serving };
 
     fn look(&mut self, serving: &Serving, _waker: Option<&Arc<EventCount, Global>>) -> bool {
-        serving.is_idle()
+        serving.held.is_empty()
     }
 }
 
@@ -132,13 +132,18 @@ impl Serving {
         ensures well { OnOk result (W.write_failed writer.new ≡ false) }
         ensures follows { Follows self.old self.new }
     {
-        let answers = setting.hall.answers();
+        let hall = setting.hall;
+        let answers = &hall.answers;
         let mut looks = 0u32;
         for _ in setting.rt.forever() {
             // Whatever the looks that follow miss comes after the announcement and so ends the sleep.
-            let most = self.most_looks();
-            let announced = (most <= looks).then(|| answers.prepare_wait());
-            let count = self.count();
+            let most = self.patience.most_looks(self.unsettled.are_several());
+            let announced = if most <= looks {
+                Some(answers.prepare_wait())
+            } else {
+                None
+            };
+            let count = self.held.len();
             let before = Looks {
                 in_vain: looks,
                 most,
@@ -149,7 +154,7 @@ impl Serving {
                 return Ok(());
             }
             // A look after which fewer answers are held was not in vain.
-            let is_vain = self.count() == count;
+            let is_vain = self.held.len() == count;
             looks = self.rest(setting, announced, looks, is_vain);
         }
         unreachable!()
@@ -170,6 +175,7 @@ impl Serving {
         if !is_vain {
             return 0;
         }
+        let hall = setting.hall;
         let Some(key) = announced else {
             let more = if self.unsettled.are_several() {
                 LOOKS_OF_SEVERAL
@@ -178,13 +184,13 @@ impl Serving {
             };
             let next = looks.saturating_add(more);
             if looks / LOOKS_BEFORE_RING < next / LOOKS_BEFORE_RING {
-                setting.hall.bell().ring();
+                hall.bell.ring();
             }
             spin_loop();
             return next;
         };
         // While it sleeps, no round of its own waits unheard.
-        setting.hall.bell().ring();
+        hall.bell.ring();
         key.wait(setting.rt);
         0
     }

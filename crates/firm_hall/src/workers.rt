@@ -32,7 +32,7 @@ impl Gate for Open {
 /// The right to be one worker of a hall. Contracts see its hall and the tickets it took, in order.
 #[derive(Drop)]
 pub struct WorkerPass {
-    taken: PopPass,
+    pub(crate) taken: PopPass,
 }
 
 impl Model for WorkerPass {
@@ -41,14 +41,6 @@ impl Model for WorkerPass {
     ghost Value = { PopIs };
 
     ghost view = { λ p. p.taken };
-}
-
-impl WorkerPass {
-    pub(crate) fn of(taken: PopPass) -> WorkerPass
-        ensures { result ≡ taken }
-    {
-        WorkerPass { taken }
-    }
 }
 
 /// What a worker did. Contracts see its hall and the tickets it took, in order; at run time it keeps only their number.
@@ -115,15 +107,15 @@ pub fn worker<R: Wait, G: Gate>(
 {
     warm_up(alloc);
     let WorkerPass { mut taken } = pass;
-    let bell = hall.bell();
+    let bell = &hall.bell;
     let mut listener = bell.listener();
     let mut looks = 0;
     for _ in rt.forever() {
         let is_shut = bell.is_shut(&mut listener);
-        match hall.pop(rt, &mut taken) {
+        match hall.queue.pop(rt, &mut taken) {
             Some(job) => {
                 if bell.took(&mut listener) {
-                    hall.answers().notify_one();
+                    hall.answers.notify_one();
                 }
                 bell.make_owed_call(&mut listener);
                 solve(alloc, hall, job, gate, &listener);

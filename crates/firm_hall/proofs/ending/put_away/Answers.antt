@@ -7,7 +7,7 @@ pub returns-in-Home-clause-of : goal.returns-in-Home-clause-of
 returns-in-Home-clause-of c id is are =
     let of = rw c.in-Home.is at is in
     record {
-      each = all_push (λ (d : DeskIs). d.queue ≡ id) _ _ _ c.put_desk.ensures.items are.each of;
+      each = all_push (λ (d : DeskIs). d.queue ≡ id) _ _ _ c.push_reserved.ensures.items are.each of;
       places =
           are.places;
     }

@@ -26,7 +26,7 @@ close-requires-clause-workers g c =
     omega (
       arith,
       every,
-      c.in-Ok-open-2.ensures.count,
+      c.in-Ok-open.ensures.count,
       ap (λ (passes : List PopIs). length passes) c.in-Ok.ensures.passes,
       pops_wide c.in-Ok.hall.id c.args.setup.workers,
       c.in-Ok.ensures.counts.1,

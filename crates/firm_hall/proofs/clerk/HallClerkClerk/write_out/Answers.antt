@@ -6,11 +6,11 @@ use Rattle.firm_hall.proofs.clerk.HallClerkClerk.write_out.Goals as goal
 
 pub returns-clause-told : goal.returns-clause-told
 returns-clause-told g c =
-    on_ok_weaker c.wait.result (λ told. told (places_opened c.args.self.now.setting.opening)) c.wait.ensures.told
+    on_ok_weaker c.wait.result (λ told. told (places_opened c.args.self.now.opening)) c.wait.ensures.told
 
 pub returns-clause-begins : goal.returns-clause-begins
 returns-clause-begins g c text written told =
-    let opening = places_opened c.args.self.now.setting.opening in
+    let opening = places_opened c.args.self.now.opening in
     begun_answers opening text written _ (c.wait.ensures.begins opening text written told)
 
 pub returns-clause-open : goal.returns-clause-open

@@ -61,3 +61,8 @@ returns-clause-obeys c =
     (λ opening. admission_found_no_memory c.answers_add_up.ensures.one_more opening s.register s.desk_states.items
     s.held.answers s.held.output c.answers_add_up.ensures.no_memory c.args.name c.args.limits c.in-Ok.place
     (sym c.in-Ok.ensures.place))
+
+pub undo-requires : goal.undo-requires
+undo-requires c =
+    let s = c.self.inside in
+    (s.register, c.args.name, record { given = sym c.in-Ok.ensures.place; led = c.in-Ok.ensures.admitted })

@@ -17,3 +17,21 @@ invariant_of-self g c =
     let s = c.self.inside in
     rw c.push.ensures
     (known_stands s.hall.value.id s.register s.desk_states.items s.held UnknownTenant c.self.invariant)
+
+pub hold-requires-clause-sound : goal.hold-requires-clause-sound
+hold-requires-clause-sound g c = rw (← c.self.view_is) c.place_of.ensures.sound
+
+pub hold-requires-clause-found : goal.hold-requires-clause-found
+hold-requires-clause-found g c = rw (← c.self.view_is) (sym c.place_of.ensures.place ∙ c.in-Some.is)
+
+pub take-requires-clause-sound : goal.take-requires-clause-sound
+take-requires-clause-sound g c = rw (← c.self.view_is) c.place_of.ensures.sound
+
+pub take-requires-clause-found : goal.take-requires-clause-found
+take-requires-clause-found g c = rw (← c.self.view_is) (sym c.place_of.ensures.place ∙ c.in-Some.is)
+
+pub tell-requires-clause-sound : goal.tell-requires-clause-sound
+tell-requires-clause-sound g c = rw (← c.self.view_is) c.place_of.ensures.sound
+
+pub tell-requires-clause-found : goal.tell-requires-clause-found
+tell-requires-clause-found g c = rw (← c.self.view_is) (sym c.place_of.ensures.place ∙ c.in-Some.is)

@@ -7,7 +7,7 @@ pub returns : goal.returns
 returns g c = record {
   reads = refl;
   writes = refl;
-  ran = unread (places_opened c.captures.clerk.setting.opening) c.captures.most (g.S.Source.left c.captures.reader.now)
+  ran = unread (places_opened c.captures.clerk.opening) c.captures.most (g.S.Source.left c.captures.reader.now)
       (g.W.Sink.written c.captures.writer.now) _ _ c.requires.reader c.requires.writer;
   desks = tt;
   places = tt;

@@ -1,9 +1,0 @@
-use Rattle.std.proofs.Common.{length}
-use Rattle.firm_hall.specs.inner.Serving.{Follows, Keeps}
-use Rattle.firm_hall.proofs.serving.Serving.put_known.Given as goal
-
-abbrev pub invariant-loop-self : goal.invariant-loop-self
-invariant-loop-self l = record { follows : Follows l.initial.self l.self; keeps : Keeps l.initial.self l.self }
-
-abbrev pub decreases-loop-self : goal.decreases-loop-self
-decreases-loop-self l = length l.self.answers
