@@ -64,6 +64,7 @@ class QueueStandIn:
         self.is_hung = False  # the same: nothing is answered any more on the connections that are there
         self.registrations = self.unanswered = 0
         self.refuses: Callable[[Row], bool] = lambda event: False  # beside those that are no events, as a later queue
+        self.says: dict[str, Any] = {}  # by request, in place of what is answered; fields of an object beside others
         self.loop = asyncio.new_event_loop()
         self.loop.set_exception_handler(lambda *_: None)  # agents are killed, and so their connections fail
         threading.Thread(target=self.loop.run_forever, daemon=True).start()
@@ -92,8 +93,11 @@ class QueueStandIn:
     def tell(self, agent: str, **words: object) -> None:
         """Says something of its own to an agent."""
 
+        self.tell_text(agent, json.dumps(words))
+
+    def tell_text(self, agent: str, line: str) -> None:
         async def write() -> None:
-            self.agents[agent].writer.write(json.dumps(words).encode() + b"\n")
+            self.agents[agent].writer.write(line.encode() + b"\n")
 
         self.within(write())
 
@@ -124,8 +128,15 @@ class QueueStandIn:
             name = request.get("agent", name)
             answer = self._answer(request, name, writer)
             if answer is not None:
-                writer.write(json.dumps(answer).encode() + b"\n")
+                writer.write(json.dumps(self._said(request["ask"], answer)).encode() + b"\n")
         writer.close()
+
+    def _said(self, ask: str, answer: Row) -> Row:
+        """An answer, as a queue of another version, or one that misbehaves, might say it."""
+        if ask not in self.says or ask not in answer:
+            return answer
+        said, is_part = self.says[ask], ask in ("status", "register", "beat")
+        return {ask: {**answer[ask], **said} if is_part and isinstance(said, dict) else said}
 
     def _answer(self, request: Row, name: str, writer: asyncio.StreamWriter) -> Row | None:
         match request["ask"]:

@@ -11,6 +11,7 @@ from collections.abc import Callable
 from pathlib import Path
 
 from .agent_state import Event
+from .supervisor import short
 
 LONGEST_LINE = 1 << 23  # bytes, as the queue takes them
 PEER = struct.Struct("3i")  # process, user and group
@@ -22,6 +23,17 @@ class Refusal(Exception):
     def __init__(self, answer: Event) -> None:
         super().__init__(f"{answer['error']}: {answer.get('text', '')}")
         self.name, self.answer = str(answer["error"]), answer
+
+
+def object_of(line: bytes) -> Event:
+    """What a line says; raises ValueError where it is no object."""
+    try:
+        found = json.loads(line)
+    except RecursionError:
+        raise ValueError("a line that is too deep") from None
+    if not isinstance(found, dict):
+        raise ValueError(f"a line that is no object: {short(line.decode(errors='replace').strip())}")
+    return found
 
 
 class Link:
@@ -54,7 +66,7 @@ class Link:
         """Takes in what comes, until the connection is lost; that raises OSError or ValueError."""
         try:
             while line := await self._reader.readline():
-                answer = json.loads(line)
+                answer = object_of(line)
                 if "tell" in answer:
                     told(answer)
                 elif self._asked:

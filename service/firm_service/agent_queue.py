@@ -5,10 +5,11 @@ from __future__ import annotations
 import asyncio
 import os
 from collections import deque
-from collections.abc import Coroutine
+from collections.abc import Coroutine, Sequence
 from pathlib import Path
 from typing import TYPE_CHECKING, Any
 
+from .agent_answers import Said, shown
 from .agent_events import MOST_AT_A_TIME, Events
 from .agent_lease import Lease, clock
 from .agent_link import Link, Refusal
@@ -165,7 +166,7 @@ class QueueSource:
             tell(WARNING, f"{why}; what runs goes on until the lease is over")
 
     async def _converse(self, link: Link) -> None:
-        tenant = str((await link.ask("status"))["status"]["tenant"])
+        tenant = self._said("status", await link.ask("status")).name("tenant")
         if self._tenant is None:
             self._tenant = asyncio.get_running_loop().create_future()
         if not self._tenant.done():
@@ -184,21 +185,23 @@ class QueueSource:
             history = self.agent.history
             rows: dict[str, object] = {"id": history.name, "machines": self.machines.slots, "runs": self._runs()}
             try:
-                answer = (await link.ask("register", agent=self.name, **rows))["register"]
+                said = self._said("register", await link.ask("register", agent=self.name, **rows))
                 break
             except Refusal as refusal:
                 self._tell_once(f"the queue does not take this agent: {refusal}")
             await asyncio.sleep(REGISTER_SECONDS)
+        ending = said.all_tokens("end")  # what is to end may run elsewhere: where it is not known, nothing has a lease
         self._told = ""
         tell(INFO, f"registered as {self.name} with {', '.join(self.machines.slots)}")
-        self._extend(asked, answer["lease"], frozenset(answer["end"]))
+        self._extend(asked, said.seconds("lease"), frozenset(ending))
         self._link = link
         self._beats.clear()
-        self._end(answer["end"])
-        self._keep(answer["keep"])
+        self._end(ending)
+        self._keep(said.tokens("keep"))
         self._wake()
         self.agent.changed.set()
-        return float(answer["beat"])
+        beat = said.seconds("beat")
+        return REGISTER_SECONDS if beat is None else max(SHORTEST_PAUSE, beat)
 
     def _runs(self) -> list[Event]:
         """The runs that are open, and those whose end is not acknowledged."""
@@ -224,12 +227,15 @@ class QueueSource:
         asked = clock()
         self._beats.append(asked)
         answer = await link.ask("beat", runs=[run.token for run in self.agent.history.runs.values()])
-        self._extend(asked, answer["beat"]["lease"])
+        self._extend(asked, self._said("beat", answer).seconds("lease"))
         if asked in self._beats:  # of a queue that tells nothing
             self._beats.remove(asked)
 
-    def _extend(self, asked: float, seconds: float, ending: frozenset[str] = frozenset()) -> None:
-        """Has all runs go on but those that are to end: one that has waited for its first lease would begin."""
+    def _extend(self, asked: float, seconds: float | None, ending: frozenset[str] = frozenset()) -> None:
+        """Has all runs go on but those that are to end: one that has waited for its first lease would begin. No word of
+        how long changes nothing."""
+        if seconds is None:
+            return
         self.lease.extend(asked, seconds)
         self.lease.keep(self.agent.history.runs)
         for run in self.agent.history.runs.values():
@@ -248,7 +254,7 @@ class QueueSource:
             await self.events.are_there.wait()
             events = self.events.first((suspects + 1) // 2 or MOST_AT_A_TIME)
             try:
-                told = int((await link.ask("told", events=events))["told"])
+                told = Said("told", await link.ask("told", events=events), self._refuse).count("told", len(events))
             except Refusal as refusal:
                 if refusal.name == "not-written":  # until its disk has room: another connection changes nothing
                     self._tell_once(f"the queue does not take events: {refusal}")
@@ -260,8 +266,11 @@ class QueueSource:
                 if suspects == 1:
                     self.events.refused(short(str(refusal)))
                 continue
+            if told is None:  # it may be that none is written
+                await asyncio.sleep(REGISTER_SECONDS)
+                continue
             suspects = max(0, suspects - len(events))
-            self.events.acknowledged(min(told, len(events)))
+            self.events.acknowledged(told)
             self.agent.changed.set()
 
     async def _find_room(self) -> None:
@@ -277,28 +286,36 @@ class QueueSource:
 
     # What the queue tells of itself
 
+    def _said(self, ask: str, answer: Event) -> Said:
+        """What it answers to a request."""
+        return Said(ask, answer.get(ask), self._refuse)
+
+    def _refuse(self, why: str) -> None:
+        self._tell_once(f"{self.path}: {why}")
+
     def _hear(self, event: Event) -> None:
-        match event:
-            case {"tell": "again"}:
+        said = Said(f"tell {shown(event['tell'])}", event, self._refuse)
+        match event["tell"]:
+            case "again":
                 self._wake()
                 self.agent.changed.set()
-            case {"tell": "lease", "lease": seconds} if self._beats:
-                self._extend(self._beats.popleft(), float(seconds))
-            case {"tell": "end", "tokens": tokens}:
-                self._end(tokens)
-            case {"tell": "keep", "tokens": tokens}:
-                self._keep(tokens)
+            case "lease" if self._beats:
+                self._extend(self._beats.popleft(), said.seconds("lease"))
+            case "end":
+                self._end(said.tokens("tokens"))
+            case "keep":
+                self._keep(said.tokens("tokens"))
 
-    def _runs_of(self, tokens: list[str]) -> list[Run]:
+    def _runs_of(self, tokens: Sequence[str | None]) -> list[Run]:
         wanted = set(tokens)
         return [run for run in self.agent.history.runs.values() if run.token in wanted]
 
-    def _end(self, tokens: list[str]) -> None:
+    def _end(self, tokens: Sequence[str]) -> None:
         for run in self._runs_of(tokens):
             if run.ends is None:
                 self.agent.end(run, "told")
 
-    def _keep(self, tokens: list[str]) -> None:
+    def _keep(self, tokens: Sequence[str | None]) -> None:
         """Records it before the queue takes the runs' rows away."""
         kept = []
         for run in self._runs_of(tokens):
@@ -364,14 +381,15 @@ class QueueSource:
             try:
                 if (link := self._link) is not None:
                     async with self._asking:
-                        answer = (await link.ask("claim", **row))["claim"]
-                    if "work" in answer:
+                        said = self._said("claim", await link.ask("claim", **row))
+                    if said.has("work"):
                         machine = self.machine(run.machine)
-                        return work_of(answer["work"], link.owner, machine is not None and machine.ssh is None)
-                    if "void" in answer:
+                        return work_of(said.get("work"), link.owner, machine is not None and machine.ssh is None)
+                    if said.has("void"):
                         self._refused[run.key] = run.machine
                         return None
-                    seconds = float(answer["seconds"])
+                    wait = said.seconds("seconds")
+                    seconds = REGISTER_SECONDS if wait is None else wait
             except OSError:
                 pass  # it is asked again once the agent is registered
             except Refusal as refusal:

@@ -2,10 +2,29 @@
 
 from __future__ import annotations
 
+from collections.abc import Iterator
+from contextlib import contextmanager
 from typing import Any
 
 from .books import Books, Task
 from .roster import Limits
+
+
+@contextmanager
+def understood() -> Iterator[None]:
+    """Raises ValueError where a view says what this firmd's does not, as one of another version may."""
+    try:
+        yield
+    except (LookupError, TypeError, AttributeError, RecursionError) as error:
+        raise ValueError(f"what it says is not understood: {error!r}") from error
+
+
+def state_of(event: dict[str, Any]) -> str:
+    """The id of the state whose rows are told."""
+    state = event["state"]
+    if not isinstance(state, str):
+        raise TypeError(f"no id of a state: {state!r}")
+    return state
 
 
 def books_of(tenant: str, rows: dict[str, Any] | None) -> Books:

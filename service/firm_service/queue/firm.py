@@ -12,7 +12,7 @@ from typing import Any, NamedTuple
 
 from ..books import Book, Books
 from ..logs import INFO, WARNING, tell
-from ..viewed import books_of
+from ..viewed import books_of, state_of, understood
 
 LONGEST_ANSWER = 1 << 26  # bytes of a line of the view
 FIRST_PAUSE, LONGEST_PAUSE = 0.1, 2.0  # seconds between two tries to reach firmd
@@ -112,7 +112,11 @@ class Firm:
                 with contextlib.closing(writer):
                     writer.write(request)
                     while line := await reader.readline():
-                        self._hear(json.loads(line))
+                        with understood():
+                            heard = self._take_in(json.loads(line))
+                        if heard is not None:
+                            self._on_heard(heard)
+                        self.changed.set()
                         pause = FIRST_PAUSE
                         told = self._tell_back(told)
             except (OSError, ValueError) as error:
@@ -131,10 +135,10 @@ class Firm:
             return ""
         return told
 
-    def _hear(self, event: dict[str, Any]) -> None:
+    def _take_in(self, event: dict[str, Any]) -> Heard | None:
+        """Takes in what the view tells; what is to be heard of it."""
         if "book" in event:
-            self._books = books_of(self.doors.tenant, event["book"])
-            self.state = event["state"]
+            self._books, self.state = books_of(self.doors.tenant, event["book"]), state_of(event)
             book = self._books.tenants.get(self.doors.tenant)
             self._answered = (
                 0  # of an older state perhaps; what is not heard of yet is said again, which changes nothing
@@ -142,23 +146,22 @@ class Firm:
             if book is not None:
                 book.number = str(event["book"]["commands"]).encode()
             self.reason = "" if book is not None else f"firm has no tenant {self.doors.tenant}"
-            self._on_heard(Heard([], ""))
-        elif "reply" in event and self._books is not None:
+            return Heard([], "")
+        if "reply" in event and self._books is not None:
             self._books.lines = event["number"] - 1
             self._books.replied(event["line"].encode(), event["reply"].encode(), None)
-            self._hear_line(event["line"], event["reply"])
-        else:
-            raise ValueError(event.get("text", event))
-        self.changed.set()
+            return self._heard_of(event["line"], event["reply"])
+        raise ValueError(event.get("text", event))
 
-    def _hear_line(self, line: str, reply: str) -> None:
+    def _heard_of(self, line: str, reply: str) -> Heard | None:
         is_there = self._books is not None and self.doors.tenant in self._books.tenants
         self.reason = "" if is_there else f"firm has no tenant {self.doors.tenant}"
         outcome = reply.split(" ", 2)[-1]
         if reply.startswith("+"):
-            self._on_heard(Heard([], ""))
-        elif outcome == "ok" or outcome.startswith("ok evicted") or outcome.startswith("ok round"):
-            self._on_heard(Heard(line.split()[1:], outcome))
+            return Heard([], "")
+        if outcome == "ok" or outcome.startswith("ok evicted") or outcome.startswith("ok round"):
+            return Heard(line.split()[1:], outcome)
+        return None
 
     # Lines
 

@@ -1,0 +1,86 @@
+"""What the queue says to an agent, judged word by word.
+
+A malformed word, as of a faulty queue or of another version's, is told and stands for nothing: for no lease, no token
+and no pause. Well-formed words beside it count.
+"""
+
+from __future__ import annotations
+
+from collections.abc import Callable
+from typing import Any
+
+from .queue.fields import MOST_SECONDS, NAME
+from .queue.reports import TOKEN
+from .supervisor import short
+
+
+class Said:
+    """An object of the queue's, its name for messages, and a listener to the reasons against its words."""
+
+    def __init__(self, what: str, row: Any, refuse: Callable[[str], None]) -> None:
+        self._what, self._row, self._refuse = what, row, refuse
+
+    def get(self, word: str) -> Any:
+        return self._row.get(word) if isinstance(self._row, dict) else None
+
+    def has(self, word: str) -> bool:
+        return isinstance(self._row, dict) and word in self._row
+
+    def seconds(self, word: str) -> float | None:
+        """A duration; None where there is none."""
+        value = self.get(word)
+        if type(value) in (int, float) and 0 <= value <= MOST_SECONDS:  # no NaN is
+            return float(value)
+        self._refuse(self._fault(word, value, f"a number from 0 to {MOST_SECONDS:,.0f}"))
+        return None
+
+    def count(self, word: str, most: int) -> int | None:
+        """A number from 1; None where there is none."""
+        value = self.get(word)
+        if type(value) is int and 1 <= value <= most:
+            return value
+        self._refuse(self._fault(word, value, f"a whole number from 1 to {most:,}"))
+        return None
+
+    def tokens(self, word: str) -> list[str]:
+        """The tokens of a list; anything else in it is refused."""
+        fault = self._fault_of_tokens(word)
+        if fault is not None:
+            self._refuse(fault)
+        value = self.get(word)
+        return [token for token in value if is_token(token)] if isinstance(value, list) else []
+
+    def all_tokens(self, word: str) -> list[str]:
+        """A list of tokens alone; raises ValueError where there is none."""
+        fault = self._fault_of_tokens(word)
+        if fault is not None:
+            raise ValueError(fault)
+        return list(self.get(word))
+
+    def name(self, word: str) -> str:
+        """A name as firm has them; raises ValueError where there is none."""
+        value = self.get(word)
+        if not isinstance(value, str) or NAME.fullmatch(value) is None:
+            raise ValueError(self._fault(word, value, "a name"))
+        return value
+
+    def _fault_of_tokens(self, word: str) -> str | None:
+        value = self.get(word)
+        if not isinstance(value, list):
+            return self._fault(word, value, "a list of tokens")
+        others = [token for token in value if not is_token(token)]
+        return self._fault(f"one of {word}", others[0], "a token") if others else None
+
+    def _fault(self, word: str, value: Any, wanted: str) -> str:
+        if isinstance(self._row, dict):
+            return f"{self._what}: {word} is {shown(value)}; it must be {wanted}"
+        return f"{self._what} is {shown(self._row)}; it must be an object, with {word}"
+
+
+def is_token(value: Any) -> bool:
+    return isinstance(value, str) and TOKEN.fullmatch(value) is not None
+
+
+def shown(value: Any) -> str:
+    """A value for a message; of a list or an object only its kind."""
+    return {list: "a list", dict: "an object", type(None): "not there"}.get(type(value)) or short(repr(value))
