@@ -14,7 +14,6 @@ import contextlib
 import json
 import os
 import random
-import resource
 import signal
 import subprocess
 import sys
@@ -24,6 +23,7 @@ from functools import partial
 from pathlib import Path
 from types import SimpleNamespace
 
+from agent_disks import failing_disk, full_disk, hung_disk
 from agent_kit import AGENT, LIMIT_SECONDS, SOON_SECONDS, WAITS_FOR_GO, Case, children, is_there
 from harness.checks import Check, Missed, Skipped, Suite, print_skipped, require, run_script, run_suites
 from harness.deployed import NotAllowed, agent_machines, agent_queue, supervisor, work_of
@@ -362,28 +362,6 @@ def told_by_the_queue() -> None:
         require(case.until_told("ended", "a")["status"] == 0, "how a ended")
 
 
-def full_disk() -> None:
-    """An agent on a full disk keeps its lease and its runs, begins nothing, and tells of all once there is room."""
-    with Cluster("a", "b", lease=LEASE_SECONDS) as case:
-        case.start_registered()
-        case.firmd.round("start a m1")
-        case.until_told("running", "a")
-        agent = case.agents["a1"].pid
-        size = len(case.text("a1/events.jsonl")) + 40
-        limits = resource.prlimit(agent, resource.RLIMIT_FSIZE, (size, resource.RLIM_INFINITY))
-        case.firmd.round("start b m1")
-        case.until(lambda: "b is not started" in case.told(), "it is told")
-        time.sleep(LEASE_SECONDS + 1.5)
-        require(case.processes().keys() == {"a"} and is_there(agent), case.told())
-        case.go("a")
-        case.until_runs()
-        require(case.until_told("ended", "a")["status"] == 0, "how a ended")
-        resource.prlimit(agent, resource.RLIMIT_FSIZE, limits)
-        case.until_begun("b")
-        require((case.text("a.log"), case.text("b.log")) == ("begin m1\nend\n", "begin m1\n"), "each was run once")
-        require('"ended"' in case.text("a1/events.jsonl"), case.text("a1/events.jsonl"))
-
-
 def other_user() -> None:
     """As root, a task is its user's process, with that user's rights, groups, home and output."""
     if os.getuid() != 0:
@@ -487,7 +465,7 @@ async def ends_behind(path: Path, turns: int) -> bool:
         source = agent_queue.QueueSource(path, "a1", agent_machines.read_machines("m1=1"), path.parent)
         changed = asyncio.Event()
         history = SimpleNamespace(name="a1", runs={})
-        agent = SimpleNamespace(history=history, changed=changed, state=SimpleNamespace(unwritten=[]))
+        agent = SimpleNamespace(history=history, changed=changed, state=SimpleNamespace(waits=False))
         serving, *others = map(asyncio.create_task, source.begin(agent))  # type: ignore[arg-type]
         await changed.wait()  # it is registered
         there[0].transport.abort()
@@ -739,11 +717,12 @@ QUICK = [
     other_user,
     whose_work,
     no_work,
+    failing_disk,
     told_before,
     limits_refused,
     limits_written,
 ]
-LONG = [full_disk, two_for_one_machine, not_claimed, limits_kept, over_ssh, faulty_command_lines]
+LONG = [full_disk, hung_disk, two_for_one_machine, not_claimed, limits_kept, over_ssh, faulty_command_lines]
 
 
 def name_of(check: Check) -> str:

@@ -6,9 +6,11 @@ import asyncio
 import json
 from collections import deque
 from contextlib import suppress
+from functools import partial
 from itertools import islice
 from pathlib import Path
 
+from .agent_file import Aside, Work
 from .agent_state import ENDS, Event, Key, Run
 from .agent_words import checked_event
 from .logs import WARNING
@@ -34,6 +36,7 @@ class Events:
         with suppress(OSError, ValueError, TypeError, KeyError):  # without one all is told again, which does no harm
             found = json.loads(self._path.read_text())
             self._cursor = (str(found["name"]), int(found["count"]))
+        self._aside = Aside()  # the disk may hang
         self.untold: deque[tuple[int, Event, Run]] = deque()
         self.are_there = asyncio.Event()
         self.began: set[int] = set()  # open runs that are known to run
@@ -82,10 +85,13 @@ class Events:
             self._cursor = (self._name, self.untold.popleft()[0])
         if not self.untold:
             self.are_there.clear()
-        with suppress(OSError):  # a full disk: they are told again after a restart
-            draft = self._path.with_name(f"{CURSOR}.new")
-            draft.write_text(json.dumps({"name": self._cursor[0], "count": self._cursor[1]}))
-            draft.replace(self._path)
+        self._aside.begin(Work(partial(self._keep, *self._cursor)))
+
+    def _keep(self, name: str, count: int) -> None:
+        """Keeps a cursor. Nobody hears whether that fails: what it lacks is told again after a restart."""
+        draft = self._path.with_name(f"{CURSOR}.new")
+        draft.write_text(json.dumps({"name": name, "count": count}))
+        draft.replace(self._path)
 
     def runs(self) -> list[Run]:
         """Those of which something is not acknowledged."""

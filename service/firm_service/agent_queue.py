@@ -277,7 +277,7 @@ class QueueSource:
         """Writes what waits for room on the disk."""
         while True:
             await asyncio.sleep(ROOM_SECONDS)
-            if self.agent.state.unwritten:
+            if self.agent.state.waits:
                 try:
                     self.agent.state.write_waiting()
                     self.agent.changed.set()
@@ -306,7 +306,7 @@ class QueueSource:
             case "keep":
                 self._keep(said.tokens("tokens"))
 
-    def _runs_of(self, tokens: Sequence[str | None]) -> list[Run]:
+    def _runs_of(self, tokens: Sequence[str]) -> list[Run]:
         wanted = set(tokens)
         return [run for run in self.agent.history.runs.values() if run.token in wanted]
 
@@ -315,8 +315,9 @@ class QueueSource:
             if run.ends is None:
                 self.agent.end(run, "told")
 
-    def _keep(self, tokens: Sequence[str | None]) -> None:
-        """Records it before the queue takes the runs' rows away."""
+    def _keep(self, tokens: Sequence[str]) -> None:
+        """Records it before the queue takes the runs' rows away. Of what the disk does not take the queue tells again,
+        as long as it is to be kept."""
         kept = []
         for run in self._runs_of(tokens):
             try:
@@ -345,15 +346,13 @@ class QueueSource:
     def try_start(self, key: Key, task: Task) -> bool:
         if task.machine not in self.machines.rows or self._link is None or not self.lease.holds:
             return False
-        if self._refused.get(key) == task.machine or self.agent.state.unwritten or self.events.has_end_of(key):
+        if self._refused.get(key) == task.machine or self.agent.state.waits or self.events.has_end_of(key):
             return False
         try:
             run = self.agent.record_start(key, task)
         except OSError as error:
             self._tell_once(f"{self.agent.state.folder}: {error}; {key.task} is not started")
             asyncio.get_running_loop().call_later(ROOM_SECONDS, self.agent.changed.set)
-            for run in [run for run in self.agent.history.runs.values() if run.key == key]:  # it has no note
-                self.agent.ended(run, {"event": "void"})
             return False
         self._claiming.add(run.number)
         self.agent.group.create_task(self._claim_and_start(run))

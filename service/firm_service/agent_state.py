@@ -12,14 +12,16 @@ from __future__ import annotations
 
 import fcntl
 import json
-import os
 import secrets
 import time
-from collections.abc import Callable, Iterator
+from collections.abc import Callable, Iterator, Sequence
+from contextlib import suppress
 from dataclasses import asdict, dataclass, field
+from functools import partial
 from pathlib import Path
-from typing import Any
+from typing import Any, NamedTuple
 
+from .agent_file import HANG_SECONDS, Aside, EventFile, Hangs, Work
 from .logs import INFO, WARNING, tell
 
 EVENTS = "events.jsonl"
@@ -121,10 +123,25 @@ def events_of(text: bytes) -> Iterator[Event]:
             raise StateError(f"{EVENTS}: line {number} is no event") from None
 
 
+class Entry(NamedTuple):
+    """An event as it is written."""
+
+    event: Event
+    note: Path | None  # of the run that it begins or ends
+
+
+class Late(NamedTuple):
+    """A write without an outcome yet."""
+
+    work: Work
+    count: int  # of the first entries that wait, which it writes
+
+
 class State:
     """The state folder of one agent, which holds it alone.
 
-    A patient one outlasts a full disk: what a restart would find out again waits in memory until there is room.
+    A patient one outlasts a disk that is full or hangs: what a restart would find out again waits in memory until it is
+    written, and nobody waits for the disk for long.
     """
 
     def __init__(
@@ -139,8 +156,9 @@ class State:
             raise StateError(f"{folder}: another agent has it") from None
         self.folder, self.history = folder.absolute(), History()
         self.is_patient, self.observer = is_patient, observer
-        self.unwritten: list[Event] = []  # events that wait for room
-        self.file = os.open(folder / EVENTS, os.O_RDWR | os.O_CREAT | os.O_APPEND, 0o644)
+        self._unwritten: list[Entry] = []  # that wait for the disk
+        self._late: Late | None = None
+        self._aside = Aside()
         (folder / OPEN).mkdir(exist_ok=True)
         unknown = self._replay({path.name for path in (folder / OPEN).iterdir()})
         if not self.history.name:
@@ -153,10 +171,11 @@ class State:
 
     def _replay(self, tokens: set[str]) -> set[str]:
         """Takes in the events of the file; those of the tokens that no start has."""
-        text = (self.folder / EVENTS).read_bytes()
-        self.size = text.rfind(b"\n") + 1
-        os.ftruncate(self.file, self.size)  # of a torn last line nothing was done
-        for number, event in enumerate(events_of(text[: self.size]), 1):
+        path = self.folder / EVENTS
+        text = path.read_bytes() if path.exists() else b""
+        size = text.rfind(b"\n") + 1  # of a torn last line nothing was done
+        self._file = EventFile(path, size)
+        for number, event in enumerate(events_of(text[:size]), 1):
             try:
                 self._take(event)
                 if event["event"] == "start":
@@ -199,38 +218,86 @@ class State:
     def record(self, event: str, **more: Any) -> None:
         """Writes an event, and returns once it is on the disk; raises OSError where it can't be."""
         told: Event = {"time": round(time.time(), 3), "event": event, **more}
+        entry = Entry(told, self._note_of(told))
         try:
             self.write_waiting()
-            self._write([told])
+            self._write([entry], stays=event not in FIRST)
         except OSError as error:
             if not self.is_patient or event in FIRST:
                 raise
-            if not self.unwritten:
-                tell(WARNING, f"{self.folder}: {error}; nothing is started until there is room")
-            self.unwritten.append(told)
-        run = self.history.runs.get(more.get("run", 0))
+            if not self._unwritten:
+                tell(WARNING, f"{self.folder}: {error}; nothing is started until it can be written")
+            self._unwritten.append(entry)
         self._take(told)
-        if event == "start":
-            (self.folder / OPEN / more["token"]).write_text(json.dumps(told))
-        elif event in ENDS and run is not None and run.token is not None:
-            (self.folder / OPEN / run.token).unlink(missing_ok=True)
+
+    @property
+    def waits(self) -> bool:
+        """Whether something waits for the disk."""
+        return bool(self._unwritten) or self._late is not None
 
     def write_waiting(self) -> None:
-        """Writes the events that wait for room; raises OSError where there is none."""
-        if self.unwritten:
-            self._write(self.unwritten)
-            self.unwritten = []
-            tell(INFO, f"{self.folder}: there is room again")
+        """Writes the events that wait for the disk; raises OSError where it does not take them."""
+        was_waiting = bool(self._unwritten)
+        self._take_late()
+        if self._unwritten:
+            self._write(self._unwritten)
+            self._unwritten = []
+        if was_waiting:
+            tell(INFO, f"{self.folder}: it is written again")
 
-    def _write(self, events: list[Event]) -> None:
-        """All of the events are on the disk, or none is in the file."""
-        text = b"".join(json.dumps(event).encode() + b"\n" for event in events)
-        line = memoryview(text)
+    def _take_late(self) -> None:
+        """Takes in the outcome of a late write; raises `Hangs` while there is none."""
+        if self._late is None:
+            return
         try:
-            while line:
-                line = line[os.write(self.file, line) :]
-            os.fdatasync(self.file)
-        except OSError:
-            os.ftruncate(self.file, self.size)
+            self._late.work.wait(0)
+        except Hangs:
             raise
-        self.size += len(text)
+        except OSError:
+            pass  # it is written anew
+        else:
+            del self._unwritten[: self._late.count]
+        self._late = None
+
+    def _write(self, entries: Sequence[Entry], stays: bool = True) -> None:
+        """All of the events are on the disk, or none counts. A late write counts once it is done if it stays, otherwise
+        never."""
+        text = b"".join(json.dumps(entry.event).encode() + b"\n" for entry in entries)
+        do = partial(self._write_now, text, tuple(entries))
+        if not self.is_patient:
+            return do()
+        work = self._aside.begin(Work(do, partial(self._drop, text, tuple(entries))))
+        try:
+            work.wait(HANG_SECONDS)
+        except Hangs:
+            if not stays and not work.drop():
+                return work.wait(0)
+            self._late = Late(work, len(entries) if stays else 0)
+            raise
+
+    def _write_now(self, text: bytes, entries: Sequence[Entry]) -> None:
+        self._file.write(text)
+        try:
+            for event, note in entries:
+                if note is not None and event["event"] == "start":
+                    note.write_text(json.dumps(event))
+        except OSError:
+            self._drop(text, entries)
+            raise
+        for event, note in entries:
+            if note is not None and event["event"] in ENDS:
+                with suppress(OSError):  # the next start removes it
+                    note.unlink()
+
+    def _drop(self, text: bytes, entries: Sequence[Entry]) -> None:
+        """Has what was written last count for nothing."""
+        self._file.drop(len(text))
+        for event, note in entries:
+            if note is not None and event["event"] == "start":
+                with suppress(OSError):
+                    note.unlink()
+
+    def _note_of(self, event: Event) -> Path | None:
+        run = self.history.runs.get(event.get("run", 0))
+        token = event.get("token") if event["event"] == "start" else run.token if run is not None else None
+        return self.folder / OPEN / token if token is not None else None
