@@ -26,7 +26,8 @@ from functools import partial
 from pathlib import Path
 
 from agent_kit import AGENT, LIMIT_SECONDS, SOON_SECONDS, SSH, WAITS_FOR_GO
-from agent_kit import Case, children, command, is_there, words_of
+from agent_kit import Case, children, command, connections_to, is_there, words_of
+from firm_service.agent import BEGUN_AT_A_TIME
 from harness.checks import Check, Missed, Skipped, Suite, print_skipped, require, run_script, run_suites
 from harness.deployed import SERVICE, Follower, feed
 from harness.files import write_program
@@ -400,11 +401,7 @@ def over_ssh() -> None:
         case.until(lambda: case.text("host/work/a.log") == "begin m1\n", "it runs there")
         (home / "down").touch()
         case.until(lambda: case.events("running"), "it is known to run")
-        connections = [
-            int(entry.name)
-            for entry in Path("/proc").iterdir()
-            if entry.name.isdecimal() and is_connection(entry, home)
-        ]
+        connections = connections_to(home)
         require(len(connections) == 1, f"connections: {connections}")
         os.kill(connections[0], signal.SIGKILL)
         case.firmd.round("move a m1 m2")
@@ -480,15 +477,6 @@ def end_sshd(sshd: subprocess.Popen[bytes]) -> None:
     sshd.wait()
 
 
-def is_connection(entry: Path, home: Path) -> bool:
-    """Whether a process is that at the other end of the stand-in for ssh which tells the agent of a run."""
-    try:
-        words = (entry / "cmdline").read_bytes().split(b"\0")
-        return b"-c" in words and words[0] == b"python3" and entry.joinpath("cwd").resolve() == home
-    except OSError:
-        return False
-
-
 def machine_given_up() -> None:
     """What ran on a machine that the table gives up is started elsewhere without being asked for."""
     table = '[machines.m1]\nssh = "host"\n{gone}\n[machines.m2]\n'
@@ -503,6 +491,27 @@ def machine_given_up() -> None:
         case.table(table.format(gone="gone = true"), {"a": command(WAITS_FOR_GO)})
         case.until(lambda: case.text("a.log") == "begin m2\n", "it is started on m2")
         case.go("a")
+        require(case.status() == 0, "the agent's status")
+
+
+def machine_given_up_late() -> None:
+    """The same where the host keeps all connections, and says nothing, as one whose disk hangs."""
+    table = '[machines.m3]\nssh = "host"\n{gone}\n[machines.m4]\n'
+    tasks = {f"t{number}": command(WAITS_FOR_GO) for number in range(BEGUN_AT_A_TIME + 2)}
+    with Case(table.format(gone=""), "", **tasks) as case:
+        write_program(case.folder / "ssh", SSH.format(folder=case.folder))
+        (case.folder / "host").mkdir()
+        (case.folder / "host/.bashrc").write_text("echo $$ >> hangs; exec sleep 1000\n")
+        for machine in ("m3", "m4"):
+            case.firmd.say(f"machine {machine} {len(tasks)}")
+        case.start("--until-empty")
+        case.firmd.round(" ".join(f"start {task} m3" for task in tasks))
+        case.until(lambda: len(case.text("host/hangs").split()) == BEGUN_AT_A_TIME, "the host hangs")
+        case.firmd.round(" ".join(f"move {task} m3 m4" for task in tasks))
+        case.table(table.format(gone="gone = true"), tasks)
+        case.until(lambda: all(case.text(f"{task}.log") == "begin m4\n" for task in tasks), "all are started on m4")
+        require(not any(is_there(int(pid)) for pid in case.text("host/hangs").split()), "what stood for ssh is there")
+        case.go(*tasks)
         require(case.status() == 0, "the agent's status")
 
 
@@ -736,6 +745,7 @@ LONG = [
     swaps,
     over_ssh,
     machine_given_up,
+    machine_given_up_late,
     firmd_restarts,
     retired_tenant,
     moved_tenant,

@@ -274,6 +274,17 @@ def words_of(pid: int) -> str:
         return ""
 
 
+def connections_to(home: Path) -> list[int]:
+    """The processes at the other end of the stand-in for ssh that tell agents of runs there."""
+    found = []
+    for entry in Path("/proc").iterdir():
+        with contextlib.suppress(OSError):
+            words = (entry / "cmdline").read_bytes().split(b"\0") if entry.name.isdecimal() else []
+            if b"-c" in words and words[0] == b"python3" and entry.joinpath("cwd").resolve() == home:
+                found.append(int(entry.name))
+    return found
+
+
 def children(pid: int) -> list[int]:
     """The children of a process."""
     return [int(child) for child in Path(f"/proc/{pid}/task/{pid}/children").read_text().split()]

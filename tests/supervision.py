@@ -23,7 +23,7 @@ from contextlib import contextmanager, suppress
 from functools import partial
 from pathlib import Path
 
-from agent_kit import SOON_SECONDS, SSH, WAITS_FOR_GO, Case, command, is_there
+from agent_kit import SOON_SECONDS, SSH, WAITS_FOR_GO, Case, command, connections_to, is_there
 from firm_service.agent_queue import MOST_CLAIMS
 from firm_service.agent_state import Key, Run
 from firm_service.agent_words import Teller
@@ -31,6 +31,7 @@ from harness.checks import Check, Skipped, Suite, print_skipped, require, run_sc
 from harness.deployed import supervisor
 from harness.files import write_program
 from queue_stand_in import LONG_SECONDS, Cluster, Row, clock
+from queue_words import malformed_rows, malformed_words
 
 AT_A_TIME = 6  # checks, which mostly wait
 LEASE_SECONDS = 3.0  # where it is to end
@@ -534,6 +535,42 @@ def left_behind() -> None:
         require(not is_there(int(case.text("host/keeps"))), "what stood for ssh is there")
 
 
+def left_behind_unsaid() -> None:
+    """The same where no end was said before, as no Python was there, or what told of the run was killed: it is asked
+    for again."""
+    shell = """
+        sleep 1000 & echo $! >> keeps
+        [ -e python ] || python3() { echo no python >&2; return 127; }
+    """
+    with Case('[machines.m1]\nssh = "host"\ndirectory = "work"\n[machines.m2]', a=command(WAITS_FOR_GO)) as case:
+        stand_in_ssh(case)
+        home, program = case.folder / "host", case.folder / "ssh"
+        last = f'HOME={case.folder}/$host exec sh -c "$*"'
+        require(last in program.read_text(), program.read_text())
+        program.write_text(program.read_text().replace(last, f'export HOME={home}; eval "$*"'))
+        (home / ".bashrc").write_text(shell)
+        (home / "work").mkdir()
+        try:
+            case.start("--until-empty")
+            case.firmd.round("start a m1")
+            case.until(lambda: "until m1 answers" in case.told(), "it is asked again where Python is not there")
+            (home / "python").touch()
+            case.until(lambda: case.events("running") and case.text("host/work/a.log"), "a runs")
+            said = case.told().count("until m1 answers")
+            (connection,) = connections_to(home)
+            os.kill(connection, signal.SIGKILL)
+            case.until(lambda: case.told().count("until m1 answers") > said, "it is asked again where nobody tells")
+            (home / "work/a.go").touch()
+            require(case.status() == 0, "the agent's status")
+            require(case.text("host/work/a.log") == "begin m1\nend\n", case.text("host/work/a.log"))
+            kept = [int(pid) for pid in case.text("host/keeps").split()]
+            require(len(kept) > 2 and all(map(is_there, kept)), f"nothing has kept standard output: {kept}")
+        finally:
+            for pid in case.text("host/keeps").split():
+                with suppress(ProcessLookupError):
+                    os.kill(int(pid), signal.SIGKILL)
+
+
 # The lease, and the queue that gives it.
 
 
@@ -648,8 +685,11 @@ def checks(is_quick: bool) -> dict[str, Check]:
         standard_error,
         flood,
         left_behind,
+        left_behind_unsaid,
         ended_as_it_begins,
         lost_before_it_began,
+        malformed_words,
+        malformed_rows,
         queue_full,
         queue_hung,
         claims_at_a_time,

@@ -23,12 +23,12 @@ from .agent_queue import QueueSource
 from .agent_source import LONGEST_FIRMD_PAUSE, LONGEST_PAUSE, Source, TableSource
 from .agent_state import EVENTS, Event, Key, Run, State, StateError, Tally
 from .agent_table import Machine, Table, TableError, Work
-from .agent_words import OVER, Teller
+from .agent_words import OVER, SAY_GONE, Teller
 from .books import Book, Books, Task
 from .lines import is_name
 from .logs import ERROR, INFO, WARNING, add_form, begin, tell
 from .supervisor import RUN_FIRST_LINE, group_trouble
-from .viewed import books_of
+from .viewed import books_of, state_of, understood
 
 SUPERVISOR = Path(__file__).with_name("supervisor.py")
 PYTHON = ["-I", "-S", "-c"]
@@ -76,6 +76,7 @@ class Agent:
         self.is_watching = asyncio.Event()  # set while the books follow firmd
         self.machines: dict[str, int] = {}  # as last recorded
         self.controls: dict[int, asyncio.StreamWriter] = {}  # of the supervisors, by run
+        self.tellers: dict[int, Teller] = {}  # what tells of these runs
         self.gates: defaultdict[str, asyncio.Semaphore] = defaultdict(lambda: asyncio.Semaphore(BEGUN_AT_A_TIME))
         self.changed, self.stop = asyncio.Event(), asyncio.Event()
         self.told_unkept: set[str] = set()  # hosts
@@ -123,7 +124,8 @@ class Agent:
                 with contextlib.closing(writer):
                     writer.write(request)
                     while line := await reader.readline():
-                        self.hear(json.loads(line))
+                        with understood():
+                            self.hear(json.loads(line))
                         pause, told = 0.1, ""
             except (OSError, ValueError) as error:
                 why = str(error)
@@ -136,8 +138,7 @@ class Agent:
 
     def hear(self, event: Event) -> None:
         if "book" in event:
-            self.books = books_of(self.tenant, event["book"])
-            self.firmd_state = event["state"]
+            self.books, self.firmd_state = books_of(self.tenant, event["book"]), state_of(event)
             self.is_watching.set()
             self.source.follows()
         elif "reply" in event and self.books is not None:
@@ -166,6 +167,7 @@ class Agent:
         for run in self.history.runs.values():
             if run.ends is None and (why := self.why_end(run)) is not None:
                 self.end(run, why)
+        self.leave_gone()
         loads = Counter(run.machine for run in self.history.runs.values())
         open_names = {run.key.task for run in self.history.runs.values()}
         for name, task in tasks.items():
@@ -209,6 +211,18 @@ class Agent:
         self.control(run, b"end\n")
         self.source.is_ending(run)
 
+    def leave_gone(self) -> None:
+        """Asks nothing more of machines that are gone: one whose disk hangs may keep a connection, and say nothing."""
+        for number, teller in self.tellers.items():
+            run = self.history.runs[number]
+            if self.is_gone(run) and self.host(run) is not None:
+                teller.leave()
+
+    def is_gone(self, run: Run) -> bool:
+        """Whether its machine will not come back."""
+        machine = self.source.machine(run.machine)
+        return machine is not None and machine.gone
+
     def control(self, run: Run, line: bytes) -> None:
         """Tells a run's supervisor, where it can be told now."""
         if run.number in self.controls:
@@ -237,12 +251,14 @@ class Agent:
         pause = 1.0
         while True:
             machine = self.source.machine(run.machine)
-            if machine is not None and machine.gone:
+            if self.is_gone(run):
                 return self.ended(run, {"event": "lost"})
             outcome = await self.attend(run, machine, work) if machine is not None else None
             if outcome is not None:
                 return self.ended(run, outcome)
             work = None  # whether it was begun is found out first
+            if self.is_gone(run):
+                continue
             known = f": nothing is known of it until {run.machine} answers; tried again in {pause:g} s"
             run.tell(known, WARNING)
             await asyncio.sleep(pause)
@@ -254,7 +270,8 @@ class Agent:
             words, first = [sys.executable, *PYTHON, IMPORT, str(SUPERVISOR.parent), run.name], b""
         else:
             there = shlex.join(["python3", *PYTHON, RUN_FIRST_LINE, run.name])
-            words, first = [*SSH, machine.ssh, there], ascii(SUPERVISOR.read_text()).encode() + b"\n"
+            words = [*SSH, machine.ssh, f"{there}; {SAY_GONE}"]
+            first = ascii(SUPERVISOR.read_text()).encode() + b"\n"
         teller = Teller(run)
         async with self.gates[run.machine]:
             try:
@@ -262,15 +279,17 @@ class Agent:
             except OSError as error:
                 run.tell(f": {words[0]}: {error}", WARNING)
                 return None
+            if self.is_gone(run):  # by now
+                teller.leave()
             request = self.request(run, machine, None if run.ends else work)
             orders.write(first + json.dumps(request).encode() + (b"\nend\n" if run.ends else b"\n"))
-            self.controls[run.number] = orders
+            self.controls[run.number], self.tellers[run.number] = orders, teller
             event = await teller.next()
         outcome = None
         while event is not None:
             outcome = self.heard_of(run, event, work is None)  # an end with more behind it was no supervisor's
             event = await teller.next(has_ended=outcome is not None)
-        del self.controls[run.number]
+        del self.controls[run.number], self.tellers[run.number]
         await teller.end()
         return outcome
 

@@ -2,7 +2,8 @@
 
 Over ssh a task runs as the login, whose shell may be told by a file like .bashrc to say anything before a supervisor
 does. So a line is an event only where its fields have the types and ranges that a supervisor gives them. All else is
-told, cut short, and passed by.
+told, cut short, and passed by. Standard output may have no end, as what the shell has left behind may keep it: so the
+shell itself says, last, that nobody is there any more who would tell of the run.
 """
 
 from __future__ import annotations
@@ -28,6 +29,8 @@ MOST_PID = 2**31 - 1
 KEPT_BYTES = 4096  # of a line of standard error
 BEHIND_SECONDS, END_SECONDS = 10.0, 5.0  # for more behind the end of a run, and for the process's own end then
 ERROR_SECONDS = 1.0  # for the end of standard error, once the process has ended
+GONE = "gone"  # the event of a shell whose command has ended
+SAY_GONE = f"echo; echo '{json.dumps({'event': GONE})}'"  # whatever stands on the last line; for any shell
 FIELDS = ("run", "pid", "unkept", "output", "now", "asks", "status", "asked", "fault", "over", "seconds")
 OVER = {
     None: "",
@@ -63,7 +66,7 @@ def checked_event(event: Any) -> Event:
             found = {"status": fields.whole("status", LEAST_STATUS, MOST_STATUS), "asked": asked}
             found |= {"fault": words_of(fields, "fault"), "over": over_of(fields)}
             found |= {"seconds": fields.number("seconds", MOST_NUMBER), "output": path_of(fields)}
-        case {"event": "lost" | "void"}:
+        case {"event": "lost" | "void" | "gone"}:
             pass
         case _:
             raise bad("event", "none that a supervisor tells")
@@ -146,6 +149,8 @@ class Teller:
                 while line := await self._next_line():
                     await asyncio.sleep(0)  # lines that are there are not waited for: a flood would hold up all others
                     event = event_of(line)
+                    if event is not None and event["event"] == GONE:
+                        return None
                     if event is not None and self._may_come(event):
                         return event
                     self._tell_aside(line)
@@ -164,6 +169,11 @@ class Teller:
         with contextlib.suppress(TimeoutError):
             async with asyncio.timeout(ERROR_SECONDS):
                 await self.errors.has_ended.wait()
+        self._close()
+
+    def leave(self) -> None:
+        """Nothing more is heard of it."""
+        self._kill()
         self._close()
 
     async def _pipe(self, protocol: Callable[[], asyncio.BaseProtocol]) -> BinaryIO:
