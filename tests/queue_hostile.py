@@ -2,6 +2,7 @@
 
 from __future__ import annotations
 
+import asyncio
 import fcntl
 import json
 import os
@@ -19,8 +20,11 @@ from typing import NamedTuple, NoReturn
 
 from firmd_kit import memory_kilobytes
 from harness.checks import Missed, Skipped, require
+from harness.deployed import Doors
 from queue_kit import ANN, BOB, FOREVER, Case, Closed, Json, Setup, as_user, claim_place
+from queue_words import MALFORMED_VIEW, MalformedView
 
+LATE_SECONDS = 3.0  # after which a commit of these checks takes long; on a busy host one may take a second
 SERVED_SECONDS = 20.0  # for another's request, on a busy host; without bounds it takes minutes
 MOST_KILOBYTES = 400_000  # of the queue's memory
 HELD: Json = {"ask": "submit", "command": FOREVER, "dir": "/tmp", "hold": True}
@@ -243,6 +247,21 @@ def hung_firmd(setup: Setup) -> None:
         case.world.require_single()
 
 
+def malformed_rows(setup: Setup) -> None:
+    """What the view of firmd says otherwise than any does is told, and ends nothing."""
+    with setup.case() as case:
+        case.doors = Doors(case.tenant, case.folder / "other", case.doors.lines)
+        view = MalformedView()
+        serving = asyncio.run_coroutine_threadsafe(view.serve(case.doors.view), case.loop)
+        serving.result(SERVED_SECONDS)
+        case.start()
+        case.until(lambda: view.asked > len(MALFORMED_VIEW), "all is said")
+        with case.client() as client:
+            client.submit("true")
+            require("is not understood" in case.said() and not client.ask("status")["firm"]["is_there"], case.said())
+        case.stop()
+
+
 def unwritten(setup: Setup) -> None:
     """What the disk has not taken is acknowledged to nobody while memory still has it, neither a run nor a key; and
     nothing is taken until memory has been read anew."""
@@ -299,6 +318,39 @@ def hung_disk(setup: Setup) -> None:
                 require(told == {"tell": "lease", "lease": 300.0}, told)
         answers = [client.answer() for _ in range(3)]
         require([list(answer) for answer in answers] == [["submit"], ["beat"], ["beat"]], answers)
+
+
+def late_disk(setup: Setup) -> None:
+    """While the disk hangs for long, what would change something is refused by name, and it is told; what is asked of
+    memory is answered, and what the disk was at work on counts once it answers."""
+    with setup.case("--lease=300") as case:
+        case.start_failing(late=LATE_SECONDS)
+        with case.client() as client, case.client() as waiting, case.client() as agent:
+            agent.ask("register", agent="a1", id="x", machines={"m1": 1}, runs=[])
+            client.submit(*FOREVER)
+            claim = {"token": "aaaaaaaa", "run": 1, **claim_place(case)}
+            with case.failure("hangs"):
+                waiting.send(HELD, {"ask": "status"})
+                case.until(lambda: not client.ask("status")["writes"]["are_good"], "it is told to who asks")
+                reason = client.ask("status")["writes"]["reason"]
+                require(f"has not answered for {LATE_SECONDS:g} s" in reason and reason in case.said(), reason)
+                began = time.monotonic()
+                asked: dict[str, Json] = {"submit": without_ask(HELD), "claim": claim, "cordon": {"machines": ["m1"]}}
+                asked["cancel"] = {"tasks": ["1"]}
+                asked["told"] = {"events": [{"token": "aaaaaaaa", "event": "ended", "status": 0, "asked": False}]}
+                for ask, request in asked.items():
+                    by = agent if ask in ("claim", "told") else client
+                    by.refused("not-written", ask, **request)
+                with case.client() as other:
+                    other.refused("not-written", "register", agent="a2", id="y", machines={"m2": 1}, runs=[])
+                require(len(client.ask("tasks")) == 2 and client.state("1") == "starting", client.ask("tasks"))
+                require(time.monotonic() - began < SERVED_SECONDS, "an answer took long")
+            require(waiting.answer().get("submit", {}).get("number") == 2, "what was asked before")
+            require(waiting.answer()["status"]["writes"] == {"are_good": True, "reason": ""}, "it is written again")
+            require(client.submit("true", hold=True) == 3 and client.ask("cordon", machines=["m1"]), "it goes on")
+            told = [case.said().count(words) for words in ("the disk has not answered", "the disk answers again")]
+            require(told[0] == told[1], case.said())
+        case.stop()
 
 
 def unread(setup: Setup) -> None:
@@ -453,8 +505,10 @@ CHECKS = (
     garbage,
     stops,
     hung_firmd,
+    malformed_rows,
     unwritten,
     unwritten_end,
+    late_disk,
     hung_disk,
     unread,
     forgotten_as_it_ends,

@@ -528,9 +528,10 @@ class Case:
 
     # The queue
 
-    def start_failing(self) -> Case:
-        """Starts one whose disk fails within `failure`."""
-        self.words = [sys.executable, "-c", FAILING, str(self.folder), "run"]
+    def start_failing(self, late: float | None = None) -> Case:
+        """Starts one whose disk fails within `failure`, and perhaps takes too long after so many seconds."""
+        first = "" if late is None else f"from firm_service.queue import store\nstore.LATE_SECONDS = {late}\n"
+        self.words = [sys.executable, "-c", first + FAILING, str(self.folder), "run"]
         return self.start()
 
     @contextmanager

@@ -144,6 +144,7 @@ class Agents:
         machines, runs = machines_of(given), runs_of(given)
         self._require_single(session, name, agent_id)
         self._require_free(name, agent_id, machines)
+        self.core.store.require_prompt()
         agent = self._enter(name, agent_id, machines)
         present = {run.token for run in runs}
         over = self.over_at(agent)
@@ -158,7 +159,7 @@ class Agents:
         agent.is_known, agent.is_lost, agent.since = True, False, time.time()
         agent.runs = frozenset(present)
         self.core.firm.changed.set()
-        await self.core.store.settled()
+        await self.core.store.settled_soon()
         told = f"{name}: registered with {', '.join(machines) or 'no machines'}, {len(runs)} runs"
         tell(INFO, told, agent=name)
         agent.answered = boot_time()
@@ -439,6 +440,7 @@ class Agents:
             if self.core.marks.get(machine) == mark:
                 unchanged[machine] = f"is {mark}" if mark else "is neither cordoned nor drained"
             else:
+                self.core.store.require_good()
                 self._mark(machine, mark)
                 changed.append(machine)
         self.core.firm.changed.set()

@@ -177,8 +177,9 @@ kept: {"ask": "kept", "tokens": [..]} -> {"kept": n}, once the agent has recorde
   queue take the rows out of firm.
 
 Errors of any request: `bad-request` (no JSON, no object, nothing to be asked), `bad-field`, `too-long` (the connection
-is closed), `too-many-clients` (the same), `operator-only`, `not-written` (the disk is full or fails: nothing is
-changed), `not-read` (it fails, and memory does not have what is asked), `not-registered`, `stopping`.
+is closed), `too-many-clients` (the same), `operator-only`, `not-written` (the disk is full or fails, or has not
+answered for 30 seconds: nothing is changed; what it is at work on has no answer until then), `not-read` (it fails, and
+memory does not have what is asked), `not-registered`, `stopping`.
 """
 
 from __future__ import annotations
@@ -529,7 +530,7 @@ class Requests:
         core, user = self._core, caller.user
         found: Json = {"tenant": self._tenant, "user": user.name, "is_operator": user.is_operator, "version": VERSION}
         found |= {"states": dict(core.counts(self._visible(user))), "firm": self._lists.firm()}
-        found |= {"writes": {"are_good": not core.store.why_bad, "reason": core.store.why_bad}}
+        found |= {"writes": {"are_good": not core.store.trouble, "reason": core.store.trouble}}
         found |= {"quota": None if user.is_operator else core.bounds.of_user, "started": self._started}
         spent = {"spent": round(core.spending.of(user.number)), "most": core.bounds.budget}
         found |= {"budget": None if user.is_operator else spent, "last_number": core.rows.last_number}
@@ -674,7 +675,7 @@ class Requests:
             query, at_once = queries.submissions, 1
         found, asked, tasks, size = dict[int, Submission](), set[int](), 0, 0
         while missing := [one for one in numbers - asked if one not in self._core.rows.submissions]:
-            await self._core.store.settled()  # what memory has just forgotten has ended on the disk too then
+            await self._core.store.settled_soon()  # what memory has just forgotten has ended on the disk too then
             for at in range(0, len(missing), at_once):
                 some, left = missing[at : at + at_once], MOST_READ + 1 - tasks
                 read = await self._core.store.read(lambda connection: query(connection, some, user.sees, left))

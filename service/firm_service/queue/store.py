@@ -2,7 +2,8 @@
 
 Changes that are made while the thread waits for the disk share its next commit, and `settled` says when a commit has
 all that was changed before. Where a commit fails, so does all that was changed since: memory is to be read anew, and
-again once the disk takes writes. Until then nothing is changed.
+again once the disk takes writes. Until then nothing is changed. While a commit takes long, as on a disk that hangs, no
+further changes are begun; what it has may be on the disk in the end, so nobody is told that it is refused.
 """
 
 from __future__ import annotations
@@ -22,6 +23,7 @@ from typing import Any, TypeVar
 
 from ..faults import RESTORE, Exit, Fault
 from ..files import replace_synced
+from ..logs import ERROR, INFO, tell
 from .rows import Attempt, Spec, Submission, Task
 
 DATABASE, ID = "queue.db", "id"
@@ -29,6 +31,7 @@ VERSION = 3
 SPENT = "CREATE TABLE spent (user INTEGER PRIMARY KEY, bytes REAL NOT NULL, at REAL NOT NULL)"
 UPGRADES = {1: "ALTER TABLE attempt ADD COLUMN runs_as INTEGER", 2: SPENT}  # by the version that needs them
 APPLICATION = 0x6669726D  # tells the file from other programs'
+LATE_SECONDS = 30.0  # after which a commit takes long
 BUSY_SECONDS = 5.0  # for another program that reads the database, as for a copy
 # Bytes of the write-ahead log, seconds between two waits for its readers, and of one, in which nothing is written.
 MOST_LOG, LOOK_SECONDS, READERS_SECONDS = 2**26, 30.0, 2.0
@@ -78,6 +81,8 @@ class Store:
         self.folder, self.path, self._tenant = folder, folder / DATABASE, tenant
         self._log, self._next_look = folder / f"{DATABASE}-wal", 0.0
         self.why_bad = ""  # why nothing can be written
+        self._why_late = ""  # why nothing is to be written: a commit takes long
+        self._lateness: asyncio.TimerHandle | None = None  # of the commit that is under way
         self._is_ahead = False  # memory has what a commit that failed has lost
         self.on_failure: Callable[[], None] = lambda: None
         self._writer = ThreadPoolExecutor(1, "store")
@@ -122,16 +127,35 @@ class Store:
         if not self.why_bad:  # otherwise nothing is under way but tries
             await self._committed_all()
 
+    async def settled_soon(self) -> None:
+        """The same, for who only reads, or may change the same again: raises `NotWritten` too where it takes long."""
+        self.require_prompt()
+        try:
+            async with asyncio.timeout(LATE_SECONDS):
+                await self.settled()
+        except TimeoutError:
+            raise NotWritten(self.trouble or f"{self.path}: the disk takes long") from None
+
     async def _committed_all(self) -> None:
         """Returns once all that is under way is on the disk; raises `NotWritten`."""
         pending = self._next or self._current
         if pending is not None:
             await asyncio.shield(pending)
 
+    @property
+    def trouble(self) -> str:
+        """Why no change is begun now; empty where all is well."""
+        return self.why_bad or self._why_late
+
     def require_good(self) -> None:
-        """Raises `NotWritten` where nothing can be written now."""
-        if self.why_bad:
-            raise NotWritten(self.why_bad)
+        """Raises `NotWritten` where no change is to be begun now."""
+        if self.trouble:
+            raise NotWritten(self.trouble)
+
+    def require_prompt(self) -> None:
+        """Raises `NotWritten` while a commit takes long: whoever waits for it would wait as long."""
+        if self._why_late:
+            raise NotWritten(self._why_late)
 
     def read_anew(self) -> None:
         """Takes in that memory has been read: it has what is on the disk, and nothing else."""
@@ -216,7 +240,8 @@ class Store:
             self._write("INSERT INTO mark VALUES (?, ?)", [(machine, mark)])
 
     def _write(self, words: str, rows: Sequence[tuple[Any, ...]]) -> None:
-        self.require_good()
+        if self.why_bad:
+            raise NotWritten(self.why_bad)
         if rows:
             self._put(words, rows)
 
@@ -235,13 +260,26 @@ class Store:
             return
         changes, self._open = self._open, []
         self._current, self._next = self._next, None
+        self._lateness = asyncio.get_running_loop().call_later(LATE_SECONDS, self._tell_late)
         done = asyncio.get_running_loop().run_in_executor(self._writer, self._commit, changes)
         done.add_done_callback(self._committed)
+
+    def _tell_late(self) -> None:
+        self._why_late = f"{self.path}: the disk has not answered for {LATE_SECONDS:g} s"
+        tell(ERROR, f"{self._why_late}: what changes something is refused until it does")
+
+    def _end_lateness(self) -> None:
+        if self._lateness is not None:
+            self._lateness.cancel()
+        if self._why_late:
+            tell(INFO, f"{self.path}: the disk answers again")
+            self._why_late = ""
 
     def _committed(self, done: asyncio.Future[None]) -> None:
         current, self._current = self._current, None
         if current is None:
             raise RuntimeError("a commit that nobody asked for")
+        self._end_lateness()
         error = done.exception()
         if error is None:
             current.set_result(None)

@@ -111,7 +111,7 @@ class QueueCollector(Collector):
             ("firm_queue_processes", "Attempts that are open.", len(core.rows.open)),
             ("firm_queue_given_tasks", "Tasks that firm has.", len(core.firm.rows.tasks) if core.firm.rows else 0),
             ("firm_queue_firm_there", "Whether firm answers.", int(not core.firm.trouble)),
-            ("firm_queue_writes_good", "Whether the disk takes changes.", int(not core.store.why_bad)),
+            ("firm_queue_writes_good", "Whether the disk takes changes.", int(not core.store.trouble)),
         ):
             family = GaugeMetricFamily(series, told, labels=["tenant"])
             family.add_metric([self._tenant], value)
