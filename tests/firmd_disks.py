@@ -230,6 +230,30 @@ def answered(clients: list[Client]) -> int:
     return len(select.select([client.socket for client in clients], [], [], 0)[0])
 
 
+def hung_sync(setup: Setup) -> None:
+    """While a sync hangs, that is told and readers are answered; lines wait, and are answered once it ends."""
+    with setup.daemon() as daemon:
+        sign = daemon.folder / "hangs"
+        is_late = "sys.modules['firm_service.stream'].LATE_SECONDS = 0.5"
+        patch_sync(daemon, f"{is_late}\n            while os.path.exists({str(sign)!r}): time.sleep(0.05)")
+        daemon.start()
+        with daemon.client() as client, daemon.client() as other:
+            require(client.ask(ROWS[0]) == b"alpha 1 ok", "a reply")
+            sign.touch()
+            client.send(ROWS[1] + b"\n")
+            wait_for(lambda: b"the journal has not been written for 0.5 s" in daemon.said(), "it is told")
+            other.send(b"alpha show\n")
+            with Client(daemon.state / "view") as reader:
+                shown = reader.ask(b'{"ask": "machines", "tenant": "alpha"}')
+                require(b'"machine": "m1"' in shown, shown)
+            time.sleep(SOON_SECONDS)
+            require(answered([client, other]) == 0, "a line is answered before its sync")
+            sign.unlink()
+            require(client.reply() == b"alpha 2 ok" and other.reply().startswith(b"alpha 3 ok"), "replies")
+            wait_for(lambda: b"the journal is written again" in daemon.said(), "that is told too")
+        daemon.stop()
+
+
 def failed_sync(setup: Setup) -> None:
     """A sync that fails stops the service, and the line is neither answered nor obeyed."""
     with setup.daemon() as daemon:

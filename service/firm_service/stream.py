@@ -25,13 +25,13 @@ from threading import Event, Thread
 from typing import NamedTuple, Protocol
 
 from .budgets import Accounts
-from .faults import Exit, Fault, Faults, Reader
+from .faults import Exit, Fault, Faults, Reader, say
 from .firm_process import Firm
 from .journal import Shortage
 from .lanes import OPERATORS, Bounds, Lanes, Owner, Share
 from .lines import NO_MEMORY, OPERATOR_NO_MEMORY, WORN, is_memory_refused
 from .load import SYNC_SECONDS, Histogram
-from .logs import ERROR, tell
+from .logs import ERROR, INFO, tell
 from .observers import Observer, Status
 from .owed import OwedShares
 from .pieces import Piece, Place
@@ -41,7 +41,8 @@ BLOCK_LINES = 1_024  # at least, in a block of the journal
 GROUP_BYTES = 1_048_576  # of lines that are written and synced together, unless one share has more
 READ_BYTES = 65_536  # a piece that needs no memory of its own from the system
 SHORTAGE_SECONDS, SHORTAGE_TRIES = 0.02, 500  # until what lacked memory is tried again, and how often at most
-WATCH_SECONDS = 1.0  # between looks at how long firm has been silent
+WATCH_SECONDS = 1.0  # between looks at how long firm, or the disk, has been silent
+LATE_SECONDS = 30.0  # of a write of the journal, after which it is told
 IDLE_SECONDS = 0.002  # between looks whether all is answered
 OPERATED, WORN_END = b"+ ok ", b" %b\n" % WORN  # what stands in replies that admit or retire, and ends a worn tenant's
 
@@ -125,6 +126,8 @@ class Stream:
         self.sync_times = Histogram(SYNC_SECONDS)
         self._heard = self._loop.time()  # when firm was heard last
         self._silence = 0.0  # that was seen at the last look
+        self._writing_since: float | None = None  # by the writer, of what it writes to the journal
+        self._is_late = False  # what it writes, as was told
         self._half = b""  # of a reply
         self._replies: list[bytes] = []  # that are not handed out yet
         self._tries = 0  # since memory was there
@@ -236,6 +239,7 @@ class Stream:
         """Ends the service where firm says nothing for too long: a hung one may be cured by a restart."""
         most = self._options.firm_timeout
         seconds = min(WATCH_SECONDS, most / 4)
+        self._watch_disk()
         # Where firmd itself stood still, as at a stopped host, that was no silence of firm's.
         self._silence = min(self.silent_seconds(), self._silence + 2 * seconds)
         if self.ended.done():
@@ -244,6 +248,17 @@ class Stream:
             self._faults.count("firm", f"firm has not answered for {most:g} s")
             return self._give_up(Fault(Exit.STATE, f"firm has not answered for {most:g} s, so it is killed"))
         self._loop.call_later(seconds, self._watch)
+
+    def _watch_disk(self) -> None:
+        """Tells of a journal that can't be written for long. Nothing is refused: what was written may count, and all
+        else waits as for a round."""
+        since = self._writing_since
+        is_late = since is not None and time.monotonic() - since > LATE_SECONDS
+        if is_late and not self._is_late:
+            say(f"the journal has not been written for {LATE_SECONDS:g} s, as on a disk that hangs: lines wait")
+        if self._is_late and not is_late:
+            say("the journal is written again", INFO)
+        self._is_late = is_late
 
     def _hand_over_soon(self) -> None:
         if not self._is_handing:
@@ -378,7 +393,11 @@ class Stream:
     def _write_shares(self, shares: list[Share]) -> None:
         batches, text = self._joined(shares)
         began = time.monotonic()
-        place = self._journal.append(batches)
+        self._writing_since = began
+        try:
+            place = self._journal.append(batches)
+        finally:
+            self._writing_since = None
         number, end, now = place.number, place.end - len(text), time.monotonic()
         self.sync_times.add(now - began)
         for share in shares:
