@@ -115,6 +115,8 @@ def hung_disk() -> None:
         case.firmd.round("start b m1")
         case.until(lambda: "b is not started" in case.told(), "it is told")
         require("the disk has not answered for 5 s" in case.told(), case.told())
+        keep = {"tell": "keep", "tokens": [case.queue.token("c")]}
+        case.queue.tell("a1", **keep)
         time.sleep(3 * LEASE_SECONDS)
         require(case.processes().keys() == {"a", "c"}, f"its lease was over: {case.told()}")
         case.go("a")
@@ -125,6 +127,9 @@ def hung_disk() -> None:
         case.until(lambda: '"ended"' in case.text("a1/events.jsonl"), "it is written")
         starts = [row["task"] for row in events_of(case) if row["event"] == "start"]
         require(sorted(starts) == ["a", "b", "c"], f"what was given up is written: {starts}")
+        require(case.queue.kept == [] and '"keep"' not in case.text("a1/events.jsonl"), "c is kept")
+        case.queue.tell("a1", **keep)
+        case.until(lambda: case.queue.kept == keep["tokens"], "it is kept once it is told again")
         case.kill_agent("a1")
         case.start_registered()
         case.go("b", "c")

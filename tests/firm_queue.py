@@ -504,6 +504,28 @@ def marks(setup: Setup) -> None:
             case.world.require_single()
 
 
+def kept_late(setup: Setup) -> None:
+    """An agent that could not record what a cordon keeps is told of it again, unless the cordon is taken back."""
+    with setup.case("--lease=300").start() as case, case.client() as client, case.client() as agent:
+        agent.ask("register", agent="a1", id="x", machines={"m1": 1}, runs=[])
+        client.submit(*FOREVER)
+        agent.ask("claim", token="aaaaaaaa", run=1, **claim_place(case))
+
+        def told_to_keep() -> int:
+            agent.send({"ask": "beat"})
+            lines = list(iter(agent.line, {"beat": {"lease": 300.0}}))
+            return lines.count({"tell": "keep", "tokens": ["aaaaaaaa"]})
+
+        client.ask("cordon", machines=["m1"])
+        require((told_to_keep(), told_to_keep()) == (2, 1), "it is told at once, and at each beat")
+        client.ask("uncordon", machines=["m1"])
+        require(told_to_keep() == 0, "it is not to be kept")
+        client.ask("cordon", machines=["m1"])
+        require(told_to_keep() == 2, "it is again")
+        require(agent.ask("kept", tokens=["aaaaaaaa"]) == 1 and told_to_keep() == 0, "it is kept")
+        case.until(lambda: machines_in_firm(case) == [], "firm has m1 no more")
+
+
 # The database.
 
 
@@ -702,7 +724,7 @@ CHECKS: tuple[Callable[[Setup], None], ...] = (
         foreign,
         away,
     ),
-    *(silence, mute, registrations, lost_claim, marks, damage, full_disk, *queue_access.CHECKS),
+    *(silence, mute, registrations, lost_claim, marks, kept_late, damage, full_disk, *queue_access.CHECKS),
     *queue_hostile.CHECKS,
     *queue_bounds.CHECKS,
 )

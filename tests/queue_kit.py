@@ -99,6 +99,12 @@ class Client:
             raise Closed(str(error)) from error
 
     def answer(self) -> Json:
+        """The next answer; what is told before it is passed by."""
+        found = self.line()
+        return self.answer() if "tell" in found else found
+
+    def line(self) -> Json:
+        """An answer, or what is told between answers."""
         try:
             line = self.answers.readline()
         except ConnectionError as error:
@@ -106,7 +112,7 @@ class Client:
         if not line.endswith(b"\n"):
             raise Closed("no answer")
         found: Json = json.loads(line)
-        return self.answer() if "tell" in found else found
+        return found
 
     def try_ask(self, ask: str, **fields: Any) -> Json:
         """The answer, a refusal too."""

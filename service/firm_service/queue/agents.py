@@ -81,6 +81,7 @@ class Agents:
     terms: Terms
     agents: dict[str, Agent] = field(default_factory=dict)
     _unknown: dict[str, float] = field(default_factory=dict)  # until when attempts may run that their agents don't know
+    _to_keep: set[str] = field(default_factory=set)  # tokens of which agents were told so, and perhaps have not done it
 
     # Memory
 
@@ -165,6 +166,7 @@ class Agents:
         agent.answered = boot_time()
         ending = [run.token for run in runs if run.is_there and self._must_end(run.token)]
         keep = [attempt.token for attempt in self.attempts_of(agent) if self._is_to_keep(attempt)]
+        self._to_keep.update(keep)
         state = self.core.firm.state
         return {**self._granted(), "beat": self.terms.beat, "end": ending, "keep": keep, "state": state}
 
@@ -249,7 +251,15 @@ class Agents:
             agent.runs = frozenset(tokens_of(given, "runs"))
         agent.answered = boot_time()
         session.tell({"tell": "lease", **self._granted()})  # its answer may wait behind one that waits for the disk
+        self._tell_keep_again(agent)
         return self._granted()
+
+    def _tell_keep_again(self, agent: Agent) -> None:
+        """Tells of runs that are still to be kept: an agent with a full disk could not record that."""
+        found = [attempt for token in self._to_keep if (attempt := self.core.rows.open.get(token)) is not None]
+        lacking = [attempt for attempt in found if self._is_to_keep(attempt) and not attempt.is_kept]
+        self._to_keep = {attempt.token for attempt in lacking}
+        self._tell_tokens((attempt for attempt in lacking if attempt.agent == agent.name), {"tell": "keep"})
 
     def leave(self, session: Session) -> None:
         """Takes in that a connection has ended."""
@@ -447,6 +457,7 @@ class Agents:
         await self.core.store.settled()
         if mark == CORDONED:
             there = [attempt for machine in changed for attempt in self.open_on(machine) if not attempt.is_kept]
+            self._to_keep.update(attempt.token for attempt in there)
             self._tell_tokens(there, {"tell": "keep"})
         return changed, unchanged
 

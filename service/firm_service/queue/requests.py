@@ -122,7 +122,8 @@ come, between answers, objects with "tell", which are no answers:
 
     {"tell": "again"}                                 claims that were told to wait may be asked again now
     {"tell": "end", "tokens": [..], "why": WORDS}     these runs must end
-    {"tell": "keep", "tokens": [..]}                  these runs go on although firm will have no row of them any more
+    {"tell": "keep", "tokens": [..]}                  these runs go on although firm will have no row of them any more;
+                                                      told again at each beat until `kept`
     {"tell": "lease", "lease": 60}                    the next beat was heard, whose answer may wait for others
 
 register, first: {"ask": "register", "agent": "a1", "id": ID, "machines": {"m1": 4, ..}, "runs": [RUN, ..]}
