@@ -183,5 +183,7 @@ fn change<R: Files>(
     let after = cut(both, &request.names)?;
     text.clear();
     put_state(text, &after)?;
+    // That the state is sound is known by this call.
+    after.places();
     Ok(())
 }

@@ -1,6 +1,5 @@
-use Rattle.std.proofs.Common.{◌≡◌, ◌∙◌, ◌++◌, ℕ, List, ap, length, subst}
+use Rattle.std.proofs.Common.{◌≡◌, ◌∙◌, ◌++◌, ℕ, List, ap, length}
 use Rattle.std.proofs.lemmas.Result.{err_from_is_err_and}
-use Rattle.firm_saved.specs.Saved.{IsSoundSaved}
 use Rattle.firm_saved.specs.StateText.{state_text}
 use Rattle.firm_state.specs.Program.{NoMemoryToChange}
 use Rattle.firm_state.proofs.Changes.{changes, not_joined, not_there, of_memory}
@@ -32,6 +31,6 @@ returns g c saved sound is =
     changes _ _ saved c.in_ok-alone.alone (c.in_ok-alone.ensures.only saved sound (c.deref.ensures.value ∙ is))
     (length c.deref-2.result.now) (ap length c.deref-2.ensures.value) c.deref-3.result.now c.in_ok-both.both
     c.in_ok-after.after _ c.deref-3.ensures.value c.in_ok-both.ensures c.in_ok-after.ensures
-    (subst IsSoundSaved c.after.view_is c.after.invariant)
+    c.places.ensures.sound
     (c.in_ok-put_state.ensures.added
     ∙ ap (λ (text : List ℕ). text ++ state_text c.in_ok-after.after) c.clear.ensures.items)
