@@ -1,4 +1,5 @@
-use Rattle.std.proofs.Common.{◌∙◌, ◌++◌, ◌∷◌, [], append_assoc, refl, sym}
+use Rattle.std.proofs.lemmas.Grind.{common_steps}
+use Rattle.std.proofs.Common.{◌∙◌, ◌++◌, ◌∷◌, [], append_assoc, refl, sym, arith}
 use Rattle.std.specs.Prelude.{codes}
 use Rattle.std.specs.List.{flat_map}
 use Rattle.firm_text.specs.Replies.{change_words, spaced}
@@ -19,3 +20,9 @@ returns-in_ok-put_word_and_names-in-Move-clause-added c =
     (c.in_ok-put_word_and_names-in-Move.ensures.added ∙ append_assoc c.args.text.now.items (codes " move") names)
     c.put_spaced_name.ensures.added
     (sym (spaced-append (codes "move" ∷ m.task ∷ m.from ∷ []) (m.to ∷ [])) ∙ rw m.is refl)
+
+pub returns-in-Start-clause-added : goal.returns-in-Start-clause-added
+returns-in-Start-clause-added c = grind (arith, common_steps)
+
+pub returns-in-Preempt-clause-added : goal.returns-in-Preempt-clause-added
+returns-in-Preempt-clause-added c = grind (arith, common_steps)

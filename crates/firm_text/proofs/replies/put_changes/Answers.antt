@@ -1,4 +1,5 @@
-use Rattle.std.proofs.Common.{refl, ◌≡◌, ◌++◌, get_or}
+use Rattle.std.proofs.lemmas.Grind.{common_steps}
+use Rattle.std.proofs.Common.{refl, ◌≡◌, ◌++◌, get_or, arith}
 use Rattle.std.specs.List.{flat_map}
 use Rattle.firm_text.specs.Replies.{change_words, spaced}
 use Rattle.firm_text.proofs.Puts.{all_added, kept_trans, step_added}
@@ -22,3 +23,6 @@ pub returns-clause-added : goal.returns-clause-added
 returns-clause-added c =
     all_added (flat_map change_words) refl c.args.changes.now c.loop-change.change-index c.loop-change-test.false
     _ _ c.loop-change.invariant.added
+
+pub loop-change-init : goal.loop-change-init
+loop-change-init c = grind (arith, common_steps)

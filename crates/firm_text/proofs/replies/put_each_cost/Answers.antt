@@ -1,4 +1,5 @@
-use Rattle.std.proofs.Common.{map, refl, ◌∷◌, [], ◌≡◌, ◌++◌, get_or, pos, rules}
+use Rattle.std.proofs.lemmas.Grind.{common_steps}
+use Rattle.std.proofs.Common.{map, refl, ◌∷◌, [], ◌≡◌, ◌++◌, get_or, pos, rules, arith}
 use Rattle.std.specs.List.{flat_map}
 use Rattle.std.specs.Fmt.{signed_decimal}
 use Rattle.firm_text.specs.Replies.{spaced}
@@ -22,3 +23,6 @@ pub returns-clause-added : goal.returns-clause-added
 returns-clause-added c =
     all_added (map signed_decimal) refl c.args.costs.now c.loop-cost.cost-index c.loop-cost-test.false _ _
     c.loop-cost.invariant.added
+
+pub loop-cost-init : goal.loop-cost-init
+loop-cost-init c = grind (arith, common_steps)
