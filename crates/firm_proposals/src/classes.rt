@@ -5,7 +5,7 @@ use crate::memory::Memory;
 use crate::numbers::{Numbers, Stack};
 use crate::table::Table;
 use firm_levels::Class;
-use std::alloc::{AllocError, Global};
+use std::alloc::AllocError;
 
 /// The number of the first class at each time, and of a class that is cheaper or dearer than its parent at its own.
 const PAR: u32 = 1;
@@ -25,23 +25,15 @@ pub(crate) struct Classes {
 }
 
 impl Classes {
-    /// No classes, and no room for any.
-    pub(crate) fn empty(alloc: Global) -> Classes {
-        Classes {
-            of: Numbers::empty(alloc),
-            parents: Stack::empty(alloc),
-            times: Stack::empty(alloc),
-            numbers: Stack::empty(alloc),
-        }
-    }
-
-    /// Takes room for this many tasks and machines together.
-    pub(crate) fn take_room(&mut self, memory: &mut Memory, nodes: usize) {
+    /// No classes, and room for this many tasks and machines together.
+    pub(crate) fn new(memory: &mut Memory, nodes: usize) -> Classes {
         let most = most_classes(nodes);
-        self.of.take_room(memory, nodes);
-        self.parents.take_room(memory, most);
-        self.times.take_room(memory, most);
-        self.numbers.take_room(memory, most);
+        Classes {
+            of: Numbers::new(memory, nodes),
+            parents: Stack::new(memory, most),
+            times: Stack::new(memory, most),
+            numbers: Stack::new(memory, most),
+        }
     }
 
     /// All places are of one class.

@@ -3,7 +3,6 @@
 use crate::memory::Memory;
 use crate::numbers::{NONE, Numbers};
 use crate::table::{Span, Table, TaskRow, Way};
-use std::alloc::Global;
 use std::mem;
 
 /// A price that no task pays: that of a full machine until a task on it had rather go.
@@ -70,46 +69,28 @@ pub(crate) struct Aside {
 }
 
 impl Aside {
-    /// Nothing, and no room for any.
-    pub(crate) fn empty(alloc: Global) -> Aside {
+    /// Nothing, and room for this many tasks and machines together.
+    pub(crate) fn new(memory: &mut Memory, nodes: usize) -> Aside {
         Aside {
-            taken: Numbers::empty(alloc),
-            prices: Numbers::empty(alloc),
-            loads: Numbers::empty(alloc),
+            taken: Numbers::new(memory, nodes),
+            prices: Numbers::new(memory, nodes),
+            loads: Numbers::new(memory, nodes),
         }
-    }
-
-    /// Takes room for this many tasks and machines together.
-    pub(crate) fn take_room(&mut self, memory: &mut Memory, nodes: usize) {
-        self.taken.take_room(memory, nodes);
-        self.prices.take_room(memory, nodes);
-        self.loads.take_room(memory, nodes);
     }
 }
 
 impl Draft {
-    /// A draft without tasks and machines, and no room for any.
-    pub(crate) fn empty(alloc: Global) -> Draft {
+    /// A draft without tasks and machines, and room for this many of both together.
+    pub(crate) fn new(memory: &mut Memory, nodes: usize) -> Draft {
         Draft {
-            taken: Numbers::empty(alloc),
-            prices: Numbers::empty(alloc),
-            loads: Numbers::empty(alloc),
-            through: Numbers::empty(alloc),
-            held: Numbers::empty(alloc),
-            first: Numbers::empty(alloc),
-            spots: Vec::new(alloc),
+            taken: Numbers::new(memory, nodes),
+            prices: Numbers::new(memory, nodes),
+            loads: Numbers::new(memory, nodes),
+            through: Numbers::new(memory, nodes),
+            held: Numbers::new(memory, nodes),
+            first: Numbers::new(memory, nodes),
+            spots: memory.table(Spot::NONE, nodes),
         }
-    }
-
-    /// Takes room for this many tasks and machines together.
-    pub(crate) fn take_room(&mut self, memory: &mut Memory, nodes: usize) {
-        self.taken.take_room(memory, nodes);
-        self.prices.take_room(memory, nodes);
-        self.loads.take_room(memory, nodes);
-        self.through.take_room(memory, nodes);
-        self.held.take_room(memory, nodes);
-        self.first.take_room(memory, nodes);
-        memory.fill(&mut self.spots, Spot::NONE, nodes);
     }
 
     #[inline(always)]
@@ -135,10 +116,6 @@ impl Draft {
     #[inline(always)]
     pub(crate) fn load(&self, machine: u32) -> u32 {
         self.loads.at(machine)
-    }
-
-    pub(crate) fn set_load(&mut self, machine: u32, load: u32) {
-        self.loads.set(machine, load);
     }
 
     pub(crate) fn add_load(&mut self, machine: u32) {

@@ -7,10 +7,9 @@ use crate::draft::{Draft, Step, UNIT};
 use crate::links::Links;
 use crate::memory::Memory;
 use crate::numbers::{NONE, Numbers};
-use crate::sides::{Found, MOST_IN_TURN, Side, View};
+use crate::sides::{Found, Side, View};
 use crate::table::{Span, Table};
 use crate::work::Work;
-use std::alloc::Global;
 
 /// A place from which a unit is to go to another one, and the time of the choice for which it is.
 #[derive(Clone, Copy)]
@@ -25,14 +24,6 @@ struct Wish {
 struct Trial {
     at: u32,
     time: u32,
-}
-
-/// Whether a task is at the hub.
-#[derive(Clone, Copy, PartialEq, Eq)]
-enum AtHub {
-    Unasked,
-    Yes,
-    No,
 }
 
 /// How a search from both ends came out: they met at a place, or one side saw all that it could.
@@ -61,27 +52,18 @@ pub(crate) struct First {
 }
 
 impl First {
-    /// No tasks and machines, and no room for any.
-    pub(crate) fn empty(alloc: Global) -> First {
+    /// No tasks and machines, and room for this many of both together and for this many ways.
+    pub(crate) fn new(memory: &mut Memory, nodes: usize, ways: usize) -> First {
         First {
-            links: Links::empty(alloc),
-            classes: Classes::empty(alloc),
-            ahead: Side::empty(alloc, true),
-            behind: Side::empty(alloc, false),
-            chosen: Numbers::empty(alloc),
+            links: Links::new(memory, nodes, ways),
+            classes: Classes::new(memory, nodes),
+            ahead: Side::new(memory, nodes, true),
+            behind: Side::new(memory, nodes, false),
+            chosen: Numbers::new(memory, nodes),
             search: 0,
             now: 0,
             alive: 0,
         }
-    }
-
-    /// Takes room for this many tasks and machines together, and this many ways.
-    pub(crate) fn take_room(&mut self, memory: &mut Memory, nodes: usize, ways: usize) {
-        self.links.take_room(memory, nodes, ways);
-        self.classes.take_room(memory, nodes);
-        self.ahead.take_room(memory, nodes);
-        self.behind.take_room(memory, nodes);
-        self.chosen.take_room(memory, nodes);
     }
 
     /// The machine or the outside that was chosen for a task.
@@ -97,21 +79,16 @@ impl First {
     pub(crate) fn choose(&mut self, table: &Table, draft: &mut Draft, work: &mut Work) -> bool
         ensures most { work.new.most ≡ work.old.most }
     {
-        self.clear(table);
+        self.links.clear();
+        self.classes.clear(table);
+        self.search = 0;
+        self.alive = 0;
         for task in 0..table.tasks() {
             if !work.look() || !self.choose_for(table, draft, task, work) {
                 return false;
             }
         }
         true
-    }
-
-    // Nothing is chosen.
-    fn clear(&mut self, table: &Table) {
-        self.links.clear();
-        self.classes.clear(table);
-        self.search = 0;
-        self.alive = 0;
     }
 
     // Chooses for the task that is next, and says whether it was able to.
@@ -193,36 +170,37 @@ impl First {
         ensures most { work.new.most ≡ work.old.most }
     {
         let row = table.row(task);
-        let preferred = row.preferred_ways();
-        let mut next = next_tight(table, draft, preferred);
-        let mut at_hub = AtHub::before(table, draft, task);
-        if next == NONE && at_hub == AtHub::No {
-            return NONE;
-        }
-        let mut machine = self.first_alive(table, draft);
+        let hub_way = row.hub_way();
+        let mut next = next_tight(table, draft, row.preferred_ways());
+        let mut is_at_hub = draft.taken(task) == hub_way;
+        // The next machine over the hub; behind all of them if the task can't be at the hub.
+        let mut machine = if is_at_hub || draft.is_tight(table, hub_way) {
+            self.first_alive(table, draft)
+        } else {
+            table.machines()
+        };
         let begun = time_of(table, task).saturating_add(1);
         for _ in 0..table.way_count().saturating_add(table.machines()) {
             let wanted = table.way(next).place;
-            if wanted != NONE && (wanted <= machine || at_hub == AtHub::No) {
-                let time = begun.saturating_add(wanted);
+            let place = wanted.min(machine);
+            let time = begun.saturating_add(place);
+            if place >= table.machines() {
+                return NONE;
+            }
+            if place == wanted {
                 if self.turn_to(table, draft, Trial { at: next, time }, work) {
                     return wanted;
                 }
-                let behind = Span {
-                    from: next.saturating_add(1),
-                    ..preferred
-                };
-                next = next_tight(table, draft, behind);
-            } else if machine >= table.machines() || at_hub == AtHub::No {
-                return NONE;
+                let from = next.saturating_add(1);
+                next = next_tight(table, draft, Span { from, to: hub_way });
             } else if table.is_near(row, machine) || !self.is_alive(table, draft, machine) {
                 machine = machine.saturating_add(1);
-            } else if at_hub == AtHub::Unasked {
-                let at = row.hub_way();
-                let time = begun.saturating_add(machine);
-                at_hub = AtHub::of(self.turn_to(table, draft, Trial { at, time }, work));
+            } else if !is_at_hub {
+                is_at_hub = self.turn_to(table, draft, Trial { at: hub_way, time }, work);
+                if !is_at_hub {
+                    machine = table.machines();
+                }
             } else {
-                let time = begun.saturating_add(machine);
                 if self.send_through(table, draft, Trial { at: machine, time }, work) {
                     return machine;
                 }
@@ -376,7 +354,6 @@ impl First {
             classes: &self.classes,
             search: self.search,
             class: self.classes.of(wish.from),
-            turn: 1,
             now: self.now,
         };
         let outcome = look_in_turn(&view, wish, &mut self.ahead, &mut self.behind, work);
@@ -402,7 +379,7 @@ impl First {
 
 // Begins at both ends, and looks from them in turn, up to where they meet or one has nothing more to look at.
 fn look_in_turn(
-    begun: &View,
+    view: &View,
     wish: Wish,
     ahead: &mut Side,
     behind: &mut Side,
@@ -410,43 +387,30 @@ fn look_in_turn(
 ) -> Outcome
     ensures most { work.new.most ≡ work.old.most }
 {
-    let mut view = *begun;
-    ahead.begin(&view, wish.from);
-    behind.begin(&view, wish.to);
+    ahead.begin(view, wish.from);
+    behind.begin(view, wish.to);
     // Once more than looks are left, so that a lack of them is told.
     for _ in 0..work.left().saturating_add(1) {
-        match ahead.look(&view, behind, work) {
+        match ahead.look(view, behind, work) {
             Found::On => {}
-            Found::Met(place) => return Outcome::Met(place),
-            Found::Closed => return Outcome::ClosedAhead,
-            Found::Short => return Outcome::Short,
+            found => return Outcome::of(found, Outcome::ClosedAhead),
         }
-        match behind.look(&view, ahead, work) {
+        match behind.look(view, ahead, work) {
             Found::On => {}
-            Found::Met(place) => return Outcome::Met(place),
-            Found::Closed => return Outcome::ClosedBehind,
-            Found::Short => return Outcome::Short,
+            found => return Outcome::of(found, Outcome::ClosedBehind),
         }
-        view.turn = view.turn.saturating_mul(2).min(MOST_IN_TURN);
     }
     Outcome::Short
 }
 
-impl AtHub {
-    // As it is before a search.
-    fn before(table: &Table, draft: &Draft, task: u32) -> AtHub {
-        let way = table.row(task).hub_way();
-        if draft.taken(task) == way {
-            AtHub::Yes
-        } else if draft.is_tight(table, way) {
-            AtHub::Unasked
-        } else {
-            AtHub::No
+impl Outcome {
+    // How a search comes out where a side found this: so if the side is closed.
+    fn of(found: Found, closed: Outcome) -> Outcome {
+        match found {
+            Found::Met(place) => Outcome::Met(place),
+            Found::Closed => closed,
+            Found::On | Found::Short => Outcome::Short,
         }
-    }
-
-    fn of(is_there: bool) -> AtHub {
-        if is_there { AtHub::Yes } else { AtHub::No }
     }
 }
 

@@ -6,7 +6,6 @@ use crate::memory::Memory;
 use crate::numbers::{NONE, Stack};
 use crate::table::{Span, Table, TaskRow};
 use crate::work::Work;
-use std::alloc::Global;
 use std::mem;
 
 /// How often prices fall at most; then the tasks that prefer machines are left out.
@@ -117,26 +116,16 @@ pub(crate) struct Traders {
 }
 
 impl Traders {
-    /// No tasks, and no room for any.
-    pub(crate) fn empty(alloc: Global) -> Traders {
+    /// No tasks, and room for this many tasks and machines together.
+    pub(crate) fn new(memory: &mut Memory, nodes: usize) -> Traders {
         Traders {
-            movers: Stack::empty(alloc),
-            near: Stack::empty(alloc),
-            waiting: Stack::empty(alloc),
-            stands: Vec::new(alloc),
-            other_stands: Vec::new(alloc),
-            aside: Aside::empty(alloc),
+            movers: Stack::new(memory, nodes),
+            near: Stack::new(memory, nodes),
+            waiting: Stack::new(memory, nodes),
+            stands: memory.table(Stand::Settled, nodes),
+            other_stands: memory.table(Stand::Settled, nodes),
+            aside: Aside::new(memory, nodes),
         }
-    }
-
-    /// Takes room for this many tasks and machines together.
-    pub(crate) fn take_room(&mut self, memory: &mut Memory, nodes: usize) {
-        self.movers.take_room(memory, nodes);
-        self.near.take_room(memory, nodes);
-        self.waiting.take_room(memory, nodes);
-        memory.fill(&mut self.stands, Stand::Settled, nodes);
-        memory.fill(&mut self.other_stands, Stand::Settled, nodes);
-        self.aside.take_room(memory, nodes);
     }
 
     /// Sets aside what the last trade made, and brings back what was set aside before.

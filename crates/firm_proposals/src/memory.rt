@@ -1,4 +1,5 @@
 //! What tables take their memory from.
+ghost use Rattle.std.specs.Prelude.{◌≡◌, []};
 
 use std::alloc::{AllocError, Global};
 
@@ -18,15 +19,28 @@ impl Memory {
         }
     }
 
-    /// Makes a table this long, each item of it this one; where memory is refused it stays as it is.
-    pub(crate) fn fill<T: Copy>(&mut self, table: &mut Vec<T>, item: T, length: usize) {
-        if self.is_short {
-            return;
+    /// A table this long, each item of it this one; an empty one where memory is refused.
+    pub(crate) fn table<T: Copy>(&mut self, item: T, length: usize) -> Vec<T> {
+        if !self.is_short {
+            match vec![in self.alloc; item; length] {
+                Ok(table) => return table,
+                Err(_) => self.is_short = true,
+            }
         }
-        match vec![in self.alloc; item; length] {
-            Ok(filled) => *table = filled,
-            Err(_) => self.is_short = true,
+        Vec::new(self.alloc)
+    }
+
+    /// An empty table with room for this many items, or for none where memory is refused.
+    pub(crate) fn room<T: Copy>(&mut self, length: usize) -> Vec<T>
+        ensures { result.items ≡ [] }
+    {
+        if !self.is_short {
+            match Vec::with_capacity(self.alloc, length) {
+                Ok(table) => return table,
+                Err(_) => self.is_short = true,
+            }
         }
+        Vec::new(self.alloc)
     }
 
     /// Whether there was enough.

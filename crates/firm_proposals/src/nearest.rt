@@ -2,7 +2,6 @@
 
 use crate::memory::Memory;
 use crate::numbers::{NONE, Numbers, Stack};
-use std::alloc::Global;
 
 /// How deep the heap is at most.
 const MOST_DEPTH: u32 = 32;
@@ -17,20 +16,13 @@ pub(crate) struct Nearest {
 }
 
 impl Nearest {
-    /// No place, and no room for any.
-    pub(crate) fn empty(alloc: Global) -> Nearest {
+    /// No place, and room for this many.
+    pub(crate) fn new(memory: &mut Memory, places: usize) -> Nearest {
         Nearest {
-            heap: Stack::empty(alloc),
-            distances: Numbers::empty(alloc),
-            indices: Numbers::empty(alloc),
+            heap: Stack::new(memory, places),
+            distances: Numbers::new(memory, places),
+            indices: Numbers::new(memory, places),
         }
-    }
-
-    /// Takes room for this many places.
-    pub(crate) fn take_room(&mut self, memory: &mut Memory, places: usize) {
-        self.heap.take_room(memory, places);
-        self.distances.take_room(memory, places);
-        self.indices.take_room(memory, places);
     }
 
     /// Forgets all distances.

@@ -1,7 +1,6 @@
 //! Tables of numbers whose size is set once: after that they take no memory, and nothing in them fails.
 
 use crate::memory::Memory;
-use std::alloc::Global;
 
 /// No task, place, way or class.
 pub(crate) const NONE: u32 = u32::MAX;
@@ -13,16 +12,11 @@ pub(crate) struct Numbers {
 }
 
 impl Numbers {
-    /// No numbers, and no room for any.
-    pub(crate) fn empty(alloc: Global) -> Numbers {
+    /// This many, all of them `NONE`.
+    pub(crate) fn new(memory: &mut Memory, length: usize) -> Numbers {
         Numbers {
-            items: Vec::new(alloc),
+            items: memory.table(NONE, length),
         }
-    }
-
-    /// Takes room for this many.
-    pub(crate) fn take_room(&mut self, memory: &mut Memory, length: usize) {
-        memory.fill(&mut self.items, NONE, length);
     }
 
     #[inline(always)]
@@ -73,17 +67,12 @@ pub(crate) struct Stack {
 }
 
 impl Stack {
-    /// No numbers, and no room for any.
-    pub(crate) fn empty(alloc: Global) -> Stack {
+    /// No numbers, and room for this many.
+    pub(crate) fn new(memory: &mut Memory, length: usize) -> Stack {
         Stack {
-            items: Numbers::empty(alloc),
+            items: Numbers::new(memory, length),
             count: 0,
         }
-    }
-
-    /// Takes room for this many.
-    pub(crate) fn take_room(&mut self, memory: &mut Memory, length: usize) {
-        self.items.take_room(memory, length);
     }
 
     pub(crate) fn count(&self) -> u32 {

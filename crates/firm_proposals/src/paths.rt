@@ -7,7 +7,6 @@ use crate::nearest::Nearest;
 use crate::numbers::{NONE, Numbers, Stack};
 use crate::table::{LEVELS, Table};
 use crate::work::Work;
-use std::alloc::Global;
 
 /// From this sweep on those that find few ways are given up for searches from one task each.
 const FEWEST_SWEEPS: u32 = 6;
@@ -40,34 +39,23 @@ pub(crate) struct Paths {
 }
 
 impl Paths {
-    /// No places, and no room for any.
-    pub(crate) fn empty(alloc: Global) -> Paths {
+    /// No places, and room for this many tasks and machines together.
+    pub(crate) fn new(memory: &mut Memory, nodes: usize) -> Paths {
         Paths {
-            nearest: Nearest::empty(alloc),
-            from: Numbers::empty(alloc),
-            by: Numbers::empty(alloc),
-            seen: Numbers::empty(alloc),
-            dead: Numbers::empty(alloc),
+            nearest: Nearest::new(memory, nodes),
+            from: Numbers::new(memory, nodes),
+            by: Numbers::new(memory, nodes),
+            seen: Numbers::new(memory, nodes),
+            dead: Numbers::new(memory, nodes),
             search: 0,
             sweep: 0,
-            queue: Stack::empty(alloc),
-            settled: Stack::empty(alloc),
+            queue: Stack::new(memory, nodes),
+            settled: Stack::new(memory, nodes),
             lacks: 0,
             goal: 0,
             hub_goal: NONE,
             end: NONE,
         }
-    }
-
-    /// Takes room for this many tasks and machines together.
-    pub(crate) fn take_room(&mut self, memory: &mut Memory, nodes: usize) {
-        self.nearest.take_room(memory, nodes);
-        self.from.take_room(memory, nodes);
-        self.by.take_room(memory, nodes);
-        self.seen.take_room(memory, nodes);
-        self.dead.take_room(memory, nodes);
-        self.queue.take_room(memory, nodes);
-        self.settled.take_room(memory, nodes);
     }
 
     /// Nothing is seen, and this many units are lacking at the hub.
@@ -120,7 +108,7 @@ impl Paths {
     fn send_nearest(&mut self, table: &Table, draft: &mut Draft, rest: &mut Stack, work: &mut Work)
         ensures most { work.new.most ≡ work.old.most }
     {
-        self.begin_send(table, work);
+        self.begin_far(table, table.outside(), work);
         for at in 0..rest.count() {
             self.start_at(table, draft, rest.at(at), work);
         }
@@ -133,7 +121,7 @@ impl Paths {
         ensures most { work.new.most ≡ work.old.most }
     {
         for at in 0..rest.count() {
-            self.begin_send(table, work);
+            self.begin_far(table, table.outside(), work);
             self.start_at(table, draft, rest.at(at), work);
             self.end_send(table, draft, work);
         }
@@ -176,7 +164,8 @@ impl Paths {
         ensures most { work.new.most ≡ work.old.most }
     {
         for _ in 0..LEVELS {
-            if !self.is_lacking() || self.is_dead(machine) || !draft.may_leave(table, machine) {
+            let is_dead = self.dead.at(machine) == self.sweep;
+            if !self.is_lacking() || is_dead || !draft.may_leave(table, machine) {
                 return;
             }
             self.pull_slot(table, draft, machine, work);
@@ -244,11 +233,6 @@ impl Paths {
         let from = table.outside();
         self.see_ways(table, draft, Leaving { task, paid, from }, work);
         self.follow(table, draft, work)
-    }
-
-    // Whether this machine led nowhere in this sweep.
-    fn is_dead(&self, place: u32) -> bool {
-        self.dead.at(place) == self.sweep
     }
 
     fn begin(&mut self, table: &Table, goal: u32) {
@@ -392,13 +376,6 @@ impl Paths {
         }
     }
 
-    // Begins a search for the cheapest path of some tasks, all left out.
-    fn begin_send(&mut self, table: &Table, work: &mut Work)
-        ensures most { work.new.most ≡ work.old.most }
-    {
-        self.begin_far(table, table.outside(), work);
-    }
-
     // Has the search start from this task too.
     fn start_at(&mut self, table: &Table, draft: &Draft, task: u32, work: &mut Work)
         ensures most { work.new.most ≡ work.old.most }
@@ -460,6 +437,7 @@ impl Paths {
         }
     }
 
+    // Begins a search for a cheapest path to this place.
     fn begin_far(&mut self, table: &Table, goal: u32, work: &mut Work)
         ensures most { work.new.most ≡ work.old.most }
     {
@@ -478,17 +456,12 @@ impl Paths {
             if place == NONE || self.is_end(place) {
                 return place;
             }
-            self.settle(place);
+            self.settled.push(place);
+            self.seen.set(place, self.search);
             self.reach_units(table, draft, place, work);
             self.reach_tasks(table, draft, place, work);
         }
         NONE
-    }
-
-    #[inline(always)]
-    fn settle(&mut self, place: u32) {
-        self.settled.push(place);
-        self.seen.set(place, self.search);
     }
 
     // Reaches a place from another one that is settled, by a step that costs this much.

@@ -5,10 +5,11 @@ ghost use Rattle.firm_proposals.specs.inner.Written.{IsEmpty, IsWritten};
 use crate::classes::most_classes;
 use crate::draft::Draft;
 use crate::first::First;
+use crate::memory::Memory;
 use crate::table::Table;
 use firm_levels::LevelRents;
 use firm_rules::Choice;
-use std::alloc::{AllocError, Global};
+use std::alloc::AllocError;
 
 /// A placement, rents in levels that are to show it, and the price at which tasks went to any machine.
 #[derive(Drop)]
@@ -20,22 +21,18 @@ pub(crate) struct Proposal {
 
 impl Proposal {
     /// Nothing proposed, with room for this many tasks and machines together.
-    pub(crate) fn new(alloc: Global, nodes: usize) -> Result<Proposal, AllocError>
-        ensures { IfOk result (λ proposal. IsEmpty proposal) }
+    pub(crate) fn new(memory: &mut Memory, nodes: usize) -> Proposal
+        ensures { IsEmpty result }
     {
-        let placement = Vec::with_capacity(alloc, nodes)?;
-        let amounts = Vec::with_capacity(alloc, nodes)?;
-        let places = Vec::with_capacity(alloc, nodes)?;
-        let classes = Vec::with_capacity(alloc, most_classes(nodes))?;
-        Ok(Proposal {
-            placement,
+        Proposal {
+            placement: memory.room(nodes),
             rents: LevelRents {
-                amounts,
-                places,
-                classes,
+                amounts: memory.room(nodes),
+                places: memory.room(nodes),
+                classes: memory.room(most_classes(nodes)),
             },
             hub_price: None,
-        })
+        }
     }
 
     /// Writes down what was chosen. Fails only if memory is refused, of which none is needed where there is room.

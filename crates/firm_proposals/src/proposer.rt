@@ -64,32 +64,19 @@ impl Proposer {
     pub fn new(alloc: Global, limits: Limits) -> Result<Proposer, AllocError>
         ensures { IfOk result (λ proposer. proposer ≡ nothing_proposed limits) }
     {
-        let proposal = Proposal::new(alloc, limits.nodes() as usize)?;
-        let mut proposer = Proposer {
-            limits,
-            table: Table::empty(alloc),
-            draft: Draft::empty(alloc),
-            least: Least::empty(alloc),
-            first: First::empty(alloc),
-            proposal,
-        };
-        proposer.take_room(alloc)?;
-        Ok(proposer)
-    }
-
-    // Takes all memory that the tables will need. It does so for tables that a proposer has already, empty ones, so
-    // that it has no table to drop where memory is refused.
-    fn take_room(&mut self, alloc: Global) -> Result<(), AllocError>
-        ensures { self.new ≡ self.old }
-    {
-        let nodes = self.limits.nodes() as usize;
-        let arcs = self.limits.arcs() as usize;
+        let nodes = limits.nodes() as usize;
+        let arcs = limits.arcs() as usize;
         let mut memory = Memory::new(alloc);
-        self.table.take_room(&mut memory, nodes, arcs);
-        self.draft.take_room(&mut memory, nodes);
-        self.least.take_room(&mut memory, nodes);
-        self.first.take_room(&mut memory, nodes, arcs);
-        memory.was_enough()
+        let proposer = Proposer {
+            limits,
+            table: Table::new(&mut memory, nodes, arcs),
+            draft: Draft::new(&mut memory, nodes),
+            least: Least::new(&mut memory, nodes),
+            first: First::new(&mut memory, nodes, arcs),
+            proposal: Proposal::new(&mut memory, nodes),
+        };
+        memory.was_enough()?;
+        Ok(proposer)
     }
 
     /// Proposes a placement and rents in levels for a round, with the work that is left. May try `hint` as the price of

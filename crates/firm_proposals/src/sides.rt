@@ -8,10 +8,9 @@ use crate::memory::Memory;
 use crate::numbers::{NONE, Stack};
 use crate::table::Table;
 use crate::work::Work;
-use std::alloc::Global;
 
 /// How many looks a side has at most before it is the other's turn.
-pub(crate) const MOST_IN_TURN: u32 = 8;
+const MOST_IN_TURN: u32 = 8;
 
 /// What a search looks at.
 #[derive(Clone, Copy)]
@@ -23,8 +22,6 @@ pub(crate) struct View<'a> {
     /// The number of the search, and the class of the places in it.
     pub(crate) search: u32,
     pub(crate) class: u32,
-    /// How many looks a side has before it is the other's turn.
-    pub(crate) turn: u32,
     /// The first task that may still move.
     pub(crate) now: u32,
 }
@@ -52,10 +49,10 @@ struct Circle {
 }
 
 impl Circle {
-    // No machines, and no room for any.
-    fn empty(alloc: Global) -> Circle {
+    // No machines, and room for this many.
+    fn new(memory: &mut Memory, machines: usize) -> Circle {
         Circle {
-            machines: Stack::empty(alloc),
+            machines: Stack::new(memory, machines),
             start: 0,
             next: 0,
         }
@@ -78,19 +75,25 @@ impl Circle {
         self.machines.count()
     }
 
-    /// The next machine.
+    // The next machine; `NONE` in its place if it is of another class than the search, and then it is forgotten: classes
+    // that were parted stay so.
     #[inline(always)]
-    fn take(&mut self) -> u32 {
+    fn take(&mut self, view: &View) -> u32 {
         if self.next >= self.machines.count() {
             self.next = 0;
         }
         let machine = self.machines.at(self.next);
         self.next = self.next.saturating_add(1);
-        machine
+        if view.classes.of(machine) == view.class {
+            machine
+        } else {
+            self.forget();
+            NONE
+        }
     }
 
-    /// Drops the machine that was taken last. One that is not yet taken in this round comes in its place, so that none
-    /// is passed over or taken twice.
+    // Drops the machine that was taken last. One that is not yet taken in this round comes in its place, so that none
+    // is passed over or taken twice.
     fn forget(&mut self) {
         let mut gap = self.next.saturating_sub(1);
         self.next = gap;
@@ -127,6 +130,8 @@ impl Mark {
 #[derive(Drop)]
 pub(crate) struct Side {
     is_ahead: bool,
+    // How many looks it has before it is the other's turn.
+    turn: u32,
     seen: Stack,
     marks: Vec<Mark>,
     // Whether the hub and the outside were seen in this search.
@@ -148,34 +153,25 @@ pub(crate) struct Side {
 }
 
 impl Side {
-    /// No places, and no room for any.
-    pub(crate) fn empty(alloc: Global, is_ahead: bool) -> Side {
+    /// No places, and room for this many tasks and machines together.
+    pub(crate) fn new(memory: &mut Memory, nodes: usize, is_ahead: bool) -> Side {
         Side {
             is_ahead,
-            seen: Stack::empty(alloc),
-            marks: Vec::new(alloc),
+            turn: 0,
+            seen: Stack::new(memory, nodes),
+            marks: memory.table(Mark::NONE, nodes),
             saw_hub: false,
             saw_outside: false,
             last: NONE,
             units: UnitLinks::NONE,
-            near: Stack::empty(alloc),
+            near: Stack::new(memory, nodes),
             entered: 0,
             walk: Walk::NONE,
-            far: Stack::empty(alloc),
+            far: Stack::new(memory, 2),
             far_walk: Walk::NONE,
-            at_hub: Circle::empty(alloc),
-            at_edge: Circle::empty(alloc),
+            at_hub: Circle::new(memory, nodes),
+            at_edge: Circle::new(memory, nodes),
         }
-    }
-
-    /// Takes room for this many tasks and machines together.
-    pub(crate) fn take_room(&mut self, memory: &mut Memory, nodes: usize) {
-        self.seen.take_room(memory, nodes);
-        self.near.take_room(memory, nodes);
-        self.at_hub.machines.take_room(memory, nodes);
-        self.at_edge.machines.take_room(memory, nodes);
-        self.far.take_room(memory, 2);
-        memory.fill(&mut self.marks, Mark::NONE, nodes);
     }
 
     /// Forgets all searches, and reads between which machines and the hub or the outside units may go.
@@ -202,6 +198,7 @@ impl Side {
 
     /// Begins a search at a place.
     pub(crate) fn begin(&mut self, view: &View, place: u32) {
+        self.turn = 0;
         self.seen.clear();
         self.near.clear();
         self.entered = 0;
@@ -211,13 +208,14 @@ impl Side {
         self.units = UnitLinks::NONE;
         self.saw_hub = false;
         self.saw_outside = false;
-        if let Some(mark) = self.marks.get_mut(place as usize) {
-            let search = view.search;
-            *mark = Mark {
+        let search = view.search;
+        self.set_mark(
+            place,
+            Mark {
                 search,
                 ..Mark::NONE
-            };
-        }
+            },
+        );
         self.enter(view, place);
         if place >= view.table.hub() {
             self.far.clear();
@@ -232,15 +230,24 @@ impl Side {
     }
 
     #[inline(always)]
+    fn set_mark(&mut self, place: u32, mark: Mark) {
+        if let Some(item) = self.marks.get_mut(place as usize) {
+            *item = mark;
+        }
+    }
+
+    #[inline(always)]
     fn has_seen(&self, view: &View, place: u32) -> bool {
         self.mark(place).search == view.search
     }
 
-    /// Looks at what comes next, up to a new place that leads on.
+    /// Looks at what comes next, up to a new place that leads on. Each turn has twice the looks of the one before, up to
+    /// a bound.
     #[inline(always)]
     pub(crate) fn look(&mut self, view: &View, other: &Side, work: &mut Work) -> Found
         ensures most { work.new.most ≡ work.old.most }
     {
+        self.turn = self.turn.saturating_mul(2).clamp(1, MOST_IN_TURN);
         let place = if !self.units.are_none() {
             self.look_at_unit(view, work)
         } else if !self.walk.is_done() || self.goes_on(view) {
@@ -315,8 +322,7 @@ impl Side {
     }
 
     // Looks at machines between which and the hub or the outside a unit may go, up to a new one that leads on, which it
-    // gives; `NONE` if there is none. One of another class is forgotten: classes that were parted stay so. Behind the
-    // machines come the tasks.
+    // gives; `NONE` if there is none. Behind the machines come the tasks.
     #[inline(always)]
     fn look_round(&mut self, view: &View, other: &Side, walk: &mut Walk, work: &mut Work) -> u32
         ensures most { work.new.most ≡ work.old.most }
@@ -326,20 +332,18 @@ impl Side {
         }
         let from = walk.place;
         let is_hub = from == view.table.hub();
-        for _ in 0..view.turn {
+        for _ in 0..self.turn {
             if walk.machines == 0 || !work.look() {
                 return NONE;
             }
             walk.machines = walk.machines.saturating_sub(1);
-            let circle = if is_hub {
-                &mut self.at_hub
+            let to = if is_hub {
+                self.at_hub.take(view)
             } else {
-                &mut self.at_edge
+                self.at_edge.take(view)
             };
-            let to = circle.take();
-            if view.classes.of(to) != view.class {
-                circle.forget();
-            } else if self.goes(view, is_hub, to)
+            if to != NONE
+                && self.goes(view, is_hub, to)
                 && self.mark_new(view, Step { from, to, by: UNIT })
             {
                 if other.has_seen(view, to) || self.leads_on(view, to) {
@@ -369,7 +373,7 @@ impl Side {
         ensures most { work.new.most ≡ work.old.most }
     {
         let from = walk.place;
-        for _ in 0..view.turn {
+        for _ in 0..self.turn {
             if walk.is_done() || !work.look() {
                 return NONE;
             }
@@ -388,19 +392,18 @@ impl Side {
     // Marks a place as seen by this step, and says whether it is new: it was not seen, and is of the search's class.
     #[inline(always)]
     fn mark_new(&mut self, view: &View, step: Step) -> bool {
-        let search = view.search;
-        let Some(mark) = self.marks.get_mut(step.to as usize) else {
-            return false;
-        };
-        if mark.search == search || view.classes.of(step.to) != view.class {
-            return false;
+        let is_new = !self.has_seen(view, step.to) && view.classes.of(step.to) == view.class;
+        if is_new {
+            self.set_mark(
+                step.to,
+                Mark {
+                    search: view.search,
+                    before: step.from,
+                    by: step.by,
+                },
+            );
         }
-        *mark = Mark {
-            search,
-            before: step.from,
-            by: step.by,
-        };
-        true
+        is_new
     }
 
     // Keeps a new place to be gone into, the hub and the outside last.
@@ -463,36 +466,21 @@ impl Side {
         UnitLinks { outside, hub }
     }
 
-    /// The step between a place and the one from which this side saw it; none where it began.
-    pub(crate) fn step(&self, place: u32) -> Option<Step> {
-        let Mark { before, by, .. } = self.mark(place);
-        if before == NONE {
-            return None;
-        }
-        if self.is_ahead {
-            Some(Step {
-                from: before,
-                to: place,
-                by,
-            })
-        } else {
-            Some(Step {
-                from: place,
-                to: before,
-                by,
-            })
-        }
-    }
-
     /// Makes the steps between a place and where this side began.
     pub(crate) fn make(&self, table: &Table, draft: &mut Draft, end: u32) {
         let mut place = end;
         for _ in 0..table.places() {
-            let Some(step) = self.step(place) else {
+            let Mark { before, by, .. } = self.mark(place);
+            if before == NONE {
                 return;
+            }
+            let (from, to) = if self.is_ahead {
+                (before, place)
+            } else {
+                (place, before)
             };
-            draft.make(table, step);
-            place = self.mark(place).before;
+            draft.make(table, Step { from, to, by });
+            place = before;
         }
     }
 }

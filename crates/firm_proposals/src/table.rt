@@ -9,7 +9,6 @@ ghost use Rattle.firm_proposals.specs.inner.Written.{SameSize};
 use crate::memory::Memory;
 use crate::numbers::{NONE, Numbers};
 use firm_rules::{Case, Choice, MOST_PREFERENCES, slot_cost};
-use std::alloc::Global;
 
 /// What a task can do: go to a place, at a cost of its own.
 #[derive(Clone, Copy)]
@@ -151,30 +150,20 @@ pub(crate) struct Table {
 }
 
 impl Table {
-    /// Tables without tasks and machines, and no room for any.
-    pub(crate) fn empty(alloc: Global) -> Table {
+    /// Tables without tasks and machines, and room for this many of both together and for this many ways.
+    pub(crate) fn new(memory: &mut Memory, nodes: usize, ways: usize) -> Table {
         Table {
-            ways: Vec::new(alloc),
+            ways: memory.table(Way::NONE, ways),
             way_count: 0,
-            rows: Vec::new(alloc),
+            rows: memory.table(TaskRow::NONE, nodes),
             none: TaskRow::NONE,
-            waits: Numbers::empty(alloc),
-            slots: Numbers::empty(alloc),
-            demands: Numbers::empty(alloc),
+            waits: Numbers::new(memory, nodes),
+            slots: Numbers::new(memory, nodes),
+            demands: Numbers::new(memory, nodes),
             tasks: 0,
             machines: 0,
-            slot_costs: Numbers::empty(alloc),
+            slot_costs: Numbers::new(memory, MOST_SLOTS as usize),
         }
-    }
-
-    /// Takes room for this many tasks and machines together, and this many ways.
-    pub(crate) fn take_room(&mut self, memory: &mut Memory, nodes: usize, ways: usize) {
-        memory.fill(&mut self.ways, Way::NONE, ways);
-        memory.fill(&mut self.rows, TaskRow::NONE, nodes);
-        self.waits.take_room(memory, nodes);
-        self.slots.take_room(memory, nodes);
-        self.demands.take_room(memory, nodes);
-        self.slot_costs.take_room(memory, MOST_SLOTS as usize);
     }
 
     pub(crate) fn tasks(&self) -> u32
