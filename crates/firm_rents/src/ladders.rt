@@ -48,8 +48,7 @@ pub fn is_ladder(
     Ok(shows_first(case, &levels, placement))
 }
 
-// The rents with the ladder behind them. Of the groups in one, that with most groups in it has the class of the outer
-// one, if it can: then few classes lie between two places, however deep the ladder is.
+// The rents with the ladder behind them.
 fn in_levels(
     alloc: Global,
     case: &Case,
@@ -57,34 +56,59 @@ fn in_levels(
     ladder: &Ladder,
     placement: &[Choice],
 ) -> Result<LevelRents, AllocError> {
-    let main = main_groups(alloc, ladder)?;
-    let above = counts_above(alloc, ladder, &main)?;
-    let mut of = vec![in alloc; 0; ladder.groups.len()]?;
-    let mut classes = Vec::with_capacity(alloc, 1)?;
-    classes.push(Class {
+    let first = Class {
         parent: 0,
         time: 0,
         number: 1,
-    })?;
+    };
+    let mut classes = vec![in alloc; first; 1]?;
+    let places = classes_of_places(alloc, case, ladder, placement, &mut classes)?;
+    let amounts = Vec::from_slice(alloc, rents.as_slice())?;
+    Ok(LevelRents {
+        amounts,
+        places,
+        classes,
+    })
+}
+
+// The class of each place: that of its group. Adds the classes.
+fn classes_of_places(
+    alloc: Global,
+    case: &Case,
+    ladder: &Ladder,
+    placement: &[Choice],
+    classes: &mut Vec<Class>,
+) -> Result<Vec<u32>, AllocError> {
+    let of = classes_of_groups(alloc, case, ladder, placement, classes)?;
+    let mut places = Vec::from_slice(alloc, &ladder.places)?;
+    for place in 0..places.len() {
+        let group = at(&places, place);
+        set(&mut places, place, at(&of, group as usize));
+    }
+    Ok(places)
+}
+
+// The class of each group. Adds the classes.
+fn classes_of_groups(
+    alloc: Global,
+    case: &Case,
+    ladder: &Ladder,
+    placement: &[Choice],
+    classes: &mut Vec<Class>,
+) -> Result<Vec<u32>, AllocError> {
+    let references = references_of(alloc, ladder)?;
+    let mut of = vec![in alloc; 0; ladder.groups.len()]?;
     for group in 1..ladder.groups.len() {
         let outer = ladder.groups[group].outer as usize;
         let mut class = at(&of, outer);
-        let reference = if at(&above, outer) <= 1 {
-            at(&main, outer)
-        } else {
-            u32::MAX
-        };
+        let reference = at(&references, outer);
         if reference as usize != group {
             let pair = classes_of(case, ladder, placement, group, reference);
-            class = put_classes(&mut classes, class, pair)?;
+            class = put_classes(classes, class, pair)?;
         }
         set(&mut of, group, class);
     }
-    Ok(LevelRents {
-        amounts: Vec::from_slice(alloc, rents.as_slice())?,
-        places: classes_of_places(alloc, ladder, &of)?,
-        classes,
-    })
+    Ok(of)
 }
 
 // Adds two classes, each behind its parent; gives the number of the second.
@@ -99,17 +123,35 @@ fn put_classes(classes: &mut Vec<Class>, parent: u32, pair: [Class; 2]) -> Resul
     Ok(own.saturating_add(1))
 }
 
-// The class of each place: that of its group.
-fn classes_of_places(alloc: Global, ladder: &Ladder, of: &[u32]) -> Result<Vec<u32>, AllocError> {
-    let mut places = Vec::with_capacity(alloc, ladder.places.len())?;
-    for place in 0..ladder.places.len() {
-        places.push(at(of, ladder.places[place] as usize))?;
+// Of the groups in each one, that which has the class of the outer one: the main one, if it can, or none, `u32::MAX`.
+// Then few classes lie between two places, however deep the ladder is.
+fn references_of(alloc: Global, ladder: &Ladder) -> Result<Vec<u32>, AllocError> {
+    let mut references = main_groups(alloc, ladder)?;
+    let above = counts_above(alloc, ladder, &references)?;
+    for group in 0..above.len() {
+        if at(&above, group) > 1 {
+            set(&mut references, group, u32::MAX);
+        }
     }
-    Ok(places)
+    Ok(references)
 }
 
 // Of the groups in each one, that with most groups in it; 0 if there is none.
 fn main_groups(alloc: Global, ladder: &Ladder) -> Result<Vec<u32>, AllocError> {
+    let sizes = sizes_of(alloc, ladder)?;
+    let mut main = vec![in alloc; 0; ladder.groups.len()]?;
+    for group in 1..ladder.groups.len() {
+        let outer = ladder.groups[group].outer as usize;
+        let before = at(&main, outer);
+        if before == 0 || at(&sizes, before as usize) < at(&sizes, group) {
+            set(&mut main, outer, u32::try_from(group).unwrap_or(0));
+        }
+    }
+    Ok(main)
+}
+
+// How many groups there are in each, with itself.
+fn sizes_of(alloc: Global, ladder: &Ladder) -> Result<Vec<u32>, AllocError> {
     let mut sizes = vec![in alloc; 1; ladder.groups.len()]?;
     for back in 0..ladder.groups.len() {
         let group = ladder.groups.len() - 1 - back;
@@ -117,17 +159,7 @@ fn main_groups(alloc: Global, ladder: &Ladder) -> Result<Vec<u32>, AllocError> {
         let size = at(&sizes, outer).saturating_add(at(&sizes, group));
         set(&mut sizes, outer, size);
     }
-    let mut main = vec![in alloc; 0; ladder.groups.len()]?;
-    let mut most = vec![in alloc; 0; ladder.groups.len()]?;
-    for group in 1..ladder.groups.len() {
-        let outer = ladder.groups[group].outer as usize;
-        let size = at(&sizes, group);
-        if at(&most, outer) < size {
-            set(&mut most, outer, size);
-            set(&mut main, outer, u32::try_from(group).unwrap_or(0));
-        }
-    }
-    Ok(main)
+    Ok(sizes)
 }
 
 // How many groups stand above the main one in each.

@@ -1,8 +1,31 @@
 use Rattle.std.proofs.Common.{ℕ, List, length, drop, sym, ap, subst, ◌∙◌, arith}
-use Rattle.firm_rents.specs.Rents.{IsBelow}
+use Rattle.std.specs.Prelude.{slice_index}
+use Rattle.firm_rents.specs.Rents.{AreRents, IsBelow}
 use Rattle.firm_rents.specs.inner.Bounds.{IsWithin}
 use Rattle.firm_rents.proofs.Bounding.{below_all, free_within, written}
 use Rattle.firm_rents.proofs.tables.high_rents.Goals as goal
+
+pub returns-clause-rents : goal.returns-clause-rents
+returns-clause-rents c =
+    subst (AreRents (length c.args.case.now.slots))
+    (sym (c.of.ensures ∙ written c.in_ok-table.table.len c.lower_all.new.rents
+    (drop (length c.lower_all.new.rents) c.in_ok-table.table.items)
+    (omega (
+      arith,
+      c.deref_mut.ensures.len,
+      ap length c.deref_mut.ensures.value,
+      c.in_ok-table.ensures.one_each,
+      c.lower_all.ensures.one_each,
+    ))))
+    (record {
+      one_each = c.lower_all.ensures.one_each;
+      small = λ j. omega (
+        arith,
+        c.lower_all.ensures.falls j,
+        ap (λ (table : List ℕ). slice_index table j) c.deref_mut.ensures.value,
+        c.in_ok-table.ensures.small j,
+      );
+    })
 
 pub returns-clause-highest : goal.returns-clause-highest
 returns-clause-highest c = λ rents are show.

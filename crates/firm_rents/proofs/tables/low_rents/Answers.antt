@@ -1,7 +1,21 @@
 use Rattle.std.proofs.Common.{ℕ, List, length, drop, sym, ap, subst, ◌∙◌, arith}
-use Rattle.firm_rents.specs.Rents.{IsBelow}
+use Rattle.firm_rents.specs.Rents.{AreRents, IsBelow}
 use Rattle.firm_rents.proofs.Bounding.{paid_below, written}
 use Rattle.firm_rents.proofs.tables.low_rents.Goals as goal
+
+pub returns-clause-rents : goal.returns-clause-rents
+returns-clause-rents c =
+    subst (AreRents (length c.args.case.now.slots))
+    (sym (c.of.ensures ∙ written c.in_ok-table.table.len c.raise_all.new.rents
+    (drop (length c.raise_all.new.rents) c.in_ok-table.table.items)
+    (omega (
+      arith,
+      c.deref_mut.ensures.len,
+      ap length c.deref_mut.ensures.value,
+      c.in_ok-table.ensures.one_each,
+      c.raise_all.ensures.one_each,
+    ))))
+    (record { one_each = c.raise_all.ensures.one_each; small = c.raise_all.ensures.small })
 
 pub returns-clause-lowest : goal.returns-clause-lowest
 returns-clause-lowest c = λ rents show.
