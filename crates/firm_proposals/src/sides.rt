@@ -75,7 +75,7 @@ impl Circle {
         self.machines.count()
     }
 
-    // The next machine; `NONE` in its place if it is of another class than the search, and then it is forgotten: classes
+    // The next machine; `NONE` in its place if it is of another class than the search. Then it is forgotten: classes
     // that were parted stay so.
     #[inline(always)]
     fn take(&mut self, view: &View) -> u32 {
@@ -241,8 +241,8 @@ impl Side {
         self.mark(place).search == view.search
     }
 
-    /// Looks at what comes next, up to a new place that leads on. Each turn has twice the looks of the one before, up to
-    /// a bound.
+    /// Looks at what comes next, up to a new place that leads on. A turn has twice the looks of the one before, up to
+    /// the most.
     #[inline(always)]
     pub(crate) fn look(&mut self, view: &View, other: &Side, work: &mut Work) -> Found
         ensures most { work.new.most ≡ work.old.most }
