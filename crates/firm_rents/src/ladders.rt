@@ -123,14 +123,18 @@ fn put_classes(classes: &mut Vec<Class>, parent: u32, pair: [Class; 2]) -> Resul
     Ok(own.saturating_add(1))
 }
 
-// Of the groups in each one, that which has the class of the outer one: the main one, if it can, or none, `u32::MAX`.
-// Then few classes lie between two places, however deep the ladder is.
+// Of the groups in each one, that which has the class of the outer one: the main one or, where several stand above it,
+// none, `u32::MAX`. Then few classes lie between two places, however deep the ladder is.
 fn references_of(alloc: Global, ladder: &Ladder) -> Result<Vec<u32>, AllocError> {
     let mut references = main_groups(alloc, ladder)?;
-    let above = counts_above(alloc, ladder, &references)?;
-    for group in 0..above.len() {
-        if at(&above, group) > 1 {
-            set(&mut references, group, u32::MAX);
+    let mut above = vec![in alloc; 0; ladder.groups.len()]?;
+    for group in 1..ladder.groups.len() {
+        let outer = ladder.groups[group].outer as usize;
+        if (at(&references, outer) as usize) < group {
+            if at(&above, outer) > 0 {
+                set(&mut references, outer, u32::MAX);
+            }
+            set(&mut above, outer, 1);
         }
     }
     Ok(references)
@@ -160,19 +164,6 @@ fn sizes_of(alloc: Global, ladder: &Ladder) -> Result<Vec<u32>, AllocError> {
         set(&mut sizes, outer, size);
     }
     Ok(sizes)
-}
-
-// How many groups stand above the main one in each.
-fn counts_above(alloc: Global, ladder: &Ladder, main: &[u32]) -> Result<Vec<u32>, AllocError> {
-    let mut above = vec![in alloc; 0; ladder.groups.len()]?;
-    for group in 1..ladder.groups.len() {
-        let outer = ladder.groups[group].outer as usize;
-        if (at(main, outer) as usize) < group {
-            let count = at(&above, outer).saturating_add(1);
-            set(&mut above, outer, count);
-        }
-    }
-    Ok(above)
 }
 
 // The classes of a group, the second for its places; the parents are yet to be set. At the first time of the task after

@@ -1,3 +1,4 @@
+use Rattle.std.proofs.lemmas.Grind.{elements}
 use Rattle.std.proofs.Common.{◌≡◌, ℕ, length, ap, subst, arith}
 use Rattle.firm_rules.specs.Placement.{task_at}
 use Rattle.firm_rents.specs.inner.Lowest.{IsCheapestSoFar}
@@ -14,3 +15,6 @@ returns c =
     so_far_all case c.args.rents.now task c.args.one c.args.other c.loop-place.best
     (subst (λ (n : ℕ). IsCheapestSoFar case c.args.rents.now task c.args.one c.args.other n c.loop-place.best)
     all c.loop-place.invariant)
+
+pub loop-place-preserved : goal.loop-place-preserved
+loop-place-preserved c = grind (arith, elements)

@@ -1,3 +1,4 @@
+use Rattle.std.proofs.lemmas.Grind.{elements}
 use Rattle.std.proofs.Common.{◌≡◌, ◌<◌, ◌≤◌, ◌+◌, ◌*◌, ◌^◌, ℕ, length, sym, subst, arith}
 use Rattle.std.proofs.lemmas.List.{get_or_default}
 use Rattle.firm_rules.specs.declared.rounds.Choice.{Choice}
@@ -38,3 +39,6 @@ loop-task-preserved c =
           (get_or_default placement task (On 0) Wait (omega (arith, c.requires.one_each)))
           (c.suits_task.ensures.suits c.if-not-suits_task.false));
     }
+
+pub suits_task-requires-clause-choice : goal.suits_task-requires-clause-choice
+suits_task-requires-clause-choice c = grind (arith, elements)

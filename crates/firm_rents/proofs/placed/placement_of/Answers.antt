@@ -1,4 +1,5 @@
-use Rattle.std.proofs.Common.{◌≡◌, ◌+◌, ◌<◌, ℕ, List, ◌∷◌, [], ◌++◌, Option, None, Some, length, map, take}
+use Rattle.std.proofs.lemmas.Grind.{common_steps}
+use Rattle.std.proofs.Common.{◌≡◌, ◌+◌, ◌<◌, ℕ, List, ◌∷◌, [], ◌++◌, Option, None, Some, length, map, take, arith}
 use Rattle.std.proofs.Common.{refl, sym, ap, subst, ◌∙◌, arith}
 use Rattle.std.specs.Prelude.{slice_index_or}
 use Rattle.std.specs.List.{All}
@@ -66,3 +67,6 @@ returns-clause-round c = λ before placement sound legal is.
     (judged.one_each ∙ length-map before.tasks (demand_of before))
     (subst (λ (m : ℕ). All (IsPlace m) placement)
     (length-map before.machines (λ (machine : Machine). machine.slots)) judged.places)))
+
+pub returns-clause-placement : goal.returns-clause-placement
+returns-clause-placement c = grind (arith, common_steps)

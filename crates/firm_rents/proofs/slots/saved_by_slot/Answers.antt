@@ -12,7 +12,10 @@ returns c = record {
       let slots = slice_index case.slots c.args.place in
       let one = slots_of_one case rents placement c.other_slots_cost.ensures show c.args.place (slots + 1)
       c.requires.place other legal in
-      let more : c.gain_of.result ≡ gain case.spread (slice_index rents c.args.place) (slots + 1) = cc in
-      let now : c.gain_of-2.result ≡ gain case.spread (slice_index rents c.args.place) slots = cc in
+      let more : c.gain_of.result ≡ gain case.spread (slice_index rents c.args.place) (slots + 1) =
+      rw (c.spread.ensures.spread, c.as_slice.ensures.rents, c.slots-slots.ensures.slots) at c.gain_of.ensures.gain in
+      let now : c.gain_of-2.result ≡ gain case.spread (slice_index rents c.args.place) slots =
+      rw (c.spread-2.ensures.spread, c.as_slice.ensures.rents, c.slots-slots.ensures.slots)
+      at c.gain_of-2.ensures.gain in
       omega (arith, one, more, now));
 }

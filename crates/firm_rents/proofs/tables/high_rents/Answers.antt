@@ -1,3 +1,4 @@
+use Rattle.std.proofs.lemmas.Grind.{common_steps}
 use Rattle.std.proofs.Common.{ℕ, List, length, drop, sym, ap, subst, ◌∙◌, arith}
 use Rattle.std.specs.Prelude.{slice_index}
 use Rattle.firm_rents.specs.Rents.{AreRents, IsBelow}
@@ -46,3 +47,9 @@ returns-clause-highest c = λ rents are show.
     (below_all rents c.lower_all.new.rents (are.one_each ∙ sym c.lower_all.ensures.one_each)
     (c.lower_all.ensures.within rents 0 0 suit (omega arith)
     (subst (λ (table : List ℕ). IsWithin rents table 0 0) (sym c.deref_mut.ensures.value) start))))
+
+pub of-requires-clause-small : goal.of-requires-clause-small
+of-requires-clause-small c = grind (arith, common_steps)
+
+pub of-requires-clause-few : goal.of-requires-clause-few
+of-requires-clause-few c = grind (arith, common_steps)

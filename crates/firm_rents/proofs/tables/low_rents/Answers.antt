@@ -1,3 +1,4 @@
+use Rattle.std.proofs.lemmas.Grind.{common_steps}
 use Rattle.std.proofs.Common.{ℕ, List, length, drop, sym, ap, subst, ◌∙◌, arith}
 use Rattle.firm_rents.specs.Rents.{AreRents, IsBelow}
 use Rattle.firm_rents.proofs.Bounding.{paid_below, written}
@@ -35,3 +36,9 @@ returns-clause-lowest c = λ rents show.
     (subst (λ (table : List ℕ). IsBelow table rents) (sym c.deref_mut.ensures.value)
     (paid_below c.args.case.now c.args.placement.now c.in_ok-table.table.items rents c.in_ok-table.ensures.one_each
     c.in_ok-table.ensures.rents suit))))
+
+pub of-requires-clause-small : goal.of-requires-clause-small
+of-requires-clause-small c = grind (arith, common_steps)
+
+pub of-requires-clause-few : goal.of-requires-clause-few
+of-requires-clause-few c = grind (arith, common_steps)

@@ -1,3 +1,4 @@
+use Rattle.std.proofs.lemmas.Grind.{common_steps}
 use Rattle.std.proofs.Common.{◌<◌, ◌≤◌, length, sym, subst, arith}
 use Rattle.std.proofs.lemmas.List.{get_or_default}
 use Rattle.firm_rules.specs.declared.rounds.Choice.{Choice}
@@ -25,3 +26,6 @@ loop-task-preserved c =
           paid case bounds (task_at case task) choice ≤ paid case bounds (task_at case task) other)
           (sym (get_or_default placement task (On 0) Wait inside)) (suit.cheapest task l other place));
     }
+
+pub lower_for-one-requires-clause-place : goal.lower_for-one-requires-clause-place
+lower_for-one-requires-clause-place c = grind (arith, common_steps)

@@ -1,3 +1,4 @@
+use Rattle.std.proofs.lemmas.Grind.{common_steps}
 use Rattle.std.proofs.Common.{◌≡◌, ℕ, ◌+◌, ◌<◌, ◌≤◌, List, get_or, length, drop, sym, ap, subst, ◌∙◌, arith}
 use Rattle.std.specs.Prelude.{slice_index}
 use Rattle.std.proofs.lemmas.List.{get_or_default}
@@ -87,3 +88,15 @@ returns-clause-dearest c = λ rents are show other place.
     (get_or_default placement c.args.task (On 0) Wait inside)
     (dearest_by (length case.slots) rents c.lower_all.new.rents chosen other most c.lower_all.ensures.one_each place
     settled low fits)))
+
+pub offset_bounds-placement-task : goal.offset_bounds-placement-task
+offset_bounds-placement-task c = grind (arith, common_steps)
+
+pub bounds-placement-task : goal.bounds-placement-task
+bounds-placement-task c = grind (arith, common_steps)
+
+pub of-requires-clause-small : goal.of-requires-clause-small
+of-requires-clause-small c = grind (arith, common_steps)
+
+pub of-requires-clause-few : goal.of-requires-clause-few
+of-requires-clause-few c = grind (arith, common_steps)
