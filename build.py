@@ -30,9 +30,9 @@ import prover  # noqa: E402 (this leaves no file behind)
 from prover import ROOT, Crate  # noqa: E402
 
 PROGRAM = "firm"
-# What a check takes at most, as measured, and each further job of it.
+# What a check takes at most, as measured, and each further job of it: jobs share what they only read.
 CHECK_BYTES = 4_000_000_000
-JOB_BYTES = 1_500_000_000
+JOB_BYTES = 500_000_000
 MOST_JOBS = 8  # more seldom help, by the kit's own word
 NICENESS = 5  # of a check, for each beside it that more waits for
 # A check also reads the crates below, in about the time of so many of its own bytes of source.
