@@ -1,6 +1,7 @@
 -- Each step keeps the law of a tray.
 use Rattle.std.proofs.Common.{◌≡◌, ℕ, zero, suc, ◌==◌, List, [], ◌∷◌, get_or, Option, Some, None, sym, refl}
-use Rattle.std.proofs.Common.{ap, ◌∙◌, subst}
+use Rattle.std.proofs.Common.{ap, ◌∙◌, subst, true, false}
+use Rattle.std.proofs.lemmas.Bool.{true≢false}
 use mathlib.Core.Option.{some, some-injective, some-ne-none}
 use lib.ListN.{get_elem?}
 use prog.Atomic.{either}
@@ -29,8 +30,29 @@ by_phase : (b : Book) (slots id : ℕ) (me : Hand) (f : ℕ → ℕ) (then : ℕ
 by_phase b slots id me f then go s k _ at _ =
     subst (Goes b id me f then) (sym k.1) (go k.0 k.2 (ap (λ (t : Tray). get_elem? t.views id) (sym k.1) ∙ at))
 
-stage_in : (x y : TraySight) → some x ≡ some y → x.stage ≡ y.stage
-stage_in x y e = ap (λ (v : TraySight). v.stage) (some-injective x y e)
+-- a seat does not stand at two stages
+abbrev number : Stage → ℕ
+number Opening = 0
+number Holding = 1
+number Open = 2
+number Spent = 3
+number Asked = 4
+number Taken = 5
+
+same_number : (x : Stage) → (number x == number x) ≡ true
+same_number Opening = refl
+same_number Holding = refl
+same_number Open = refl
+same_number Spent = refl
+same_number Asked = refl
+same_number Taken = refl
+
+elsewhere : {G : Type 0} (b : Book) (x y : Stage) → (number x == number y) ≡ false
+    → some (tray_sight x b) ≡ some (tray_sight y b) → G
+elsewhere b x y other e =
+    let same =
+    ap (λ (v : TraySight). number x == number v.stage) (some-injective (tray_sight x b) (tray_sight y b) e) in
+    absurd (true≢false (sym (same_number x) ∙ (same ∙ other)))
 
 -- the stage of the seat that stands there
 abbrev Stands : Book → ℕ → Phase → Stage → Type 0
@@ -43,49 +65,49 @@ deals : (b : Book) (id : ℕ) (p : Phase) → IsFair b p → Stands b id p Openi
     → Goes b id (tray_sight Opening b, []) (λ n. n) (λ n m. m ≡ (tray_sight Holding b, (0, None) ∷ [])) (tray_at b p)
 deals b zero fresh fair at = (tray_sight Holding b, takes 0 None, refl, (dealt, refl, tt), refl)
 deals b (suc id) fresh fair at = nowhere _ at
-deals b zero dealt fair at = let e : Holding ≡ Opening = stage_in _ _ at in cc
+deals b zero dealt fair at = elsewhere b Holding Opening refl at
 deals b (suc id) dealt fair at = nowhere _ at
-deals b zero waiting fair at = let e : Open ≡ Opening = stage_in _ _ at in cc
-deals b (suc zero) waiting fair at = let e : Asked ≡ Opening = stage_in _ _ at in cc
+deals b zero waiting fair at = elsewhere b Open Opening refl at
+deals b (suc zero) waiting fair at = elsewhere b Asked Opening refl at
 deals b (suc (suc id)) waiting fair at = nowhere _ at
-deals b zero (answered x) fair at = let e : Spent ≡ Opening = stage_in _ _ at in cc
-deals b (suc zero) (answered x) fair at = let e : Asked ≡ Opening = stage_in _ _ at in cc
+deals b zero (answered x) fair at = elsewhere b Spent Opening refl at
+deals b (suc zero) (answered x) fair at = elsewhere b Asked Opening refl at
 deals b (suc (suc id)) (answered x) fair at = nowhere _ at
-deals b zero gone fair at = let e : Spent ≡ Opening = stage_in _ _ at in cc
-deals b (suc zero) gone fair at = let e : Taken ≡ Opening = stage_in _ _ at in cc
+deals b zero gone fair at = elsewhere b Spent Opening refl at
+deals b (suc zero) gone fair at = elsewhere b Taken Opening refl at
 deals b (suc (suc id)) gone fair at = nowhere _ at
 
 fills : (b : Book) (x : Solved) → IsSolved b x → (id : ℕ) (p : Phase) → IsFair b p → Stands b id p Open
     → Goes b id (tray_sight Open b, (0, Some x) ∷ []) (λ n. 1) (λ n m. m ≡ (tray_sight Spent b, [])) (tray_at b p)
-fills b x r zero fresh fair at = let e : Opening ≡ Open = stage_in _ _ at in cc
+fills b x r zero fresh fair at = elsewhere b Opening Open refl at
 fills b x r (suc id) fresh fair at = nowhere _ at
-fills b x r zero dealt fair at = let e : Holding ≡ Open = stage_in _ _ at in cc
+fills b x r zero dealt fair at = elsewhere b Holding Open refl at
 fills b x r (suc id) dealt fair at = nowhere _ at
 fills b x r zero waiting fair at = (tray_sight Spent b, gives, tt, (answered x, refl, r), refl)
-fills b x r (suc zero) waiting fair at = let e : Asked ≡ Open = stage_in _ _ at in cc
+fills b x r (suc zero) waiting fair at = elsewhere b Asked Open refl at
 fills b x r (suc (suc id)) waiting fair at = nowhere _ at
-fills b x r zero (answered y) fair at = let e : Spent ≡ Open = stage_in _ _ at in cc
-fills b x r (suc zero) (answered y) fair at = let e : Asked ≡ Open = stage_in _ _ at in cc
+fills b x r zero (answered y) fair at = elsewhere b Spent Open refl at
+fills b x r (suc zero) (answered y) fair at = elsewhere b Asked Open refl at
 fills b x r (suc (suc id)) (answered y) fair at = nowhere _ at
-fills b x r zero gone fair at = let e : Spent ≡ Open = stage_in _ _ at in cc
-fills b x r (suc zero) gone fair at = let e : Taken ≡ Open = stage_in _ _ at in cc
+fills b x r zero gone fair at = elsewhere b Spent Open refl at
+fills b x r (suc zero) gone fair at = elsewhere b Taken Open refl at
 fills b x r (suc (suc id)) gone fair at = nowhere _ at
 
 sees : (b : Book) (id : ℕ) (p : Phase) → IsFair b p → Stands b id p Asked
     → Goes b id (tray_sight Asked b, []) (λ n. either (n == 1) 2 n)
     (λ n m. looks (step 1 0 1 2 mathlib.Core.Option.none) (tray_sight Asked b, []) n m) (tray_at b p)
-sees b zero fresh fair at = let e : Opening ≡ Asked = stage_in _ _ at in cc
+sees b zero fresh fair at = elsewhere b Opening Asked refl at
 sees b (suc id) fresh fair at = nowhere _ at
-sees b zero dealt fair at = let e : Holding ≡ Asked = stage_in _ _ at in cc
+sees b zero dealt fair at = elsewhere b Holding Asked refl at
 sees b (suc id) dealt fair at = nowhere _ at
-sees b zero waiting fair at = let e : Open ≡ Asked = stage_in _ _ at in cc
+sees b zero waiting fair at = elsewhere b Open Asked refl at
 sees b (suc zero) waiting fair at = (tray_sight Asked b, keeps, tt, (waiting, refl, tt), (refl, refl))
 sees b (suc (suc id)) waiting fair at = nowhere _ at
-sees b zero (answered x) fair at = let e : Spent ≡ Asked = stage_in _ _ at in cc
+sees b zero (answered x) fair at = elsewhere b Spent Asked refl at
 sees b (suc zero) (answered x) fair at = (tray_sight Taken b, takes 0 (Some x), refl, (gone, refl, tt), (x, fair, refl))
 sees b (suc (suc id)) (answered x) fair at = nowhere _ at
-sees b zero gone fair at = let e : Spent ≡ Asked = stage_in _ _ at in cc
-sees b (suc zero) gone fair at = let e : Taken ≡ Asked = stage_in _ _ at in cc
+sees b zero gone fair at = elsewhere b Spent Asked refl at
+sees b (suc zero) gone fair at = elsewhere b Taken Asked refl at
 sees b (suc (suc id)) gone fair at = nowhere _ at
 
 pub deals_allowed : (b : Book) (slots id : ℕ)
