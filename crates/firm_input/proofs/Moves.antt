@@ -14,8 +14,9 @@ use Rattle.firm_input.specs.Rule.{Left, sight, Phase, fresh, dealt, home, asked,
 use Rattle.firm_input.specs.Rule.{turn_at, IsFair, KeepsRule}
 use Rattle.firm_input.specs.inner.Steps.{Hand, told, takes_slot, lends, takes_reader, returns_reader, takes_back}
 use Rattle.firm_input.specs.inner.Steps.{closes, StandsAt, reading_sight, resting_sight}
-use Rattle.std.specs.Prelude.{false}
+use Rattle.std.specs.Prelude.{false, true}
 use Rattle.std.specs.Option.{is_some}
+use Rattle.std.proofs.lemmas.Bool.{true≢false}
 
 -- what a step at the word owes in the state s
 abbrev Goes : ℕ → Hand → (ℕ → ℕ) → (ℕ → Hand → Type 0) → Turn → Type 0
@@ -30,8 +31,28 @@ by_phase : (slots id : ℕ) (me : Hand) (f : ℕ → ℕ) (then : ℕ → Hand �
 by_phase slots id me f then go s k _ at _ =
     subst (Goes id me f then) (sym k.1) (go k.0 k.2 (ap (λ (t : Turn). get_elem? t.views id) (sym k.1) ∙ at))
 
-stage_in : (x y : Sight) → some x ≡ some y → x.stage ≡ y.stage
-stage_in x y e = ap (λ (v : Sight). v.stage) (some-injective x y e)
+-- a seat does not stand at two stages
+abbrev number : Stage → ℕ
+number Opening = 0
+number Holding = 1
+number Reads = 2
+number Lends = 3
+number Rests = 4
+number Takes = 5
+
+same_number : (x : Stage) → (number x == number x) ≡ true
+same_number Opening = refl
+same_number Holding = refl
+same_number Reads = refl
+same_number Lends = refl
+same_number Rests = refl
+same_number Takes = refl
+
+elsewhere : {G : Type 0} (x y : Stage) (l k : Left) → (number x == number y) ≡ false
+    → some (sight x l) ≡ some (sight y k) → G
+elsewhere x y l k other e =
+    let same = ap (λ (v : Sight). number x == number v.stage) (some-injective (sight x l) (sight y k) e) in
+    absurd (true≢false (sym (same_number x) ∙ (same ∙ other)))
 
 left_in : (x y : Sight) → some x ≡ some y → x.left ≡ y.left
 left_in x y e = ap (λ (v : Sight). v.left) (some-injective x y e)
@@ -50,22 +71,22 @@ deals : (l : Left) (id : ℕ) (p : Phase) → IsFair p → Stands id p (sight Op
     → Goes id (sight Opening l, []) (λ n. n) (λ n m. m ≡ (sight Holding l, (0, None) ∷ [])) (turn_at p)
 deals l zero (fresh k) fair at = (sight Holding l, takes 0 None, refl, (dealt l, refl, tt), refl)
 deals l (suc id) (fresh k) fair at = nowhere _ at
-deals l zero (dealt k) fair at = let e : Holding ≡ Opening = stage_in _ _ at in cc
+deals l zero (dealt k) fair at = elsewhere Holding Opening _ _ refl at
 deals l (suc id) (dealt k) fair at = nowhere _ at
-deals l zero (home k) fair at = let e : Reads ≡ Opening = stage_in _ _ at in cc
-deals l (suc zero) (home k) fair at = let e : Rests ≡ Opening = stage_in _ _ at in cc
+deals l zero (home k) fair at = elsewhere Reads Opening _ _ refl at
+deals l (suc zero) (home k) fair at = elsewhere Rests Opening _ _ refl at
 deals l (suc (suc id)) (home k) fair at = nowhere _ at
-deals l zero (asked k r) fair at = let e : Lends ≡ Opening = stage_in _ _ at in cc
-deals l (suc zero) (asked k r) fair at = let e : Rests ≡ Opening = stage_in _ _ at in cc
+deals l zero (asked k r) fair at = elsewhere Lends Opening _ _ refl at
+deals l (suc zero) (asked k r) fair at = elsewhere Rests Opening _ _ refl at
 deals l (suc (suc id)) (asked k r) fair at = nowhere _ at
-deals l zero (taken k) fair at = let e : Lends ≡ Opening = stage_in _ _ at in cc
-deals l (suc zero) (taken k) fair at = let e : Takes ≡ Opening = stage_in _ _ at in cc
+deals l zero (taken k) fair at = elsewhere Lends Opening _ _ refl at
+deals l (suc zero) (taken k) fair at = elsewhere Takes Opening _ _ refl at
 deals l (suc (suc id)) (taken k) fair at = nowhere _ at
-deals l zero (read k r) fair at = let e : Lends ≡ Opening = stage_in _ _ at in cc
-deals l (suc zero) (read k r) fair at = let e : Rests ≡ Opening = stage_in _ _ at in cc
+deals l zero (read k r) fair at = elsewhere Lends Opening _ _ refl at
+deals l (suc zero) (read k r) fair at = elsewhere Rests Opening _ _ refl at
 deals l (suc (suc id)) (read k r) fair at = nowhere _ at
-deals l zero (closed k) fair at = let e : Reads ≡ Opening = stage_in _ _ at in cc
-deals l (suc zero) (closed k) fair at = let e : Rests ≡ Opening = stage_in _ _ at in cc
+deals l zero (closed k) fair at = elsewhere Reads Opening _ _ refl at
+deals l (suc zero) (closed k) fair at = elsewhere Rests Opening _ _ refl at
 deals l (suc (suc id)) (closed k) fair at = nowhere _ at
 
 -- the source, which has its reader, lends it or closes
@@ -73,88 +94,88 @@ reads : (word : ℕ) (l : Left) (me : Hand) (then : ℕ → Hand → Type 0) →
     → ((k : Left) (n : ℕ)
     → Goes 0 me (λ n. word) then (turn n mathlib.Core.Option.none (sight Reads k ∷ sight Rests None ∷ [])))
     → (id : ℕ) (p : Phase) → IsFair p → Stands id p me.0 → Goes id me (λ n. word) then (turn_at p)
-reads word l me then is go zero (fresh k) fair at = let e : Opening ≡ Reads = stage_in _ _ (at ∙ ap some is) in cc
+reads word l me then is go zero (fresh k) fair at = elsewhere Opening Reads _ _ refl (at ∙ ap some is)
 reads word l me then is go (suc id) (fresh k) fair at = nowhere _ at
-reads word l me then is go zero (dealt k) fair at = let e : Holding ≡ Reads = stage_in _ _ (at ∙ ap some is) in cc
+reads word l me then is go zero (dealt k) fair at = elsewhere Holding Reads _ _ refl (at ∙ ap some is)
 reads word l me then is go (suc id) (dealt k) fair at = nowhere _ at
 reads word l me then is go zero (home k) fair at = go k 0
-reads word l me then is go (suc zero) (home k) fair at = let e : Rests ≡ Reads = stage_in _ _ (at ∙ ap some is) in cc
+reads word l me then is go (suc zero) (home k) fair at = elsewhere Rests Reads _ _ refl (at ∙ ap some is)
 reads word l me then is go (suc (suc id)) (home k) fair at = nowhere _ at
-reads word l me then is go zero (asked k r) fair at = let e : Lends ≡ Reads = stage_in _ _ (at ∙ ap some is) in cc
-reads word l me then is go (suc zero) (asked k r) fair at = let e : Rests ≡ Reads = stage_in _ _ (at ∙ ap some is) in cc
+reads word l me then is go zero (asked k r) fair at = elsewhere Lends Reads _ _ refl (at ∙ ap some is)
+reads word l me then is go (suc zero) (asked k r) fair at = elsewhere Rests Reads _ _ refl (at ∙ ap some is)
 reads word l me then is go (suc (suc id)) (asked k r) fair at = nowhere _ at
-reads word l me then is go zero (taken k) fair at = let e : Lends ≡ Reads = stage_in _ _ (at ∙ ap some is) in cc
-reads word l me then is go (suc zero) (taken k) fair at = let e : Takes ≡ Reads = stage_in _ _ (at ∙ ap some is) in cc
+reads word l me then is go zero (taken k) fair at = elsewhere Lends Reads _ _ refl (at ∙ ap some is)
+reads word l me then is go (suc zero) (taken k) fair at = elsewhere Takes Reads _ _ refl (at ∙ ap some is)
 reads word l me then is go (suc (suc id)) (taken k) fair at = nowhere _ at
-reads word l me then is go zero (read k r) fair at = let e : Lends ≡ Reads = stage_in _ _ (at ∙ ap some is) in cc
-reads word l me then is go (suc zero) (read k r) fair at = let e : Rests ≡ Reads = stage_in _ _ (at ∙ ap some is) in cc
+reads word l me then is go zero (read k r) fair at = elsewhere Lends Reads _ _ refl (at ∙ ap some is)
+reads word l me then is go (suc zero) (read k r) fair at = elsewhere Rests Reads _ _ refl (at ∙ ap some is)
 reads word l me then is go (suc (suc id)) (read k r) fair at = nowhere _ at
 reads word l me then is go zero (closed k) fair at = go k 3
-reads word l me then is go (suc zero) (closed k) fair at = let e : Rests ≡ Reads = stage_in _ _ (at ∙ ap some is) in cc
+reads word l me then is go (suc zero) (closed k) fair at = elsewhere Rests Reads _ _ refl (at ∙ ap some is)
 reads word l me then is go (suc (suc id)) (closed k) fair at = nowhere _ at
 
 -- the thread, which rests, looks
 looks : (id : ℕ) (p : Phase) → IsFair p → Stands id p (sight Rests None)
     → Goes id (sight Rests None, []) (λ n. n)
     (λ n m. takes_reader (step 1 0 0 0 mathlib.Core.Option.none) (sight Rests None, []) n m) (turn_at p)
-looks zero (fresh k) fair at = let e : Opening ≡ Rests = stage_in _ _ at in cc
+looks zero (fresh k) fair at = elsewhere Opening Rests _ _ refl at
 looks (suc id) (fresh k) fair at = nowhere _ at
-looks zero (dealt k) fair at = let e : Holding ≡ Rests = stage_in _ _ at in cc
+looks zero (dealt k) fair at = elsewhere Holding Rests _ _ refl at
 looks (suc id) (dealt k) fair at = nowhere _ at
-looks zero (home k) fair at = let e : Reads ≡ Rests = stage_in _ _ at in cc
+looks zero (home k) fair at = elsewhere Reads Rests _ _ refl at
 looks (suc zero) (home k) fair at = (sight Rests None, keeps, tt, (home k, refl, tt), refl)
 looks (suc (suc id)) (home k) fair at = nowhere _ at
-looks zero (asked k r) fair at = let e : Lends ≡ Rests = stage_in _ _ at in cc
+looks zero (asked k r) fair at = elsewhere Lends Rests _ _ refl at
 looks (suc zero) (asked k r) fair at = (sight Takes k, takes 0 (Some r), refl, (taken k, refl, tt), (k, r, fair, refl))
 looks (suc (suc id)) (asked k r) fair at = nowhere _ at
-looks zero (taken k) fair at = let e : Lends ≡ Rests = stage_in _ _ at in cc
-looks (suc zero) (taken k) fair at = let e : Takes ≡ Rests = stage_in _ _ at in cc
+looks zero (taken k) fair at = elsewhere Lends Rests _ _ refl at
+looks (suc zero) (taken k) fair at = elsewhere Takes Rests _ _ refl at
 looks (suc (suc id)) (taken k) fair at = nowhere _ at
-looks zero (read k r) fair at = let e : Lends ≡ Rests = stage_in _ _ at in cc
+looks zero (read k r) fair at = elsewhere Lends Rests _ _ refl at
 looks (suc zero) (read k r) fair at = (sight Rests None, keeps, tt, (read k r, refl, fair), refl)
 looks (suc (suc id)) (read k r) fair at = nowhere _ at
-looks zero (closed k) fair at = let e : Reads ≡ Rests = stage_in _ _ at in cc
+looks zero (closed k) fair at = elsewhere Reads Rests _ _ refl at
 looks (suc zero) (closed k) fair at = (sight Rests None, keeps, tt, (closed k, refl, tt), refl)
 looks (suc (suc id)) (closed k) fair at = nowhere _ at
 
 -- the thread, which has the reader, gives it back
 returns : (l r : Left) → Keeps l r → (id : ℕ) (p : Phase) → IsFair p → Stands id p (sight Takes l)
     → Goes id (sight Takes l, (0, Some r) ∷ []) (λ n. 2) (λ n m. m ≡ (sight Rests None, [])) (turn_at p)
-returns l r kept zero (fresh k) fair at = let e : Opening ≡ Takes = stage_in _ _ at in cc
+returns l r kept zero (fresh k) fair at = elsewhere Opening Takes _ _ refl at
 returns l r kept (suc id) (fresh k) fair at = nowhere _ at
-returns l r kept zero (dealt k) fair at = let e : Holding ≡ Takes = stage_in _ _ at in cc
+returns l r kept zero (dealt k) fair at = elsewhere Holding Takes _ _ refl at
 returns l r kept (suc id) (dealt k) fair at = nowhere _ at
-returns l r kept zero (home k) fair at = let e : Reads ≡ Takes = stage_in _ _ at in cc
-returns l r kept (suc zero) (home k) fair at = let e : Rests ≡ Takes = stage_in _ _ at in cc
+returns l r kept zero (home k) fair at = elsewhere Reads Takes _ _ refl at
+returns l r kept (suc zero) (home k) fair at = elsewhere Rests Takes _ _ refl at
 returns l r kept (suc (suc id)) (home k) fair at = nowhere _ at
-returns l r kept zero (asked k s) fair at = let e : Lends ≡ Takes = stage_in _ _ at in cc
-returns l r kept (suc zero) (asked k s) fair at = let e : Rests ≡ Takes = stage_in _ _ at in cc
+returns l r kept zero (asked k s) fair at = elsewhere Lends Takes _ _ refl at
+returns l r kept (suc zero) (asked k s) fair at = elsewhere Rests Takes _ _ refl at
 returns l r kept (suc (suc id)) (asked k s) fair at = nowhere _ at
-returns l r kept zero (taken k) fair at = let e : Lends ≡ Takes = stage_in _ _ at in cc
+returns l r kept zero (taken k) fair at = elsewhere Lends Takes _ _ refl at
 returns l r kept (suc zero) (taken k) fair at =
     (sight Rests None, gives, tt, (read k r, refl, kept_by l k r (sym (left_in _ _ at)) kept), refl)
 returns l r kept (suc (suc id)) (taken k) fair at = nowhere _ at
-returns l r kept zero (read k s) fair at = let e : Lends ≡ Takes = stage_in _ _ at in cc
-returns l r kept (suc zero) (read k s) fair at = let e : Rests ≡ Takes = stage_in _ _ at in cc
+returns l r kept zero (read k s) fair at = elsewhere Lends Takes _ _ refl at
+returns l r kept (suc zero) (read k s) fair at = elsewhere Rests Takes _ _ refl at
 returns l r kept (suc (suc id)) (read k s) fair at = nowhere _ at
-returns l r kept zero (closed k) fair at = let e : Reads ≡ Takes = stage_in _ _ at in cc
-returns l r kept (suc zero) (closed k) fair at = let e : Rests ≡ Takes = stage_in _ _ at in cc
+returns l r kept zero (closed k) fair at = elsewhere Reads Takes _ _ refl at
+returns l r kept (suc zero) (closed k) fair at = elsewhere Rests Takes _ _ refl at
 returns l r kept (suc (suc id)) (closed k) fair at = nowhere _ at
 
 -- the source, whose reader is lent, looks
 waits : (l : Left) (id : ℕ) (p : Phase) → IsFair p → Stands id p (sight Lends l)
     → Goes id (sight Lends l, []) (λ n. either (n == 2) 0 n)
     (λ n m. takes_back (step 1 0 2 0 mathlib.Core.Option.none) (sight Lends l, []) n m) (turn_at p)
-waits l zero (fresh k) fair at = let e : Opening ≡ Lends = stage_in _ _ at in cc
+waits l zero (fresh k) fair at = elsewhere Opening Lends _ _ refl at
 waits l (suc id) (fresh k) fair at = nowhere _ at
-waits l zero (dealt k) fair at = let e : Holding ≡ Lends = stage_in _ _ at in cc
+waits l zero (dealt k) fair at = elsewhere Holding Lends _ _ refl at
 waits l (suc id) (dealt k) fair at = nowhere _ at
-waits l zero (home k) fair at = let e : Reads ≡ Lends = stage_in _ _ at in cc
-waits l (suc zero) (home k) fair at = let e : Rests ≡ Lends = stage_in _ _ at in cc
+waits l zero (home k) fair at = elsewhere Reads Lends _ _ refl at
+waits l (suc zero) (home k) fair at = elsewhere Rests Lends _ _ refl at
 waits l (suc (suc id)) (home k) fair at = nowhere _ at
 waits l zero (asked k r) fair at =
     (sight Lends l, keeps, tt, (asked l r, refl, kept_by k l r (left_in _ _ at) fair), refl)
-waits l (suc zero) (asked k r) fair at = let e : Rests ≡ Lends = stage_in _ _ at in cc
+waits l (suc zero) (asked k r) fair at = elsewhere Rests Lends _ _ refl at
 waits l (suc (suc id)) (asked k r) fair at = nowhere _ at
 waits l zero (taken k) fair at = (
   sight Lends l,
@@ -168,7 +189,7 @@ waits l zero (taken k) fair at = (
   ),
   refl,
 )
-waits l (suc zero) (taken k) fair at = let e : Takes ≡ Lends = stage_in _ _ at in cc
+waits l (suc zero) (taken k) fair at = elsewhere Takes Lends _ _ refl at
 waits l (suc (suc id)) (taken k) fair at = nowhere _ at
 waits l zero (read k r) fair at = (
   sight Reads l,
@@ -177,10 +198,10 @@ waits l zero (read k r) fair at = (
   (home l, refl, tt),
   (r, kept_by k l r (left_in _ _ at) fair, refl),
 )
-waits l (suc zero) (read k r) fair at = let e : Rests ≡ Lends = stage_in _ _ at in cc
+waits l (suc zero) (read k r) fair at = elsewhere Rests Lends _ _ refl at
 waits l (suc (suc id)) (read k r) fair at = nowhere _ at
-waits l zero (closed k) fair at = let e : Reads ≡ Lends = stage_in _ _ at in cc
-waits l (suc zero) (closed k) fair at = let e : Rests ≡ Lends = stage_in _ _ at in cc
+waits l zero (closed k) fair at = elsewhere Reads Lends _ _ refl at
+waits l (suc zero) (closed k) fair at = elsewhere Rests Lends _ _ refl at
 waits l (suc (suc id)) (closed k) fair at = nowhere _ at
 
 kept_told : (l r : Left) → Keeps (told l r) r
@@ -248,24 +269,24 @@ divides : (l : Left) (id : ℕ) (p : Phase) → Stands id p (sight Holding l)
       homes = (turn_at p).homes;
       views = Rattle.std.proofs.Common.set (turn_at p).views id (sight Reads l) ++ sight Rests None ∷ [];
     }
-divides l zero (fresh k) at = let e : Opening ≡ Holding = stage_in _ _ at in cc
+divides l zero (fresh k) at = elsewhere Opening Holding _ _ refl at
 divides l (suc id) (fresh k) at = nowhere _ at
 divides l zero (dealt k) at = (home l, refl, tt)
 divides l (suc id) (dealt k) at = nowhere _ at
-divides l zero (home k) at = let e : Reads ≡ Holding = stage_in _ _ at in cc
-divides l (suc zero) (home k) at = let e : Rests ≡ Holding = stage_in _ _ at in cc
+divides l zero (home k) at = elsewhere Reads Holding _ _ refl at
+divides l (suc zero) (home k) at = elsewhere Rests Holding _ _ refl at
 divides l (suc (suc id)) (home k) at = nowhere _ at
-divides l zero (asked k r) at = let e : Lends ≡ Holding = stage_in _ _ at in cc
-divides l (suc zero) (asked k r) at = let e : Rests ≡ Holding = stage_in _ _ at in cc
+divides l zero (asked k r) at = elsewhere Lends Holding _ _ refl at
+divides l (suc zero) (asked k r) at = elsewhere Rests Holding _ _ refl at
 divides l (suc (suc id)) (asked k r) at = nowhere _ at
-divides l zero (taken k) at = let e : Lends ≡ Holding = stage_in _ _ at in cc
-divides l (suc zero) (taken k) at = let e : Takes ≡ Holding = stage_in _ _ at in cc
+divides l zero (taken k) at = elsewhere Lends Holding _ _ refl at
+divides l (suc zero) (taken k) at = elsewhere Takes Holding _ _ refl at
 divides l (suc (suc id)) (taken k) at = nowhere _ at
-divides l zero (read k r) at = let e : Lends ≡ Holding = stage_in _ _ at in cc
-divides l (suc zero) (read k r) at = let e : Rests ≡ Holding = stage_in _ _ at in cc
+divides l zero (read k r) at = elsewhere Lends Holding _ _ refl at
+divides l (suc zero) (read k r) at = elsewhere Rests Holding _ _ refl at
 divides l (suc (suc id)) (read k r) at = nowhere _ at
-divides l zero (closed k) at = let e : Reads ≡ Holding = stage_in _ _ at in cc
-divides l (suc zero) (closed k) at = let e : Rests ≡ Holding = stage_in _ _ at in cc
+divides l zero (closed k) at = elsewhere Reads Holding _ _ refl at
+divides l (suc zero) (closed k) at = elsewhere Rests Holding _ _ refl at
 divides l (suc (suc id)) (closed k) at = nowhere _ at
 
 divides_as : (l : Left) (id : ℕ) → Splits KeepsRule id (sight Holding l) (sight Reads l) (sight Rests None)

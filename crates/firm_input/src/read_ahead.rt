@@ -56,15 +56,16 @@ pub fn open<'r, R: Threads + Wait + Clone + Drop + Send + 'static, T: Read + Dro
 ) -> Result<ReadAhead<'r, R, T>, AllocError>
     ensures { IfOk result (λ source. source ≡ source_is (T.remaining inner) false) }
 {
-    let reader = PieceReader::new(alloc, inner)?;
-    let (board, mut seat) = Board::vacant(alloc, &[HOME], 1, &reader)?;
-    let handover = Arc::new(
-        alloc,
-        Handover {
-            board,
-            waker: Mutex::new(None),
-        },
-    )?;
+    let Ok(reader) = PieceReader::new(alloc, inner) else {
+        return Err(AllocError);
+    };
+    let Ok((board, mut seat)) = Board::vacant(alloc, &[HOME], 1, &reader) else {
+        return Err(AllocError);
+    };
+    let waker = Mutex::new(None);
+    let Ok(handover) = Arc::new(alloc, Handover { board, waker }) else {
+        return Err(AllocError);
+    };
     let table = &handover.board.shared;
     table.load::<TakesSlot>(&mut seat, 0);
     let resting = table.split_seat::<Sides>(&mut seat);
@@ -159,7 +160,7 @@ impl<R: Wait, T: Read + Drop> Source for ReadAhead<'_, R, T> {
             self.take_back();
             if let Some(reader) = &mut self.reader {
                 let read = reader.read(buffer);
-                self.has_failed = self.has_failed || read.is_err();
+                self.has_failed |= read.is_err();
                 return read;
             }
             self.handover.board.shared.park(self.rt, 0, ASKED as u32);
