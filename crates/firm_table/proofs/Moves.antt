@@ -1,16 +1,18 @@
 -- What each arm of the table's call does to its parts.
 use Rattle.std.proofs.Common.{◌≡◌, ℕ, zero, suc, ◌<◌, ◌≤◌, List, [], ◌∷◌, ◌++◌, length, refl, sym, ap, ◌∙◌}
-use Rattle.std.proofs.Common.{arith}
+use Rattle.std.proofs.Common.{arith, ◌+◌, cond, ◌||◌}
 use Rattle.std.specs.Prelude.{nat_lt, ◌&&◌, ◌-◌, not, Bool, true, false, Option, Some, None, slice_get, slice_set, map}
 use Rattle.std.specs.Prelude.{slice_index_or, replicate, if◌then◌else◌}
-use Rattle.std.specs.List.{list_any}
+use Rattle.std.specs.List.{list_any, position_from}
+use Rattle.std.specs.Option.{is_some}
 use Rattle.std.proofs.lemmas.Bool.Decides.{nat_tests}
+use Rattle.std.proofs.lemmas.Iterator.Adapters.{position_from-zero}
 use Rattle.std.proofs.lemmas.Option.{slice_get_past, slice_get_read, slice_get_within}
 use Rattle.firm_rules.specs.declared.tickets.Ticket.{Ticket}
 use Rattle.firm_text.specs.Rosters.{RosterRow, most_places}
 use Rattle.firm_table.specs.Interleaving.{Station, queued, Seat, TableState, opening_seat, unused_seat, opening_seats}
 use Rattle.firm_table.specs.Interleaving.{taken_by, is_held, local, seat_behind, at_place, take_front, may_take}
-use Rattle.firm_table.specs.Interleaving.{event_place, at_event, happens, queue_more}
+use Rattle.firm_table.specs.Interleaving.{event_place, place_held, at_event, happens, queue_more}
 use Rattle.firm_table.specs.Fitting.{asks}
 use Rattle.firm_table.specs.inner.Seats.{Becomes}
 use Rattle.firm_table.specs.inner.Tables.{table_of, queued_ticket, waiting, waiting_at, IsSound}
@@ -115,6 +117,26 @@ at_most (seat ∷ rest) =
 pub has_room : (table : TableState) → IsSound table → length table.queue ≤ length table.seats
 has_room table sound = let most = at_most table.seats in omega (arith, most, sound.as_many)
 
+-- a worker holds a tenant where it holds a place
+held_here : (here : Bool) (n : ℕ) (found : Option ℕ) (rest : Bool) → is_some found ≡ rest
+    → is_some (cond here (Some n) found) ≡ (here || rest)
+held_here true n found rest e = refl
+held_here false n found rest e = e
+
+held_from : (worker n : ℕ) (seats : List Seat)
+    → is_some (position_from (λ (seat : Seat). is_held worker seat.station) n seats)
+    ≡ list_any (λ (seat : Seat). is_held worker seat.station) seats
+held_from worker n [] = refl
+held_from worker n (seat ∷ rest) =
+    held_here (is_held worker seat.station) n
+    (position_from (λ (seat : Seat). is_held worker seat.station) (n + 1) rest)
+    (list_any (λ (seat : Seat). is_held worker seat.station) rest) (held_from worker (n + 1) rest)
+
+holds_place : (worker : ℕ) (seats : List Seat)
+    → is_some (place_held worker seats) ≡ list_any (λ (seat : Seat). is_held worker seat.station) seats
+holds_place worker seats =
+    ap is_some (position_from-zero (λ (seat : Seat). is_held worker seat.station) seats) ∙ held_from worker 0 seats
+
 -- a worker past the table's, or one that holds a tenant, may not take; any other may
 and_not : (b c : Bool) → c ≡ true → (b && not c) ≡ false
 and_not true c e = ap not e
@@ -126,17 +148,19 @@ refused_worker workers worker seats queue few = let past : nat_lt worker workers
     grind (arith, nat_tests) in rw past refl
 
 pub refused_holder : (workers worker : ℕ) (seats : List Seat) (queue : List Ticket)
-    → list_any (λ seat. is_held worker seat.station) seats ≡ true
+    → is_some (place_held worker seats) ≡ true
     → may_take (table_of workers seats queue) worker ≡ false
 refused_holder workers worker seats queue holds =
-    and_not (nat_lt worker workers) (list_any (λ (seat : Seat). is_held worker seat.station) seats) holds
+    and_not (nat_lt worker workers) (list_any (λ (seat : Seat). is_held worker seat.station) seats)
+    (sym (holds_place worker seats) ∙ holds)
 
 pub allowed : (workers worker : ℕ) (seats : List Seat) (queue : List Ticket) → worker < workers
-    → list_any (λ seat. is_held worker seat.station) seats ≡ false
+    → is_some (place_held worker seats) ≡ false
     → may_take (table_of workers seats queue) worker ≡ true
 allowed workers worker seats queue one none =
     let within : nat_lt worker workers ≡ true = grind (arith, nat_tests) in
-    ap (λ (b : Bool). b && not (list_any (λ (seat : Seat). is_held worker seat.station) seats)) within ∙ ap not none
+    ap (λ (b : Bool). b && not (list_any (λ (seat : Seat). is_held worker seat.station) seats)) within
+    ∙ ap not (sym (holds_place worker seats) ∙ none)
 
 -- the worker may not take
 pub takes_not : (workers worker : ℕ) (seats : List Seat) (queue : List Ticket) → IsSound (table_of workers seats queue)

@@ -1,7 +1,9 @@
 -- How a service ends.
-use Rattle.std.proofs.Common.{◌≡◌, ℕ, ◌≤◌, List, [], ◌++◌, length, refl, sym, subst, append-nil, inl, inr}
+use Rattle.std.proofs.Common.{◌≡◌, ℕ, ◌+◌, ◌≤◌, List, [], ◌++◌, length, take, refl, sym, subst, append-nil, inl, inr}
+use Rattle.std.proofs.Common.{length-append, arith}
 use Rattle.std.specs.Prelude.{Bool, false, Option, Result, Ok, Err, OnOk, OnErr, IfErr}
 use Rattle.std.specs.Io.KnownBytes.{Consumes, IsAtEnd}
+use Rattle.std.proofs.lemmas.List.{length-take-le}
 use Rattle.firm_text.specs.Cutters.{CutterIs}
 use Rattle.firm_table.specs.Places.{Place}
 use Rattle.firm_table.specs.Service.{AnswersFrom, BeginsAnswersFrom, ServedFrom, StoppedFrom, IsCause, device}
@@ -39,6 +41,17 @@ cause_writing Memory input most read_failed write_failed well p = (well, p)
 pub not_reading : (fault : ServeFault) (write_failed : Bool) → IsWritingFault fault write_failed → fault ≡ Read → ⊥
 not_reading fault write_failed p reading =
     subst (λ (f : ServeFault). IsWritingFault f write_failed) reading p
+
+pub not_too_long : TooLong ≡ Read → ⊥
+not_too_long reading = cc
+
+-- how much was heard with what a read gave
+pub more_heard : (heard buffer : List ℕ) (number count : ℕ) → length heard ≡ number → count ≤ length buffer
+    → length (heard ++ take count buffer) ≡ number + count
+more_heard heard buffer number count e within =
+    let both = length-append heard (take count buffer) in
+    let front = length-take-le count buffer within in
+    omega (arith, e, both, front)
 
 -- what was read stays what was read where what is left does
 pub still_read : (first left later : Option (List ℕ)) (text : List ℕ) → later ≡ left → Consumes first left text

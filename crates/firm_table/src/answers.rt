@@ -11,7 +11,7 @@ use firm_text::{OperatorRefusal, OperatorReply, put_operator_reply, put_reply};
 use std::alloc::AllocError;
 
 /// The answer to a line.
-#[derive(PartialEq, Eq, Drop)]
+#[derive(Drop)]
 pub enum LineAnswer {
     /// Nothing: the line has no word, or is a comment.
     Silent,

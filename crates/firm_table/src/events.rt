@@ -3,7 +3,7 @@ use firm_rules::{Command, Limits, Reply, Ticket};
 
 /// An event of the table. Places and workers are each numbered from 0; the first places are those of the roster, in its
 /// order.
-#[derive(Clone, Copy, PartialEq, Eq)]
+#[derive(Clone, Copy)]
 pub enum Event {
     /// A command of the tenant at this place that is not a round.
     Post(usize, Command),
@@ -22,7 +22,7 @@ pub enum Event {
 }
 
 /// The answer to an event.
-#[derive(PartialEq, Eq, Drop)]
+#[derive(Drop)]
 pub enum Answer {
     /// The tenant replied.
     Replied(Reply),

@@ -163,8 +163,12 @@ fn answer_end<W: Sink, C: Clerk>(
     ensures opening { C.opening clerk.new ≡ C.opening clerk.old }
     ensures kept { C.kept clerk.new ≡ C.kept clerk.old }
 {
-    answer_rest(clerk, cutter, writer)?;
-    clerk.finish(writer)?;
+    if let Err(fault) = answer_rest(clerk, cutter, writer) {
+        return Err(fault);
+    }
+    if let Err(fault) = clerk.finish(writer) {
+        return Err(fault);
+    }
     match writer.flush() {
         Ok(()) => Ok(()),
         Err(_) => Err(ServeFault::Write),

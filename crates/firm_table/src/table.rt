@@ -111,7 +111,7 @@ impl Table {
         if self.workers <= worker {
             return Answer::NotNow;
         }
-        if is_holding(&self.seats, worker) {
+        if place_held(&self.seats, worker).is_some() {
             return Answer::NotNow;
         }
         let Some(ticket) = self.queue.pop_front() else {
@@ -145,13 +145,6 @@ fn put_queued(queue: &mut VecDeque<Ticket>, answer: &Answer)
     if let Answer::Queued(ticket) = answer {
         queue.push_back_reserved(*ticket);
     }
-}
-
-// Whether this worker solves a round.
-fn is_holding(seats: &[Seat], worker: usize) -> bool
-    ensures { result ≡ list_any (λ seat. is_held worker seat.station) seats.now }
-{
-    seats.iter().any(|seat| seat.is_held_by(worker))
 }
 
 // The place of the tenant whose round this worker holds.

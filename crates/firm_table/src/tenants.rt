@@ -111,9 +111,13 @@ impl Tenants {
         ensures text { OnOk result (output.new.items ≡ output.old.items ++ state_text (tenants_state self.now)) }
         ensures sound { OnOk result (IsSoundSaved (tenants_state self.now)) }
     {
-        put_heading(output)?;
+        let Ok(()) = put_heading(output) else {
+            return Err(AllocError);
+        };
         let given = given_count(self.register.entries());
-        let count = self.put_places(output, given)?;
+        let Ok(count) = self.put_places(output, given) else {
+            return Err(AllocError);
+        };
         put_row(output, &Row::Rows(count))
     }
 
@@ -130,7 +134,10 @@ impl Tenants {
         let entries = self.register.entries();
         let mut count = 0;
         for place in 0..given {
-            count += put_place(output, &entries[place], &self.places[place])?;
+            let Ok(more) = put_place(output, &entries[place], &self.places[place]) else {
+                return Err(AllocError);
+            };
+            count += more;
         }
         Ok(count)
     }
@@ -220,13 +227,17 @@ fn put_place(
     ensures few { IfOk result (λ count. count ≤ 4097) }
     ensures sound { OnOk result (IsSoundPlace (place_with entry.now tenant.now)) }
 {
-    put_row(output, &Row::Place(u64::from(entry.admissions)))?;
+    let Ok(()) = put_row(output, &Row::Place(u64::from(entry.admissions))) else {
+        return Err(AllocError);
+    };
     match (&entry.tenant, tenant) {
         (Some(name), Some(tenant)) => {
             // That the name has the form.
             name.as_bytes();
-            let count = put_book(output, *name, tenant.rows(), tenant.costs(), tenant.given())?;
-            Ok(1 + count)
+            match put_book(output, *name, tenant.rows(), tenant.costs(), tenant.given()) {
+                Ok(count) => Ok(1 + count),
+                Err(refused) => Err(refused),
+            }
         }
         _ => Ok(1),
     }

@@ -1,13 +1,12 @@
 use Rattle.std.proofs.Common.{◌≡◌, ◌∙◌, ◌<◌, rules, refl, ap, arith, [], ◌++◌, take, length, append-nil}
 use Rattle.std.specs.Prelude.{Bool, false, ◌||◌}
 use Rattle.std.specs.Io.KnownBytes.{Consumes}
-use Rattle.std.proofs.lemmas.Grind.{common_steps}
 use Rattle.std.proofs.lemmas.Result.{err_from_is_err_and, on_ok_weaker}
 use Rattle.firm_table.specs.inner.Reading.{Halted}
 use Rattle.std.proofs.KnownBytes.{Consumes-trans, Consumes-nil, Consumes-kept}
 use Rattle.firm_table.proofs.Pieces.{ended_none, halts_between}
 use Rattle.firm_table.proofs.Stops.{cause_writing, stopped_within, stopped_behind, served, heard_told, both_ok}
-use Rattle.firm_table.proofs.Stops.{both_err, err_weaker, not_reading, still_read}
+use Rattle.firm_table.proofs.Stops.{both_err, err_weaker, more_heard, not_reading, not_too_long, still_read}
 use Rattle.firm_table.proofs.reading.serve_lines.Goals as goal
 
 pub loop-reader-init : goal.loop-reader-init
@@ -107,7 +106,7 @@ returns-then-count-eq0-clause-served g c =
     on_ok_weaker c.answer_end.result
     (λ both. served (g.C.Clerk.opening c.args.clerk.now) c.args.most _ _ _ _ _ _ i.0 read
     (c.in-Ok.ensures.bytes.1 c.if-count-eq0.true some)
-    (let l = c.loop-reader.invariant.few in grind (arith, common_steps))
+    (omega (arith, i.1, c.loop-reader.invariant.few))
     (rw (c.in_ok-write_out.ensures.opening ∙ c.loop-reader.invariant.opening) at (both.0 i.0 _ h)) reads both.1)
     (both_ok c.answer_end.result _ _ c.answer_end.ensures.answers c.answer_end.ensures.well)
 
@@ -126,7 +125,7 @@ returns-then-count-eq0-clause-told g c =
       input = i.0;
       read = read;
       at_end = c.in-Ok.ensures.bytes.1 c.if-count-eq0.true some;
-      within = let l = c.loop-reader.invariant.few in grind (arith, common_steps);
+      within = omega (arith, i.1, c.loop-reader.invariant.few);
       told = told i.0 _ h;
     }) c.answer_end.ensures.told
 
@@ -154,7 +153,8 @@ returns-then-most-heard-clause-stopped g c =
     let read-so-far =
     still_read (g.R.Source.left c.args.reader.now) _ _ i.0 c.in_ok-write_out.ensures.input i.2 in
     let longer : c.args.most < length (i.0 ++ take c.in-Ok.count c.read.new.buffer) =
-    (let e = i.1 in let b = c.in-Ok.ensures.bound in let m = c.if-most-heard.true in grind (arith, common_steps)) in
+    (let more = more_heard i.0 c.read.new.buffer _ _ i.1 c.in-Ok.ensures.bound.0 in
+    omega (arith, more, c.if-most-heard.true)) in
     let halted : Halted (g.C.Clerk.opening c.args.clerk.now) (i.0 ++ take c.in-Ok.count c.read.new.buffer)
     (g.W.Sink.written c.args.writer.now) (g.W.Sink.written c.write_out.new.writer) =
     rw c.loop-reader.invariant.opening at
@@ -172,7 +172,7 @@ loop-reader-preserved g c =
     still_read (g.R.Source.left c.args.reader.now) _ _ i.0 c.in_ok-write_out.ensures.input i.2 in
     let h = heard_told _ _ _ i.0 _ _ _ i.3 c.in_ok-write_out.ensures.told in
     record {
-      few = grind (arith, common_steps);
+      few = omega (arith, c.if-most-heard.false);
       reads = c.in-Ok.ensures.failure
           ∙ ap (λ (b : Bool). b || false) (c.in_ok-write_out.ensures.reader ∙ c.loop-reader.invariant.reads);
       writes = c.in_ok-answer_piece.ensures.well;
@@ -183,7 +183,7 @@ loop-reader-preserved g c =
       kept = c.in_ok-answer_piece.ensures.kept ∙ c.in_ok-write_out.ensures.kept ∙ c.loop-reader.invariant.kept;
       progress = (
         i.0 ++ take c.in-Ok.count c.read.new.buffer,
-        (let e = i.1 in let b = c.in-Ok.ensures.bound in grind (arith, common_steps)),
+        more_heard i.0 c.read.new.buffer _ _ i.1 c.in-Ok.ensures.bound.0,
         Consumes-trans _ _ _ _ _ read-so-far c.in-Ok.ensures.bytes.0,
         c.in_ok-answer_piece.ensures.heard i.0 _ h,
       );
@@ -315,7 +315,7 @@ pub returns-then-most-heard-clause-finished : goal.returns-then-most-heard-claus
 returns-then-most-heard-clause-finished g c = tt
 
 pub returns-then-most-heard-clause-waiting : goal.returns-then-most-heard-clause-waiting
-returns-then-most-heard-clause-waiting g c = λ reading. let wrong : ⊥ = cc in absurd wrong
+returns-then-most-heard-clause-waiting g c = λ reading. absurd (not_too_long reading)
 
 pub returns-then-count-eq0-clause-finished : goal.returns-then-count-eq0-clause-finished
 returns-then-count-eq0-clause-finished g c = c.answer_end.ensures.finished

@@ -2,7 +2,6 @@ use Rattle.std.proofs.Common.{◌≡◌, ◌∙◌, ℕ, ◌+◌, List, [], ◌�
 use Rattle.std.specs.Prelude.{All, Option}
 use Rattle.std.specs.List.{flat_map}
 use Rattle.std.proofs.lemmas.List.Elements.{All-push}
-use Rattle.std.proofs.lemmas.Result.{err_from_is_err_and}
 use Rattle.firm_rules.specs.Book.{Book}
 use Rattle.firm_saved.specs.declared.saved.SavedPlace.{SavedPlace}
 use Rattle.firm_saved.specs.Saved.{IsSoundPlace}
@@ -13,13 +12,13 @@ use Rattle.firm_table.proofs.tenants.Tenants.put_places.Goals as goal
 
 pub overflow_add-count : goal.overflow_add-count
 overflow_add-count c =
-    omega (arith, c.requires, c.loop-place-test.true, c.loop-place.invariant.few, c.in_ok-count.ensures.few)
+    omega (arith, c.requires, c.loop-place-test.true, c.loop-place.invariant.few, c.in-Ok.ensures.few)
 
 pub loop-place-preserved : goal.loop-place-preserved
 loop-place-preserved c =
     let at : ℕ = c.loop-place.place in
     let known = c.loop-place.invariant in
-    let added = c.in_ok-count.ensures in
+    let added = c.in-Ok.ensures in
     let books : List (Option Book) = c.self.inside.places.items in
     let saved : List SavedPlace = tenants_state c.args.self.now in
     let place : SavedPlace = place_with c.index-entries-place.result c.index.result.now in
@@ -36,7 +35,7 @@ loop-place-preserved c =
           ∙ more_rows c.args.output.now.items (take at saved) place
           ∙ ap (λ (places : List SavedPlace). c.args.output.now.items
           ++ flat_map row_text (flat_map place_rows places)) (sym next);
-      counted = ap (λ (n : ℕ). n + c.in_ok-count.field-0) known.counted
+      counted = ap (λ (n : ℕ). n + c.in-Ok.more) known.counted
           ∙ ap (λ (n : ℕ). length (flat_map place_rows (take at saved)) + n) added.count
           ∙ more_count (take at saved) place
           ∙ ap (λ (places : List SavedPlace). length (flat_map place_rows places)) (sym next);
@@ -59,14 +58,14 @@ returns-clause-sound c =
     let end : c.loop-place.place ≡ c.args.given = omega (arith, c.loop-place.auto.place-end, c.loop-place-test.false) in
     subst (λ (n : ℕ). All IsSoundPlace (take n (tenants_state c.args.self.now))) end c.loop-place.invariant.sound
 
-pub returns-in_err-count-clause-kept : goal.returns-in_err-count-clause-kept
-returns-in_err-count-clause-kept c = kept_trans _ _ _ c.in_err-count.ensures.kept c.loop-place.invariant.kept
+pub returns-in_default-clause-kept : goal.returns-in_default-clause-kept
+returns-in_default-clause-kept c = kept_trans _ _ _ c.in_default.ensures.kept c.loop-place.invariant.kept
 
-pub returns-in_err-count-clause-added : goal.returns-in_err-count-clause-added
-returns-in_err-count-clause-added c = rw (err_from_is_err_and c.from_residual.result c.from_residual.ensures.1).1 tt
+pub returns-in_default-clause-added : goal.returns-in_default-clause-added
+returns-in_default-clause-added c = tt
 
-pub returns-in_err-count-clause-count : goal.returns-in_err-count-clause-count
-returns-in_err-count-clause-count c = rw (err_from_is_err_and c.from_residual.result c.from_residual.ensures.1).1 tt
+pub returns-in_default-clause-count : goal.returns-in_default-clause-count
+returns-in_default-clause-count c = tt
 
-pub returns-in_err-count-clause-sound : goal.returns-in_err-count-clause-sound
-returns-in_err-count-clause-sound c = rw (err_from_is_err_and c.from_residual.result c.from_residual.ensures.1).1 tt
+pub returns-in_default-clause-sound : goal.returns-in_default-clause-sound
+returns-in_default-clause-sound c = tt

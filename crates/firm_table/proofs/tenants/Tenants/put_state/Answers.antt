@@ -1,6 +1,5 @@
 use Rattle.std.proofs.Common.{◌≡◌, ◌∙◌, ℕ, List, ◌++◌, ap, subst, sym, take}
 use Rattle.std.specs.Prelude.{OnOk}
-use Rattle.std.proofs.lemmas.Result.{err_from_is_err_and}
 use Rattle.std.specs.List.{flat_map}
 use Rattle.firm_text.specs.Registers.{IsRegister}
 use Rattle.firm_saved.specs.declared.rows.Row.TheVariants as row
@@ -21,12 +20,12 @@ pub returns-clause-text : goal.returns-clause-text
 returns-clause-text c =
     let saved : List SavedPlace = tenants_state c.args.self.now in
     let given : List SavedPlace = take c.given_count-given.result saved in
-    state_added c.put_row.result c.args.output.now.items c.put_row.new.output.items saved given c.in_ok-count.count
-    (c.given_count-given.ensures.count saved (register_is c)) c.in_ok-count.ensures.count
+    state_added c.put_row.result c.args.output.now.items c.put_row.new.output.items saved given c.in-Ok-put_places.count
+    (c.given_count-given.ensures.count saved (register_is c)) c.in-Ok-put_places.ensures.count
     (subst (λ (text : List ℕ). OnOk c.put_row.result
-    (c.put_row.new.output.items ≡ text ++ row_text (row.Rows c.in_ok-count.count)))
-    (c.in_ok-count.ensures.added
-    ∙ ap (λ (text : List ℕ). text ++ flat_map row_text (flat_map place_rows given)) c.in_ok-put_heading.ensures.added)
+    (c.put_row.new.output.items ≡ text ++ row_text (row.Rows c.in-Ok-put_places.count)))
+    (c.in-Ok-put_places.ensures.added
+    ∙ ap (λ (text : List ℕ). text ++ flat_map row_text (flat_map place_rows given)) c.in-Ok.ensures.added)
     c.put_row.ensures.added)
 
 pub returns-clause-sound : goal.returns-clause-sound
@@ -36,28 +35,24 @@ returns-clause-sound c =
     on_ok c.put_row.result
     (c.given_count-given.ensures.sound saved register
     (subst IsRegister (sym c.entries.ensures.entries) c.entries.ensures.sound)
-    (subst AreGivenInOrder (sym c.entries.ensures.entries) c.self.invariant.in_order) c.in_ok-count.ensures.sound)
+    (subst AreGivenInOrder (sym c.entries.ensures.entries) c.self.invariant.in_order) c.in-Ok-put_places.ensures.sound)
 
 pub returns-clause-kept : goal.returns-clause-kept
 returns-clause-kept c =
     kept_trans _ _ _ c.put_row.ensures.kept
-    (kept_trans _ _ _ c.in_ok-count.ensures.kept c.in_ok-put_heading.ensures.kept)
+    (kept_trans _ _ _ c.in-Ok-put_places.ensures.kept c.in-Ok.ensures.kept)
 
-pub returns-in_err-count-clause-kept : goal.returns-in_err-count-clause-kept
-returns-in_err-count-clause-kept c = kept_trans _ _ _ c.in_err-count.ensures.kept c.in_ok-put_heading.ensures.kept
+pub returns-in_default-put_places-clause-kept : goal.returns-in_default-put_places-clause-kept
+returns-in_default-put_places-clause-kept c = kept_trans _ _ _ c.in_default-put_places.ensures.kept c.in-Ok.ensures.kept
 
-pub returns-in_err-put_heading-clause-text : goal.returns-in_err-put_heading-clause-text
-returns-in_err-put_heading-clause-text c =
-    rw (err_from_is_err_and c.from_residual.result c.from_residual.ensures.1).1 tt
+pub returns-in_default-clause-text : goal.returns-in_default-clause-text
+returns-in_default-clause-text c = tt
 
-pub returns-in_err-put_heading-clause-sound : goal.returns-in_err-put_heading-clause-sound
-returns-in_err-put_heading-clause-sound c =
-    rw (err_from_is_err_and c.from_residual.result c.from_residual.ensures.1).1 tt
+pub returns-in_default-clause-sound : goal.returns-in_default-clause-sound
+returns-in_default-clause-sound c = tt
 
-pub returns-in_err-count-clause-text : goal.returns-in_err-count-clause-text
-returns-in_err-count-clause-text c =
-    rw (err_from_is_err_and c.from_residual-in_err-count.result c.from_residual-in_err-count.ensures.1).1 tt
+pub returns-in_default-put_places-clause-text : goal.returns-in_default-put_places-clause-text
+returns-in_default-put_places-clause-text c = tt
 
-pub returns-in_err-count-clause-sound : goal.returns-in_err-count-clause-sound
-returns-in_err-count-clause-sound c =
-    rw (err_from_is_err_and c.from_residual-in_err-count.result c.from_residual-in_err-count.ensures.1).1 tt
+pub returns-in_default-put_places-clause-sound : goal.returns-in_default-put_places-clause-sound
+returns-in_default-put_places-clause-sound c = tt
