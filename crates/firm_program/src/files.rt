@@ -33,8 +33,10 @@ pub fn read_roster<R: Files>(rt: &R, alloc: Global, path: &str) -> Result<Roster
         Err(ReadFault::Memory) => return Err(Fault::Service(ServeFault::Memory)),
         Err(ReadFault::Unreadable) => return Err(Fault::UnreadableRoster),
     };
-    let roster = roster(alloc, &text)?;
-    Ok(roster)
+    match roster(alloc, &text) {
+        Ok(roster) => Ok(roster),
+        Err(fault) => Err(Fault::from(fault)),
+    }
 }
 
 /// The state that is the file at the path: of a longer one, its first 41,943,040 bytes. The faults are as those of
@@ -48,8 +50,10 @@ pub fn read_state<R: Files>(rt: &R, alloc: Global, path: &str) -> Result<Saved, 
         Err(ReadFault::Memory) => return Err(Fault::Service(ServeFault::Memory)),
         Err(ReadFault::Unreadable) => return Err(Fault::UnreadableState),
     };
-    let saved = Saved::read(alloc, &text)?;
-    Ok(saved)
+    match Saved::read(alloc, &text) {
+        Ok(saved) => Ok(saved),
+        Err(fault) => Err(Fault::from(fault)),
+    }
 }
 
 // Why a file gives no text.

@@ -34,11 +34,15 @@ impl<'a> Named<'a> {
         ensures { MatchResult result (λ named. IsNamed roster.entry state.entry named)
             (λ fault. AreNotOne roster.entry state.entry × (status_of fault ≡ 2)) }
     {
-        match (roster, state) {
-            (Some(path), None) => Ok(Named::Roster(path)),
-            (None, Some(path)) => Ok(Named::State(path)),
-            (None, None) => Err(Fault::Words(WordsFault::NoFile)),
-            (Some(_), Some(_)) => Err(Fault::Words(WordsFault::TwoFiles)),
+        match roster {
+            Some(path) => match state {
+                None => Ok(Named::Roster(path)),
+                Some(_) => Err(Fault::Words(WordsFault::TwoFiles)),
+            },
+            None => match state {
+                Some(path) => Ok(Named::State(path)),
+                None => Err(Fault::Words(WordsFault::NoFile)),
+            },
         }
     }
 }
