@@ -30,7 +30,11 @@ impl Job {
         ensures { (result.ticket ≡ ticket) × (result.side ≡ side) }
     {
         Job {
-            parts: parts_of(ticket, tenant, side),
+            parts: JobParts {
+                ticket,
+                tenant,
+                side,
+            },
         }
     }
 
@@ -74,15 +78,4 @@ pub fn finish_all(alloc: Global, mut jobs: Vec<Job>) {
         let _spent = job.finish(alloc);
     }
     jobs.destroy_empty();
-}
-
-fn parts_of(ticket: Ticket, tenant: Tenant, side: AnswerSide) -> JobParts
-    requires { side.book ≡ tenant }
-    ensures { (result.ticket ≡ ticket) × (result.side ≡ side) }
-{
-    JobParts {
-        ticket,
-        tenant,
-        side,
-    }
 }

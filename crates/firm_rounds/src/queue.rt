@@ -137,8 +137,9 @@ impl Queue {
 
     // Tries once, after `tries` tries in vain. If the queue is full, rests and gives the job back.
     //
-    // No wake-up is lost: a sleep is announced before the try. A pop that the try misses comes after the announcement,
-    // so it notifies, and a notification ends the sleep even if it comes before the thread goes to sleep.
+    // No wake-up is lost: after enough tries in vain a sleep is announced before the try. A pop that the try misses
+    // comes after the announcement, so it notifies, and a notification ends the sleep even if it comes before the
+    // thread goes to sleep.
     fn try_put<R: Wait>(
         &self,
         rt: &R,
@@ -153,18 +154,14 @@ impl Queue {
             (λ _. pass.new ≡ put_is pass.old.queue pass.old.place (pass.old.put + 1))
             (λ back. (pass.new ≡ pass.old) × (back.ticket ≡ parts.ticket)) }
     {
-        let announced = self.announce(tries);
+        let announced = if tries < TRIES_BEFORE_SLEEP {
+            None
+        } else {
+            Some(self.freed.prepare_wait())
+        };
         let tried = pass.try_put(rt, &self.ring, parts);
         rest(rt, announced, tried.is_err());
         tried
-    }
-
-    // After enough tries in vain, announces a sleep in case the next try is in vain too.
-    fn announce(&self, tries: u32) -> Option<Key<'_>> {
-        if tries < TRIES_BEFORE_SLEEP {
-            return None;
-        }
-        Some(self.freed.prepare_wait())
     }
 
     /// The job at the front; `None` only if the queue was empty at one step of the call. Wakes a put that sleeps for
