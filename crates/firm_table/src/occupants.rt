@@ -2,7 +2,7 @@
 
 ghost use Rattle.std.specs.Prelude.{◌≡◌, ◌≤◌, ◌^◌, Bool, false, IfOk};
 ghost use Rattle.firm_rules.specs.Book.{opening_book};
-ghost use Rattle.firm_table.specs.Interleaving.{home, is_home, posted, asked, is_held, taken_by, solved, collected};
+ghost use Rattle.firm_table.specs.Interleaving.{home, is_home, posted, asked, solved, collected};
 ghost use Rattle.firm_table.specs.inner.Seats.{station_of};
 
 use crate::events::Answer;
@@ -27,7 +27,7 @@ pub(crate) enum Part {
 // A tenant, and how far its round has come.
 pub(crate) struct Occupant {
     tenant: Tenant,
-    part: Part,
+    pub(crate) part: Part,
 }
 
 impl Drop for Occupant {
@@ -60,16 +60,6 @@ impl Occupant {
         matches!(self.part, Part::Home)
     }
 
-    // Whether this worker solves the tenant's round.
-    pub(crate) fn is_held_by(&self, worker: usize) -> bool
-        ensures { result ≡ is_held worker (station_of self.now) }
-    {
-        match self.part {
-            Part::Held(_, holder) => holder == worker,
-            Part::Home | Part::Queued(_) | Part::Answered(_) => false,
-        }
-    }
-
     // Answers a command that is not a round.
     pub(crate) fn post(&mut self, alloc: Global, command: Command) -> Answer
         ensures { (mark : Bool) × ((result, station_of self.new) ≡ posted (station_of self.old) command mark) }
@@ -95,15 +85,6 @@ impl Occupant {
         }
         self.part = Part::Queued(ticket);
         Answer::Queued(ticket)
-    }
-
-    // Gives the waiting round to this worker.
-    pub(crate) fn give(&mut self, worker: usize)
-        ensures { station_of self.new ≡ taken_by worker (station_of self.old) }
-    {
-        if let Part::Queued(ticket) = self.part {
-            self.part = Part::Held(ticket, worker);
-        }
     }
 
     // Solves the round that a worker holds.

@@ -163,12 +163,8 @@ fn answer_end<W: Sink, C: Clerk>(
     ensures opening { C.opening clerk.new ≡ C.opening clerk.old }
     ensures kept { C.kept clerk.new ≡ C.kept clerk.old }
 {
-    if let Err(fault) = answer_rest(clerk, cutter, writer) {
-        return Err(fault);
-    }
-    if let Err(fault) = clerk.finish(writer) {
-        return Err(fault);
-    }
+    answer_rest(clerk, cutter, writer)?;
+    clerk.finish(writer)?;
     match writer.flush() {
         Ok(()) => Ok(()),
         Err(_) => Err(ServeFault::Write),

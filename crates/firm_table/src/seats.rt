@@ -8,7 +8,7 @@ ghost use Rattle.firm_table.specs.inner.Seats.{Becomes};
 ghost use Rattle.firm_table.specs.inner.Tables.{first_seat};
 
 use crate::events::{Answer, Event};
-use crate::occupants::Occupant;
+use crate::occupants::{Occupant, Part};
 use firm_rules::{Command, Limits, Name, Ticket};
 use firm_tenant::steps_count_once;
 use firm_text::MOST_ADMISSIONS;
@@ -60,7 +60,10 @@ impl Seat {
         ensures { result ≡ is_held worker self.now.station }
     {
         match &self.occupant {
-            Some(occupant) => occupant.is_held_by(worker),
+            Some(occupant) => match occupant.part {
+                Part::Held(_, holder) => holder == worker,
+                Part::Home | Part::Queued(_) | Part::Answered(_) => false,
+            },
             None => false,
         }
     }
@@ -115,7 +118,9 @@ impl Seat {
         ensures { self.new ≡ record self.old { station = taken_by worker self.old.station } }
     {
         if let Some(occupant) = &mut self.occupant {
-            occupant.give(worker);
+            if let Part::Queued(ticket) = occupant.part {
+                occupant.part = Part::Held(ticket, worker);
+            }
         }
     }
 
