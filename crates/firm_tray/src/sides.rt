@@ -100,15 +100,9 @@ impl Tray {
     pub fn open(alloc: Global, tenant: &Tenant) -> Result<(AskSide, AnswerSide), AllocError>
         ensures { IfOk result (λ sides. (sides.0 ≡ sides.1) × (sides.0.book ≡ tenant.now)) }
     {
-        let Ok((board, mut seat)) = Board::vacant(alloc, &[0], 1, tenant) else {
-            return Err(AllocError);
-        };
-        let Ok(board) = Arc::new(alloc, board) else {
-            return Err(AllocError);
-        };
-        let Ok(same_board) = Arc::try_clone(&board) else {
-            return Err(AllocError);
-        };
+        let (board, mut seat) = Board::vacant(alloc, &[0], 1, tenant)?;
+        let board = Arc::new(alloc, board)?;
+        let same_board = Arc::try_clone(&board)?;
         board.shared.load::<TakesSlot>(&mut seat, 0);
         let asking = board.shared.split_seat::<Sides>(&mut seat);
         let ask = AskSide {
