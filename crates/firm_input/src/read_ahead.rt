@@ -56,16 +56,15 @@ pub fn open<'r, R: Threads + Wait + Clone + Drop + Send + 'static, T: Read + Dro
 ) -> Result<ReadAhead<'r, R, T>, AllocError>
     ensures { IfOk result (λ source. source ≡ source_is (T.remaining inner) false) }
 {
-    let Ok(reader) = PieceReader::new(alloc, inner) else {
-        return Err(AllocError);
-    };
-    let Ok((board, mut seat)) = Board::vacant(alloc, &[HOME], 1, &reader) else {
-        return Err(AllocError);
-    };
-    let waker = Mutex::new(None);
-    let Ok(handover) = Arc::new(alloc, Handover { board, waker }) else {
-        return Err(AllocError);
-    };
+    let reader = PieceReader::new(alloc, inner)?;
+    let (board, mut seat) = Board::vacant(alloc, &[HOME], 1, &reader)?;
+    let handover = Arc::new(
+        alloc,
+        Handover {
+            board,
+            waker: Mutex::new(None),
+        },
+    )?;
     let table = &handover.board.shared;
     table.load::<TakesSlot>(&mut seat, 0);
     let resting = table.split_seat::<Sides>(&mut seat);

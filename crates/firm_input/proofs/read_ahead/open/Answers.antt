@@ -5,10 +5,10 @@ use Rattle.firm_input.proofs.Moves.{deals_as, divides_at}
 use Rattle.firm_input.proofs.read_ahead.open.Goals as goal
 
 pub vacant-requires : goal.vacant-requires
-vacant-requires g c = (fresh c.in-Ok.reader, refl, tt)
+vacant-requires g c = (fresh c.in_ok-reader.reader, refl, tt)
 
 pub load-requires : goal.load-requires
-load-requires g c = (search rules, search rules, deals_as c.in-Ok.reader _ _ _ c.in-Ok-vacant.ensures.4)
+load-requires g c = (search rules, search rules, deals_as c.in_ok-reader.reader _ _ _ c.in_ok-board.ensures.4)
 
 pub split_seat-resting-requires : goal.split_seat-resting-requires
 split_seat-resting-requires g c =
