@@ -71,6 +71,13 @@ module _ (register : List Entry) (desk_states : List DeskState) (fits : Fits reg
           by true false none few both = absurd (cc)
           by false b none few both = absurd (cc)
 
+-- what one look finds at a place, another finds there
+pub same_here : (desk_states : List DeskState) (place : ℕ) (one other default fallback : DeskState)
+    → place < length desk_states
+    → one ≡ get_or desk_states place default → other ≡ get_or desk_states place fallback → one ≡ other
+same_here desk_states place one other default fallback low at there =
+    at ∙ get_or_default desk_states place default fallback low ∙ sym there
+
 -- the desk of a tenant whose round is not away is home
 pub home_there : (queue : QueueId) (place : ℕ) (answers : List HeldAnswer) (desk_state : DeskState)
     → DeskStateIs queue place answers desk_state

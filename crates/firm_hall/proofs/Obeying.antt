@@ -193,3 +193,8 @@ module _ (queue : QueueId) (register : List Entry) (answers : List HeldAnswer) (
 pub left_place : (found : Option ℕ) (at : ℕ) → Ok at ≡ ok_or {E = OperatorRefusal} found NoSuchTenant → found ≡ Some at
 left_place None at e = absurd (cc)
 left_place (Some place) at e = cc
+
+pub not_left : (found : Option ℕ) (refusal : OperatorRefusal)
+    → Err refusal ≡ ok_or {E = OperatorRefusal} found NoSuchTenant → (found ≡ None) × (refusal ≡ NoSuchTenant)
+not_left None refusal e = (refl, cc)
+not_left (Some place) refusal e = absurd (cc)

@@ -1,28 +1,30 @@
 //! The hall as a clerk: lines are answered while rounds are away.
-ghost use Rattle.std.specs.Prelude.{◌≡◌, ℕ, All, IfOk, List, Option, [], vec_capacity};
+ghost use Rattle.std.specs.Prelude.{◌≡◌, ℕ, ◌+◌, ◌≤◌, ◌^◌, All, IfOk, List, Option, [], false, length, vec_capacity};
 ghost use Rattle.firm_text.specs.Rosters.{most_places};
 ghost use Rattle.firm_table.specs.Openings.{places_opened};
+ghost use Rattle.firm_table.specs.Service.{between};
 ghost use Rattle.firm_rounds.specs.Passes.{QueueIs, new_puts};
+ghost use Rattle.firm_hall.specs.inner.Ending.{AreOf, Ran};
 ghost use Rattle.firm_hall.specs.inner.Serving.{IsFinished, IsOpen, IsReserved, IsWrittenOut, TellsAll};
 
 use crate::desks::Desk;
 use crate::empty::EmptyDesk;
+use crate::ending::Ended;
 use crate::patience::Patience;
 use crate::seating::open_states;
-use crate::serving::Serving;
+use crate::serving::{Serving, place_of};
 use crate::setting::Setting;
 use crate::unsettled::Unsettled;
-use crate::waiting::{End, Input};
+use crate::waiting::{End, Input, Turn};
 use firm_held::Held;
 use firm_rounds::PutPass;
-use firm_table::{Clerk, Opening, ServeFault, answers_add_up};
+use firm_table::{Clerk, Opening, ServeFault, answers_add_up, serve_lines};
 use firm_text::{Line, PLACES, Sink, Source};
 use std::alloc::AllocError;
 use std::snapshot::Snapshot;
 use std::sync::Wait;
 
 /// A serving hall, and the room reserved for its desks at the end.
-#[derive(Drop)]
 pub(crate) struct HallClerk<'h, R: Wait> {
     pub(crate) setting: Setting<'h, R>,
     // What the service opened with; only clauses read it.
@@ -32,6 +34,22 @@ pub(crate) struct HallClerk<'h, R: Wait> {
     pub(crate) empty: Vec<EmptyDesk>,
     ghost desks_room: { IsReserved desks.items (vec_capacity desks) },
     ghost empty_room: { IsReserved empty.items (vec_capacity empty) },
+}
+
+impl<R: Wait> Drop for HallClerk<'_, R> {
+    // Written out, so that who owns a clerk has one call where it is dropped.
+    fn drop(self) {
+        let Self {
+            setting: _,
+            opening: _,
+            serving,
+            desks,
+            empty,
+        } = self;
+        drop(serving);
+        drop(desks);
+        drop(empty);
+    }
 }
 
 impl<'h, R: Wait> HallClerk<'h, R> {
@@ -53,10 +71,10 @@ impl<'h, R: Wait> HallClerk<'h, R> {
     {
         // A law: before the first line nothing is told.
         answers_add_up();
+        let desk_states = open_states(setting.alloc, opening, passes)?;
         let desks = Vec::with_capacity(setting.alloc, PLACES)?;
         let empty = Vec::with_capacity(setting.alloc, PLACES)?;
         let held = Held::open(setting.alloc)?;
-        let desk_states = open_states(setting.alloc, opening, passes)?;
         let serving = Serving {
             hall: Snapshot::of(setting.hall),
             register: opening.register(),
@@ -72,6 +90,37 @@ impl<'h, R: Wait> HallClerk<'h, R> {
             desks,
             empty,
         })
+    }
+
+    /// Serves from the first byte to the last.
+    pub(crate) fn serve<S: Source, W: Sink>(
+        mut self,
+        reader: &mut S,
+        writer: &mut W,
+        most: u64,
+    ) -> Result<Ended, ServeFault>
+        requires open { IsOpen self.setting.hall.now.id self.serving }
+        requires told { (written : Option (List ℕ))
+            → TellsAll (places_opened self.opening) self.serving [] written written }
+        requires most { most ≤ 2 ^ 32 }
+        requires reader { S.read_failed reader.old ≡ false }
+        requires writer { W.write_failed writer.old ≡ false }
+        ensures ran { Ran (places_opened self.entry.opening) most
+            (between S.left S.read_failed reader.old reader.new)
+            (between W.written W.write_failed writer.old writer.new) result }
+        ensures desks { IfOk result
+            (λ ended. AreOf self.entry.setting.hall.now.id ended.desks.items ended.empty.items) }
+        ensures places { IfOk result (λ ended. length ended.desks.items + length ended.empty.items ≡ most_places) }
+    {
+        serve_lines(reader, writer, &mut self, most)?;
+        let Self {
+            setting: _,
+            opening: _,
+            serving,
+            desks,
+            empty,
+        } = self;
+        Ok(serving.end(desks, empty))
     }
 }
 
@@ -92,7 +141,14 @@ impl<'h, R: Wait> Clerk for HallClerk<'h, R> {
     ghost is_finished = { λ clerk. IsFinished clerk.serving };
 
     fn answer<W: Sink>(&mut self, writer: &mut W, line: Line) -> Result<(), ServeFault> {
-        self.serving.answer(&self.setting, writer, line)
+        // Laws: of one more line.
+        answers_add_up();
+        let mut turn = Turn {
+            place: place_of(&self.serving.register, &line),
+        };
+        self.serving.take_turn(&self.setting, writer, &mut turn)?;
+        self.serving.take_line(&self.setting, line);
+        Ok(())
     }
 
     fn write_out<S: Source, W: Sink>(

@@ -1,7 +1,10 @@
 //! What stands at a tenant's place while the hall serves.
-ghost use Rattle.std.specs.Prelude.{◌≡◌, ◌≢◌, IsSome, Some, false, true};
+ghost use Rattle.std.specs.Prelude.{◌≡◌, ◌≢◌, ◌+◌, ◌<◌, ◌≤◌, ◌^◌, IsSome, Some, false, true, vec_capacity, vec_len};
+ghost use Rattle.firm_rounds.specs.Passes.{QueueId};
 ghost use Rattle.firm_hall.specs.inner.DeskStates.{IsAdmitted, IsAway, IsBack, IsFree, IsHome, IsHomeOf, IsRetired};
-ghost use Rattle.firm_hall.specs.inner.DeskStates.{IsTakenAt, IsTurned, with_waiting};
+ghost use Rattle.firm_hall.specs.inner.DeskStates.{IsTakenAt, IsTurned, NoneIsAway, with_waiting};
+ghost use Rattle.firm_hall.specs.inner.Ending.{AreOf, IsOf};
+ghost use Rattle.firm_hall.specs.inner.Serving.{asked_at};
 ghost use Rattle.firm_rules.specs.declared.commands.Command.TheVariants.{Round};
 
 use crate::desks::{Asked, AskedPoll, Desk};
@@ -13,7 +16,6 @@ use std::mem;
 use std::sync::Wait;
 
 /// What stands at a place.
-#[derive(Drop)]
 pub(crate) enum DeskState {
     /// The tenant is at home; possibly commands wait for it.
     Home(Desk, bool),
@@ -23,6 +25,18 @@ pub(crate) enum DeskState {
     Empty(EmptyDesk),
     /// Nothing, while its desk is taken out to be worked on.
     Gone,
+}
+
+impl Drop for DeskState {
+    // Written out, so that who puts another state in its place has one call where it is dropped.
+    fn drop(self) {
+        match self {
+            DeskState::Home(desk, _) => drop(desk),
+            DeskState::Away(asked) => drop(asked),
+            DeskState::Empty(place) => drop(place),
+            DeskState::Gone => {}
+        }
+    }
 }
 
 impl DeskState {
@@ -195,9 +209,46 @@ impl DeskState {
         requires { IsHome self.old }
         ensures { IsRetired self.old self.new }
     {
-        let DeskState::Home(desk, _) = mem::replace(self, DeskState::Gone) else {
-            unreachable!()
-        };
-        let _gone = mem::replace(self, DeskState::Empty(desk.retire()));
+        let desk_state = mem::replace(self, DeskState::Gone).retired();
+        let _gone = mem::replace(self, desk_state);
+    }
+
+    // The same by value.
+    fn retired(self) -> DeskState
+        requires { IsHome self }
+        ensures { IsRetired self result }
+    {
+        match self {
+            DeskState::Home(desk, _) => DeskState::Empty(desk.retire()),
+            _ => unreachable!(),
+        }
+    }
+
+    // Puts a desk with the others, or an empty one with the empty ones. Returns how many rounds were asked there.
+    pub(crate) fn put_away(self, desks: &mut Vec<Desk>, empty: &mut Vec<EmptyDesk>) -> u64
+        requires back { NoneIsAway self }
+        requires room { vec_len desks.old < vec_capacity desks.old }
+        requires empty_room { vec_len empty.old < vec_capacity empty.old }
+        ensures of { (id : QueueId) → IsOf id self → AreOf id desks.old.items empty.old.items
+            → AreOf id desks.new.items empty.new.items }
+        ensures count { vec_len desks.new + vec_len empty.new ≡ (vec_len desks.old + vec_len empty.old) + 1 }
+        ensures room { (vec_capacity desks.new ≡ vec_capacity desks.old)
+            × (vec_capacity empty.new ≡ vec_capacity empty.old) }
+        ensures asked { result ≡ asked_at self }
+        ensures few { result ≤ 2 ^ 55 }
+    {
+        match self {
+            DeskState::Home(desk, _) => {
+                let rounds = desk.place.asked();
+                desks.push_reserved(desk);
+                rounds
+            }
+            DeskState::Empty(empty_desk) => {
+                let rounds = empty_desk.place.asked();
+                empty.push_reserved(empty_desk);
+                rounds
+            }
+            DeskState::Away(_) | DeskState::Gone => unreachable!(),
+        }
     }
 }

@@ -19,7 +19,6 @@ use std::marker::Model;
 use std::sync::Arc;
 
 /// What desks and workers share. Contracts see which queue it has, and how many desks and workers.
-#[derive(Drop)]
 pub struct Hall {
     pub(crate) queue: Queue,
     // Workers without a round sleep until it rings, or tells them that the hall is shut.
@@ -27,6 +26,20 @@ pub struct Hall {
     // Notified of each solved round, and of room in a queue that was full. The clerk sleeps on it, for these or for
     // input.
     pub(crate) answers: Arc<EventCount, Global>,
+}
+
+impl Drop for Hall {
+    // Written out, so that who owns a hall has one call where it is dropped.
+    fn drop(self) {
+        let Self {
+            queue,
+            bell,
+            answers,
+        } = self;
+        drop(queue);
+        drop(bell);
+        drop(answers);
+    }
 }
 
 impl Model for Hall {
@@ -76,15 +89,15 @@ impl Hall {
         ensures passes { IfOk result (λ r. r.2.items ≡ new_pops r.0.id workers) }
         ensures of_this { IfOk result (λ r. All (λ p. p.queue ≡ r.0.id) r.2.items) }
     {
-        let (queue, puts, pops) = Queue::open(alloc, places, workers)?;
-        let passes = open_passes(alloc, pops)?;
         let bell = Bell::open(alloc, workers)?;
         let answers = Arc::new(alloc, EventCount::new())?;
+        let (queue, puts, pops) = Queue::open(alloc, places, workers)?;
         let hall = Hall {
             queue,
             bell,
             answers,
         };
+        let passes = open_passes(alloc, pops)?;
         Ok((hall, puts, passes))
     }
 
@@ -108,7 +121,11 @@ impl Hall {
     pub(crate) fn into_queue(self) -> Queue
         ensures { result ≡ self }
     {
-        let Hall { queue, .. } = self;
+        let Self {
+            queue,
+            bell: _,
+            answers: _,
+        } = self;
         queue
     }
 }

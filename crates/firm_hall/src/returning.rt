@@ -3,7 +3,7 @@ ghost use Rattle.std.specs.Prelude.{◌≡◌, ◌+◌, ◌<◌, length, take, t
 ghost use Rattle.firm_rules.specs.declared.commands.Command.{Command};
 ghost use Rattle.firm_text.specs.Rosters.{most_places};
 ghost use Rattle.firm_held.specs.Held.{FirstIsAt, NoneWaits};
-ghost use Rattle.firm_hall.specs.inner.Serving.{Follows, IsAwayAt, IsHomeAt, IsOpen, Keeps};
+ghost use Rattle.firm_hall.specs.inner.Serving.{Follows, IsHomeAt, IsOpen, Keeps};
 
 use crate::halls::Hall;
 use crate::serving::Serving;
@@ -49,7 +49,8 @@ impl Serving {
         self.visit(setting, place);
     }
 
-    // The same for one place.
+    // Gives the tenant of one place, once it is home, the commands that wait for it, up to a round that is then away or
+    // finds no room in the queue.
     fn visit<R: Wait>(&mut self, setting: &Setting<'_, R>, place: usize)
         requires open { IsOpen setting.now.hall.now.id self.old }
         requires place { place < most_places }
@@ -59,50 +60,6 @@ impl Serving {
         if !self.can_go_on(setting.hall, place) {
             return;
         }
-        self.go_on(setting, place);
-    }
-
-    // Whether the tenant of the place is home and can be given a command that waits for it, after a look at its round
-    // if that is away.
-    fn can_go_on(&mut self, hall: &Hall, place: usize) -> bool
-        requires { place < most_places }
-        ensures home { result ≡ true → IsHomeAt place self.new.desk_states }
-        ensures follows { Follows self.old self.new }
-        ensures keeps { Keeps self.old self.new }
-    {
-        if !self.desk_states[place].is_away() {
-            return self.desk_states[place].has_waiting() && hall.bell.has_room();
-        }
-        self.comes_home(place)
-    }
-
-    // Whether the tenant of the place, whose round is away, is home after a look at the round. If so, the answer that
-    // waited for the round is then known; if not, nothing changes.
-    fn comes_home(&mut self, place: usize) -> bool
-        requires place { place < most_places }
-        requires away { IsAwayAt place self.old.desk_states }
-        ensures home { result ≡ true → IsHomeAt place self.new.desk_states }
-        ensures follows { Follows self.old self.new }
-        ensures keeps { Keeps self.old self.new }
-    {
-        let Some(reply) = self.desk_states[place].look() else {
-            return false;
-        };
-        let at = self.held.first_of(place);
-        self.held.fill(at, place, reply);
-        self.patience = self.patience.after_round();
-        true
-    }
-
-    // Gives the tenant of the place, which is home, the commands that wait for it, up to a round that is then away or
-    // finds no room in the queue.
-    fn go_on<R: Wait>(&mut self, setting: &Setting<'_, R>, place: usize)
-        requires open { IsOpen setting.now.hall.now.id self.old }
-        requires place { place < most_places }
-        requires home { IsHomeAt place self.old.desk_states }
-        ensures follows { Follows self.old self.new }
-        ensures keeps { Keeps self.old self.new }
-    {
         for at in 0..self.held.len() {
             let Some(command) = self.held.waiting_at(at, place) else {
                 continue;
@@ -113,6 +70,26 @@ impl Serving {
         }
         self.desk_states[place].set_waiting(false);
         self.unsettled.set(place, false);
+    }
+
+    // Whether the tenant of the place is home and can be given a command that waits for it, after a look at its round
+    // if that is away. If the round is answered, the answer that waited for it is then known; if not, nothing changes.
+    fn can_go_on(&mut self, hall: &Hall, place: usize) -> bool
+        requires { place < most_places }
+        ensures home { result ≡ true → IsHomeAt place self.new.desk_states }
+        ensures follows { Follows self.old self.new }
+        ensures keeps { Keeps self.old self.new }
+    {
+        if !self.desk_states[place].is_away() {
+            return self.desk_states[place].has_waiting() && hall.bell.has_room();
+        }
+        let Some(reply) = self.desk_states[place].look() else {
+            return false;
+        };
+        let at = self.held.first_of(place);
+        self.held.fill(at, place, reply);
+        self.patience = self.patience.after_round();
+        true
     }
 
     // Gives the tenant of the place, which is home, the first command that waits for it, unless that is a round for

@@ -16,7 +16,7 @@ use crate::setting::{Setting, Setup};
 use crate::team::Team;
 use crate::workers::{Gate, Report};
 use firm_rounds::finish_all;
-use firm_table::{Opening, ServeFault, serve_lines};
+use firm_table::{Opening, ServeFault};
 use firm_text::{PLACES, Roster, Sink, Source};
 use std::alloc::Global;
 use std::sync::Wait;
@@ -172,7 +172,7 @@ fn serve_with<S: Source, W: Sink, R: Threads + Wait + Sync, G: Gate + Sync>(
         {
             match team.start(scope) {
                 Ok(running) => {
-                    let served = serve_all(clerk, reader, writer, most);
+                    let served = clerk.serve(reader, writer, most);
                     (served, running.join(), reader, writer)
                 }
                 Err(running) => (Err(ServeFault::Memory), running.join(), reader, writer),
@@ -182,35 +182,6 @@ fn serve_with<S: Source, W: Sink, R: Threads + Wait + Sync, G: Gate + Sync>(
     keep(back);
     keep(out);
     (served, reports)
-}
-
-// Serves from the first byte to the last.
-fn serve_all<S: Source, W: Sink, R: Wait>(
-    mut clerk: HallClerk<'_, R>,
-    reader: &mut S,
-    writer: &mut W,
-    most: u64,
-) -> Result<Ended, ServeFault>
-    requires open { IsOpen clerk.setting.hall.now.id clerk.serving }
-    requires told { (written : Option (List ℕ))
-        → TellsAll (places_opened clerk.opening) clerk.serving [] written written }
-    requires most { most ≤ 2 ^ 32 }
-    requires reader { S.read_failed reader.old ≡ false }
-    requires writer { W.write_failed writer.old ≡ false }
-    ensures ran { Ran (places_opened clerk.entry.opening) most
-        (between S.left S.read_failed reader.old reader.new)
-        (between W.written W.write_failed writer.old writer.new) result }
-    ensures desks { IfOk result (λ ended. AreOf clerk.entry.setting.hall.now.id ended.desks.items ended.empty.items) }
-    ensures places { IfOk result (λ ended. length ended.desks.items + length ended.empty.items ≡ most_places) }
-{
-    serve_lines(reader, writer, &mut clerk, most)?;
-    let HallClerk {
-        serving,
-        desks,
-        empty,
-        ..
-    } = clerk;
-    Ok(serving.end(desks, empty))
 }
 
 // Ends the hall. Rounds that no worker took are solved here.

@@ -1,21 +1,25 @@
 //! Lines are answered in order at the desks, while rounds are away.
-ghost use Rattle.std.specs.Prelude.{◌≡◌, ◌≢◌, ℕ, ◌<◌, ◌≤◌, ◌++◌, ◌∷◌, IfErr, IfSome, List, MatchBool, OnErr};
-ghost use Rattle.std.specs.Prelude.{OnOk, Option, Some, [], false, length, true};
-ghost use Rattle.firm_text.specs.Inputs.{input_lines};
+ghost use Rattle.std.specs.Prelude.{◌≡◌, ◌≢◌, ◌+◌, ◌<◌, ◌≤◌, IfErr, IfSome, List, MatchBool, OnOk, Some};
+ghost use Rattle.std.specs.Prelude.{false, length, true, vec_capacity};
 ghost use Rattle.firm_text.specs.Registers.{IsRegister, place_in};
 ghost use Rattle.firm_text.specs.Rosters.{most_places};
 ghost use Rattle.firm_rules.specs.declared.commands.Command.TheVariants.{Round};
 ghost use Rattle.firm_text.specs.declared.inputs.Line.TheVariants.{For};
-ghost use Rattle.firm_table.specs.Places.{Place};
-ghost use Rattle.firm_table.specs.Service.{BeginsAnswersFrom, IsWritingFault};
+ghost use Rattle.firm_table.specs.Service.{IsWritingFault};
 ghost use Rattle.firm_held.specs.Held.{FirstWaits, most_answers_held};
-ghost use Rattle.firm_hall.specs.inner.Serving.{Begins, Follows, HasTurn, IsBackAt, IsOpen, IsWrittenOut, Keeps};
-ghost use Rattle.firm_hall.specs.inner.Serving.{Passes, Takes, TellsAll, Stands, place_of_line, serving_is};
+ghost use Rattle.firm_hall.specs.inner.Ending.{AreOf};
+ghost use Rattle.firm_hall.specs.inner.Serving.{Begins, Follows, HasTurn, IsBackAt, IsFinished, IsOpen, IsReserved};
+ghost use Rattle.firm_hall.specs.inner.Serving.{IsWrittenOut, Keeps, Passes, Takes, Stands, asked_at};
+ghost use Rattle.firm_hall.specs.inner.Serving.{place_of_line, serving_is};
 ghost use Rattle.firm_hall.specs.declared.desk_states.DeskState.{DeskState};
 ghost use Rattle.firm_rounds.specs.Passes.{QueueId};
+ghost use Rattle.firm_rounds.specs.Rounds.{weigh};
 ghost use Rattle.firm_text.specs.declared.registers.Entry.{Entry};
 
 use crate::desk_states::DeskState;
+use crate::desks::Desk;
+use crate::empty::EmptyDesk;
+use crate::ending::Ended;
 use crate::halls::Hall;
 use crate::patience::{Looks, Patience};
 use crate::setting::Setting;
@@ -32,7 +36,6 @@ use std::snapshot::Snapshot;
 use std::sync::Wait;
 
 /// A serving hall: which tenant has which place, what stands at each, and the held answers.
-#[derive(Drop)]
 pub(crate) struct Serving {
     // The hall of the desks; only clauses read it.
     pub(crate) hall: Snapshot<Hall>,
@@ -42,6 +45,22 @@ pub(crate) struct Serving {
     pub(crate) unsettled: Unsettled,
     // How long those that wait are looked for.
     pub(crate) patience: Patience,
+}
+
+impl Drop for Serving {
+    // Written out, so that who owns a serving hall has one call where it is dropped.
+    fn drop(self) {
+        let Self {
+            hall: _,
+            register: _,
+            desk_states,
+            held,
+            unsettled: _,
+            patience: _,
+        } = self;
+        drop(desk_states);
+        drop(held);
+    }
 }
 
 impl Model for Serving {
@@ -55,39 +74,8 @@ impl Model for Serving {
 }
 
 impl Serving {
-    /// Answers one more line, once it has its turn.
-    pub(crate) fn answer<R: Wait, W: Sink>(
-        &mut self,
-        setting: &Setting<'_, R>,
-        writer: &mut W,
-        line: Line,
-    ) -> Result<(), ServeFault>
-        requires writer { W.write_failed writer.old ≡ false }
-        requires open { IsOpen setting.now.hall.now.id self.old }
-        ensures told { OnOk result ((opening : List Place) (text after : List ℕ) (written : Option (List ℕ))
-            → input_lines after ≡ input_lines text ++ line ∷ []
-            → TellsAll opening self.old text written (W.written writer.old)
-            → TellsAll opening self.new after written (W.written writer.new)) }
-        ensures begins { OnErr result ((opening : List Place) (text after : List ℕ) (written : Option (List ℕ))
-            → input_lines after ≡ input_lines text ++ line ∷ []
-            → TellsAll opening self.old text written (W.written writer.old)
-            → BeginsAnswersFrom opening after written (W.written writer.new)) }
-        ensures cause { IfErr result (λ fault. IsWritingFault fault (W.write_failed writer.new)) }
-        ensures well { OnOk result (W.write_failed writer.new ≡ false) }
-        ensures open { IsOpen setting.now.hall.now.id self.new }
-    {
-        // Laws: of one more line.
-        answers_add_up();
-        let mut turn = Turn {
-            place: place_of(&self.register, &line),
-        };
-        self.take_turn(setting, writer, &mut turn)?;
-        self.take_line(setting, line);
-        Ok(())
-    }
-
-    // Waits for the turn, if it has not come.
-    fn take_turn<R: Wait, W: Sink>(
+    /// Waits for the turn, if it has not come.
+    pub(crate) fn take_turn<R: Wait, W: Sink>(
         &mut self,
         setting: &Setting<'_, R>,
         writer: &mut W,
@@ -108,8 +96,8 @@ impl Serving {
         self.wait(setting, writer, turn)
     }
 
-    // Takes a line, whose turn it is, and holds its answer.
-    fn take_line<R: Wait>(&mut self, setting: &Setting<'_, R>, line: Line)
+    /// Takes a line, whose turn it is, and holds its answer.
+    pub(crate) fn take_line<R: Wait>(&mut self, setting: &Setting<'_, R>, line: Line)
         requires open { IsOpen setting.now.hall.now.id self.old }
         requires turn { HasTurn (place_of_line self.old.register line) self.old }
         ensures takes { Takes self.old self.new line }
@@ -249,6 +237,37 @@ impl Serving {
         self.patience = self.patience.after_look(looks);
         self.held.write(writer)
     }
+
+    /// Ends the service, all of whose desks are home since no answer is held. The desks go into these vectors, reserved
+    /// for them.
+    pub(crate) fn end(self, room: Vec<Desk>, empty_room: Vec<EmptyDesk>) -> Ended
+        requires finished { IsFinished self }
+        requires room { IsReserved room.items (vec_capacity room) }
+        requires empty_room { IsReserved empty_room.items (vec_capacity empty_room) }
+        ensures of { AreOf self.queue result.desks.items result.empty.items }
+        ensures all { length result.desks.items + length result.empty.items ≡ most_places }
+        ensures rounds { result.rounds ≡ weigh asked_at self.desk_states }
+    {
+        let Self {
+            hall: _,
+            register: _,
+            desk_states,
+            held: _,
+            unsettled: _,
+            patience: _,
+        } = self;
+        let mut desks = room;
+        let mut empty = empty_room;
+        let mut rounds = 0;
+        for desk_state in desk_states {
+            rounds += desk_state.put_away(&mut desks, &mut empty);
+        }
+        Ended {
+            desks,
+            empty,
+            rounds,
+        }
+    }
 }
 
 // Puts all known answers up to the first that waits after the text to be written. Whatever stands at the places stands
@@ -268,8 +287,8 @@ fn put_known(held: &mut Held) -> Result<(), AllocError>
     Ok(())
 }
 
-// The place of the tenant that a line waits for.
-fn place_of(register: &Register, line: &Line) -> Option<usize>
+/// The place of the tenant that a line waits for.
+pub(crate) fn place_of(register: &Register, line: &Line) -> Option<usize>
     ensures place { result ≡ place_of_line register.now line.now }
     ensures within { IfSome result (λ place. place < most_places) }
 {

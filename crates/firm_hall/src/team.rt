@@ -18,7 +18,6 @@ impl Promise<Report> for OfHall {
 }
 
 /// The workers of a hall before they start: a pass for each, and room for their handles and reports.
-#[derive(Drop)]
 pub(crate) struct Team<'s, R, G> {
     pub(crate) rt: &'s R,
     alloc: Global,
@@ -32,6 +31,24 @@ pub(crate) struct Team<'s, R, G> {
     ghost room: { vec_len passes ≤ vec_capacity handles },
     ghost no_reports: { reports.items ≡ [] },
     ghost reports_room: { vec_len passes ≤ vec_capacity reports },
+}
+
+impl<R, G> Drop for Team<'_, R, G> {
+    // Written out, so that who owns a team has one call where it is dropped.
+    fn drop(self) {
+        let Self {
+            rt: _,
+            alloc: _,
+            hall: _,
+            gate: _,
+            passes,
+            handles,
+            reports,
+        } = self;
+        drop(passes);
+        drop(handles);
+        drop(reports);
+    }
 }
 
 /// The running workers, and room for their reports.

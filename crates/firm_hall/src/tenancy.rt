@@ -1,10 +1,8 @@
 //! Which tenant has which place: tenants are admitted and leave. Nothing here waits.
-ghost use Rattle.std.specs.Prelude.{◌≡◌, ◌<◌, Some};
+ghost use Rattle.std.specs.Prelude.{◌≡◌};
 ghost use Rattle.firm_text.specs.Registers.{place_in};
-ghost use Rattle.firm_text.specs.Rosters.{most_places};
 ghost use Rattle.firm_text.specs.declared.operator.OperatorLine.TheVariants.{Admit, Retire};
-ghost use Rattle.firm_text.specs.declared.operator.OperatorReply.TheVariants.{Retired};
-ghost use Rattle.firm_hall.specs.inner.Serving.{IsBackAt, IsBackIf, Obeys, place_of_request};
+ghost use Rattle.firm_hall.specs.inner.Serving.{IsBackIf, Obeys, place_of_request};
 
 use crate::serving::Serving;
 use firm_rules::{Limits, Name};
@@ -59,27 +57,11 @@ impl Serving {
     {
         // Laws: of one more line.
         answers_add_up();
-        let Some(place) = self.register.place_of(name) else {
-            return OperatorReply::Refused(OperatorRefusal::NoSuchTenant);
-        };
-        self.leave(place, name);
-        OperatorReply::Retired(name)
-    }
-
-    // Retires the tenant, which is home, from its place.
-    fn leave(&mut self, place: usize, name: Name)
-        requires place { place < most_places }
-        requires found { place_in self.old.register name ≡ Some place }
-        requires back { IsBackAt place self.old.desk_states }
-        ensures obeys { Obeys self.old self.new (Retire name) (Retired name) }
-        ensures hall { self.new.queue ≡ self.old.queue }
-        ensures answers { self.new.answers ≡ self.old.answers }
-    {
-        // Laws: of one more line.
-        answers_add_up();
-        let Ok(_) = self.register.retire(name) else {
-            unreachable!()
+        let place = match self.register.retire(name) {
+            Ok(place) => place,
+            Err(refusal) => return OperatorReply::Refused(refusal),
         };
         self.desk_states[place].retire();
+        OperatorReply::Retired(name)
     }
 }

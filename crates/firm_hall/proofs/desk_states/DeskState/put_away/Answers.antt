@@ -1,7 +1,7 @@
 use Rattle.std.proofs.Common.{◌≡◌}
 use Rattle.firm_hall.specs.Desks.{DeskIs}
 use Rattle.firm_hall.proofs.Alls.{all_push}
-use Rattle.firm_hall.proofs.ending.put_away.Goals as goal
+use Rattle.firm_hall.proofs.desk_states.DeskState.put_away.Goals as goal
 
 pub returns-in-Home-clause-of : goal.returns-in-Home-clause-of
 returns-in-Home-clause-of c id is are =

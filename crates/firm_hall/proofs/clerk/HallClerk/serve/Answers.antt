@@ -1,14 +1,14 @@
 use Rattle.std.proofs.Common.{refl}
 use Rattle.firm_table.specs.Openings.{places_opened}
 use Rattle.firm_hall.proofs.Serves.{served_by}
-use Rattle.firm_hall.proofs.service.serve_all.Goals as goal
+use Rattle.firm_hall.proofs.clerk.HallClerk.serve.Goals as goal
 
 pub serve_lines-requires-clause-opening : goal.serve_lines-requires-clause-opening
 serve_lines-requires-clause-opening g c = c.requires.told (g.W.Sink.written c.args.writer.now)
 
 pub returns-clause-ran : goal.returns-clause-ran
 returns-clause-ran g c =
-    let own = places_opened c.args.clerk.opening in
+    let own = places_opened c.args.self.opening in
     let s = c.serve_lines.new.clerk.serving in
     let e = c.in_ok-serve_lines.ensures in
     served_by own own (places_opened c.serve_lines.new.clerk.opening) s.register s.desk_states s.answers
