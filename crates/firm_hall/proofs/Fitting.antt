@@ -12,8 +12,8 @@ use Rattle.firm_text.specs.declared.operator.OperatorRefusal.{OperatorRefusal}
 use Rattle.firm_text.specs.declared.operator.OperatorRefusal.TheVariants.{TenantExists, Full}
 use Rattle.firm_text.specs.declared.registers.Entry.{Entry}
 use Rattle.firm_rounds.specs.Passes.{QueueId}
-use Rattle.firm_hall.specs.inner.DeskStates.{IsAway, IsBack, IsFree, IsHome, IsHomeOf}
-use Rattle.firm_hall.specs.inner.Serving.{AreDeskStates, DeskStateIs, Fits, IsAwayAt, IsBackAt}
+use Rattle.firm_hall.specs.inner.DeskStates.{IsBack, IsFree, IsHome, IsHomeOf}
+use Rattle.firm_hall.specs.inner.Serving.{AreDeskStates, DeskStateIs, Fits, IsBackAt}
 use Rattle.firm_hall.specs.inner.Serving.{desk_state_counts, place_counts}
 use Rattle.firm_hall.specs.declared.desk_states.DeskState.{DeskState}
 use Rattle.firm_hall.specs.declared.desk_states.DeskState.TheVariants.{Home, Away, Empty, Gone}
@@ -126,7 +126,3 @@ module _ (queue : QueueId) (register : List Entry) (answers : List HeldAnswer) (
 pub back_here : (place : ℕ) (desk_states : List DeskState) (before default : DeskState) → place < most_places
     → before ≡ get_or desk_states place default → IsBackAt place desk_states → IsBack before
 back_here place desk_states before default low at back = subst IsBack (sym at) (back default low)
-
-pub away_here : (place : ℕ) (desk_states : List DeskState) (before default : DeskState) → place < most_places
-    → before ≡ get_or desk_states place default → IsAwayAt place desk_states → IsAway before
-away_here place desk_states before default low at away = subst IsAway (sym at) (away default low)

@@ -23,7 +23,7 @@ use Rattle.firm_hall.specs.Counts.{Counted}
 use Rattle.firm_hall.specs.Desks.{DeskIs, desk_is, place_is}
 use Rattle.firm_held.specs.Held.{FirstIs, FirstWaits, HasRoom, HeldIs, NoneWaits}
 use Rattle.firm_hall.specs.inner.Reckoned.{Mark, Reckoned, reckon}
-use Rattle.firm_hall.specs.inner.DeskStates.{IsAway, IsBack, IsHome}
+use Rattle.firm_hall.specs.inner.DeskStates.{IsBack, IsHome}
 use Rattle.firm_hall.specs.declared.desk_states.DeskState.{DeskState}
 use Rattle.firm_hall.specs.declared.desk_states.DeskState.TheVariants.{Home, Away, Empty, Gone}
 use Rattle.firm_table.specs.declared.answers.LineAnswer.TheVariants.{ToOperator}
@@ -219,11 +219,6 @@ IsBackAt place desk_states = (default : DeskState) → place < most_places
 abbrev pub IsHomeAt : ℕ → List DeskState → Type 0
 IsHomeAt place desk_states = (default : DeskState) → place < most_places
     → IsHome (slice_index_or desk_states place default)
-
--- a round is away from the place
-abbrev pub IsAwayAt : ℕ → List DeskState → Type 0
-IsAwayAt place desk_states = (default : DeskState) → place < most_places
-    → IsAway (slice_index_or desk_states place default)
 
 -- the place whose tenant a request of the operator waits for
 abbrev pub place_of_request : List Entry → OperatorLine → Option ℕ

@@ -1,4 +1,4 @@
-use Rattle.std.proofs.Common.{rules, ◌≡◌, ◌∙◌}
+use Rattle.std.proofs.Common.{rules, ◌≡◌}
 use Rattle.firm_rounds.specs.Passes.{PutIs}
 use Rattle.firm_hall.proofs.Alls.{all_rest, one_turned}
 use Rattle.firm_hall.proofs.Opening.{unused_of}
