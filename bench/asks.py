@@ -1,7 +1,7 @@
 """Measures how long firmctl's questions take on a full tenant, and where that time goes.
 
 usage: tools/run bench/asks.py [--kinds KIND,..] [--tasks N] [--machines N] [--repeats N] [--keep]
-Prints tables in Markdown of milliseconds by the clock, each the middle of some runs. Of a kind of stream, before its
+Prints tables in Markdown of milliseconds by the clock, each the median of some runs. Of a kind of stream, before its
 last round: `view` is the state's way from the viewer's rows to firmctl, `what-if` a drain of a machine and a round,
 `why` the reasons for a task that waits, with trials of its weight, each with the state at hand; `firm` and
 `firm_explain` are one run of these programs within them. `firmctl` is a start of the program that asks nothing, and
@@ -29,8 +29,8 @@ from harness.deployed import SERVICE, book_of, text_of, trials, what_if, why
 COLUMNS = ("kind", "rows", "view", "what-if", "firm", "why", "firm_explain")
 
 
-def middle(question: Callable[[], object], repeats: int) -> str:
-    """The middle of some runs, in milliseconds."""
+def median_of(question: Callable[[], object], repeats: int) -> str:
+    """The median of some runs, in milliseconds."""
     found = []
     for _ in range(repeats):
         begun = time.perf_counter()
@@ -70,7 +70,7 @@ def cells(options: argparse.Namespace, kind: str) -> list[str]:
         partial(why.reasons, state, book, task),
         lambda: output_of(trials.Trial("firm_explain", state, asked, lines[-1:])),
     ]
-    return [kind, f"{state.count(chr(10)) - 2:,}", *(middle(question, options.repeats) for question in questions)]
+    return [kind, f"{state.count(chr(10)) - 2:,}", *(median_of(question, options.repeats) for question in questions)]
 
 
 def show(options: argparse.Namespace) -> int:
@@ -80,7 +80,7 @@ def show(options: argparse.Namespace) -> int:
     print("\n| firmctl | python |\n| --: | --: |")
     starts = [[sys.executable, str(SERVICE / "firmctl"), "--help"], [sys.executable, "-c", "pass"]]
     run = partial(subprocess.run, stdout=subprocess.DEVNULL, check=True)
-    print("| " + " | ".join(middle(partial(run, words), options.repeats) for words in starts) + " |")
+    print("| " + " | ".join(median_of(partial(run, words), options.repeats) for words in starts) + " |")
     return 0
 
 

@@ -2,8 +2,8 @@
 
 usage: tools/run bench/live.py [--program FILE] [--beside FILE] [--workers 1,2,8] [--rounds N] [--paused N]
                                [--seconds S] [--repeats R] [--keep]
-Times are from the write of a line to its last reply, by the clock on the wall: the middle and the ninetieth of a
-hundred, of the best of R runs; beside them the processor time of the service for each. With `--beside` another built
+Times are from the write of a line to its last reply, by the clock on the wall: the median and the 90th percentile,
+of the best of R runs; beside them the processor time of the service for each. With `--beside` another built
 program is measured in turn with it. A round is one of no tasks. Where no reply to it comes in two seconds while no
 further line does, there is no figure.
 """
@@ -67,9 +67,9 @@ REQUESTS = [
 
 
 class Figures(NamedTuple):
-    """Microseconds: the middle, the ninetieth of a hundred, and the processor time of each."""
+    """Microseconds: the median, the 90th percentile, and the processor time of each."""
 
-    middle: float
+    median: float
     ninetieth: float
     processor: float
 
@@ -127,7 +127,7 @@ def measure(served: Served, request: Request, count: int) -> Figures | None:
 
 
 def best(runs: Sequence[Figures | None]) -> Figures | None:
-    """The run with the least middle; None where a run has none."""
+    """The run with the least median; None where a run has none."""
     known = [figures for figures in runs if figures is not None]
     return min(known) if len(known) == len(runs) else None
 
@@ -138,7 +138,7 @@ def cells(figures: Figures | None) -> str:
 
 def print_requests(options: Options, roster: Path) -> None:
     programs = options.programs()
-    more = " | ".join(["middle, µs | 90 of 100, µs | processor, µs"] * len(programs))
+    more = " | ".join(["median, µs | 90th percentile, µs | processor, µs"] * len(programs))
     print(f"| workers | | {more} |\n| ---: | --- |{' ---: |' * (len(Figures._fields) * len(programs))}")
     for workers in options.workers.split(","):
         for request in REQUESTS:

@@ -3,7 +3,7 @@
 usage: tools/run bench/neighbours.py [--program FILE] [--beside FILE] [--workers N] [--kind crowded] [--size 2500x700]
                            [--tenants N] [--repeats R] [--usual] [--keep]
 Lines are written at once: a round of tenant `a`, which is small, and lines of others behind it. Times are from the
-write to a's reply, by the clock on the wall: the least, the middle and the ninetieth of a hundred. In the last row a
+write to a's reply, by the clock on the wall: the least, the median and the 90th percentile. In the last row a
 large tenant's round, and a line that waits for it, stand before another's round, whose reply is timed. Each is of a new
 service, in which the rounds of the large tenants are their first. With `--beside` another built program is measured by
 turns with it.
@@ -149,7 +149,7 @@ def show(options: Options) -> int:
     tasks, machines = options.size
     print(f"load before: {os.getloadavg()[0]:.1f} on {os.cpu_count()} processors; {options.kind} {tasks}x{machines}")
     print(f"The client has {'the usual' if options.is_usual else 'a higher'} priority.\n")
-    print("| written at once | workers |" + " least, ms | middle, ms | 90 of 100, ms |" * len(programs))
+    print("| written at once | workers |" + " least, ms | median, ms | 90th percentile, ms |" * len(programs))
     print("| --- | ---: |" + " ---: | ---: | ---: |" * len(programs))
     large = large_tenant(options)
     with tempfile.TemporaryDirectory(prefix="firm-") as folder:

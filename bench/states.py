@@ -2,7 +2,7 @@
 
 usage: tools/run bench/states.py [--state FILE] [--kind KIND] [--tasks N] [--machines N] [--tenants N,..] [--repeats N]
 A tenant of a kind of stream is brought to its first round, and its state is multiplied. Prints a table in Markdown of
-times in milliseconds, each the middle of some runs: `start` is that of a run without a state; `read` what a run takes
+times in milliseconds, each the median of some runs: `start` is that of a run without a state; `read` what a run takes
 beyond it to read and judge the text, as a text that is faulty in its last line tells; `tenants` what it takes beyond
 that to open the tenants and to write their state; `whole` is the whole run by the clock, `processor` its processor
 time. The exit status is 1 where a state is not written as it was read.
@@ -34,8 +34,8 @@ class Timed(NamedTuple):
     output: bytes
 
 
-class Middle(NamedTuple):
-    """The middle of some runs, in seconds."""
+class MedianRun(NamedTuple):
+    """The median of some runs, in seconds."""
 
     clock: float
     processor: float
@@ -56,9 +56,9 @@ def timed(words: Sequence[str], status: int = 0) -> Timed:
     return Timed(ended - begun, processor_seconds() - before, done.stdout)
 
 
-def middle(words: Sequence[str], repeats: int, status: int = 0) -> Middle:
+def median_of(words: Sequence[str], repeats: int, status: int = 0) -> MedianRun:
     runs = [timed(words, status) for _ in range(repeats)]
-    return Middle(statistics.median(run.clock for run in runs), statistics.median(run.processor for run in runs))
+    return MedianRun(statistics.median(run.clock for run in runs), statistics.median(run.processor for run in runs))
 
 
 def rows_of_tenant(options: argparse.Namespace, folder: Path) -> list[str]:
@@ -93,9 +93,9 @@ def cells(options: argparse.Namespace, text: str, tenants: int, folder: Path) ->
     faulty.write_text(text.replace(f"\nrows {count}\n", f"\nrows {count + 1}\n"))
     words = [options.state, "--state"]
     require(timed([*words, str(path)]).output == text.encode(), "a state is written as another")
-    start = middle([options.state, "--version"], options.repeats)
-    read = middle([*words, str(faulty)], options.repeats, FAULTY)
-    whole = middle([*words, str(path)], options.repeats)
+    start = median_of([options.state, "--version"], options.repeats)
+    read = median_of([*words, str(faulty)], options.repeats, FAULTY)
+    whole = median_of([*words, str(path)], options.repeats)
     steps = [start.clock, read.clock - start.clock, whole.clock - read.clock, whole.clock, whole.processor]
     return [str(tenants), f"{count:,}", f"{len(text) / 1024:,.0f}", *(f"{step * 1000:,.1f}" for step in steps)]
 
