@@ -38,7 +38,12 @@ enum Wanted {
 
 type Row = (Given, Wanted);
 
-const ROSTER: &[u8] = b"tenant,nodes,arcs,life,spread,churn\na,2,0,2,0,0\nb,2,0,2,0,0";
+/// Events in turn, at a table that opens with this roster and so many workers.
+struct Script {
+    roster: &'static [u8],
+    workers: usize,
+    rows: &'static [Row],
+}
 
 /// A tenant that comes has a book of its own, and its tickets go on from those of the tenant before it.
 const A1: Ticket = Ticket {
@@ -63,8 +68,33 @@ const C1: Ticket = Ticket {
 
 const NOTHING: &str = "t 1 ok machines 0 jobs 0 tasks 0 running 0 nodes 2 of 2 arcs 0 of 0";
 
-/// Two tenants of two commands each, at the first places, and two workers.
-static ROWS: [Row; 57] = [
+/// The worker takes a second round before the first one is collected.
+const OF_ONE_WORKER: &[Row] = &[
+    (Round(0), NotNow),
+    (Ask(0), Queued(A1)),
+    (Ask(0), NotNow),
+    (Show(0), NotNow),
+    (Answer(0), NotNow),
+    (Collect(0), NotNow),
+    (
+        Show(1),
+        Says("t 1 ok machines 0 jobs 0 tasks 0 running 0 nodes 2 of 8 arcs 0 of 30"),
+    ),
+    (Ask(1), Queued(B1)),
+    (Ask(2), NotNow),
+    (Take(1), NotNow),
+    (Take(0), Took(A1)),
+    (Take(0), NotNow),
+    (Answer(0), Solved(A1)),
+    (Take(0), Took(B1)),
+    (Collect(0), Says("t 1 ok round cost 0")),
+    (Collect(1), NotNow),
+    (Answer(0), Solved(B1)),
+    (Collect(1), Says("t 2 ok round cost 0")),
+];
+
+/// The tenants have two commands each.
+const OF_TWO_WORKERS: &[Row] = &[
     (Round(0), NotNow),
     (Show(2), NotNow),
     (Ask(2), NotNow),
@@ -130,6 +160,20 @@ static ROWS: [Row; 57] = [
     ),
 ];
 
+/// Two tenants, at the first places.
+static SCRIPTS: [Script; 2] = [
+    Script {
+        roster: b"tenant,nodes,arcs,life,spread,churn\nalpha,9,24,100,1,2\nbeta,8,30,100,0,3",
+        workers: 1,
+        rows: OF_ONE_WORKER,
+    },
+    Script {
+        roster: b"tenant,nodes,arcs,life,spread,churn\na,2,0,2,0,0\nb,2,0,2,0,0",
+        workers: 2,
+        rows: OF_TWO_WORKERS,
+    },
+];
+
 fn event(given: &Given, limits: Limits) -> Event {
     match given {
         Show(place) => Event::Post(*place, Command::Show),
@@ -170,7 +214,7 @@ fn expect_step(rt: &impl Abort, is_expected: bool, step: usize) {
     assert!(rt; is_expected, "the answer of step {step}");
 }
 
-fn play(rt: &impl Abort, alloc: Global, table: &mut Table, rows: &[(Given, Wanted)]) {
+fn expect_rows(rt: &impl Abort, alloc: Global, table: &mut Table, rows: &[Row]) {
     let limits = Limits::check(2, 0, 2, 0, 0, 0).expect(rt, "limits");
     let name = Name::read(b"t").expect(rt, "a name");
     for (step, (given, wanted)) in rows.iter().enumerate() {
@@ -179,10 +223,16 @@ fn play(rt: &impl Abort, alloc: Global, table: &mut Table, rows: &[(Given, Wante
     }
 }
 
+fn play(rt: &impl Abort, alloc: Global, script: &Script) {
+    let roster = roster(alloc, script.roster).ok().expect(rt, "a roster");
+    let workers = script.workers.clamp(1, 8);
+    let mut table = Table::open(alloc, &roster, workers).expect(rt, "memory");
+    expect_rows(rt, alloc, &mut table, script.rows);
+}
+
 #[test]
 fn each_event_is_answered_where_it_fits(rt: HostRuntime) {
-    let alloc = rt.alloc();
-    let roster = roster(alloc, ROSTER).ok().expect(&rt, "a roster");
-    let mut table = Table::open(alloc, &roster, 2).expect(&rt, "memory");
-    play(&rt, alloc, &mut table, &ROWS);
+    for script in &SCRIPTS {
+        play(&rt, rt.alloc(), script);
+    }
 }

@@ -1,11 +1,12 @@
 //! Tickets that are put and got in order, jobs that are left, and eight threads at one queue.
 
-ghost use Rattle.std.specs.Prelude.{◌≡◌, ◌+◌, ◌<◌, ◌^◌, All, vec_len};
+ghost use Rattle.std.specs.Prelude.{◌≡◌, ◌+◌, ◌<◌, ◌^◌, All, IfErr};
 ghost use Rattle.std.specs.Fork.{AcceptsJobs};
 ghost use Rattle.std.specs.Thread.{IsSync};
 
 use super::check;
 use super::trays::{asked, look};
+use Step::{Gets, Misses, Puts};
 use firm_rounds::{Job, PopPass, PutPass, Queue, QueueFault, finish_all};
 use firm_rules::Ticket;
 use firm_tray::AskSide;
@@ -39,84 +40,172 @@ fn serve<R: Wait>(rt: &R, alloc: Global, queue: &Queue, pass: &mut PopPass) -> O
     Some(ticket)
 }
 
-// What is put: the second of two places puts one ticket, and then the first puts two.
-const FIRST: Ticket = Ticket {
-    place: 1,
-    number: 1,
-};
+// What happens at a queue of two places, with one pass to get.
+enum Step {
+    // The place puts its next ticket.
+    Puts(usize),
+    // No ticket is there.
+    Misses,
+    // This ticket is got. Its round is back then, and not before.
+    Gets(Ticket),
+}
 
-const SECOND: Ticket = Ticket {
+// Steps in turn, and the tickets that are left where the queue is closed behind them.
+struct Script {
+    steps: &'static [Step],
+    left: &'static [Ticket],
+}
+
+const A1: Ticket = Ticket {
     place: 0,
     number: 1,
 };
 
-const THIRD: Ticket = Ticket {
+const A2: Ticket = Ticket {
     place: 0,
     number: 2,
 };
 
-// Puts the three tickets. Gives the side that asks for the first; the other two are dropped.
-fn ask_three<R: Abort + Wait>(
+const B1: Ticket = Ticket {
+    place: 1,
+    number: 1,
+};
+
+static SCRIPTS: [Script; 3] = [
+    Script {
+        steps: &[Puts(0), Puts(1), Gets(A1), Gets(B1), Misses],
+        left: &[],
+    },
+    Script {
+        steps: &[Puts(0), Puts(1)],
+        left: &[A1, B1],
+    },
+    Script {
+        steps: &[Misses, Puts(1), Puts(0), Puts(0), Gets(B1)],
+        left: &[A1, A2],
+    },
+];
+
+fn ask_at<R: Alloc<A = Global> + Abort + Wait>(
     rt: &R,
-    alloc: Global,
     queue: &Queue,
     puts: &mut Vec<PutPass>,
+    place: usize,
 ) -> AskSide
-    requires queue { All (λ p. p.queue ≡ queue.now.id) puts.old.items }
-    requires unused { (vec_len puts.old ≡ 2) × All (λ p. p.put ≡ 0) puts.old.items }
+    requires { All (λ p. p.queue ≡ queue.now.id) puts.old.items }
     ensures { All (λ p. p.queue ≡ queue.now.id) puts.new.items }
 {
-    let second = &mut puts[1];
-    let side = ask(rt, alloc, queue, second);
-    let first = &mut puts[0];
-    ask(rt, alloc, queue, first);
-    ask(rt, alloc, queue, first);
-    side
+    check(rt, place < puts.len(), "a place");
+    let pass = &mut puts[place];
+    // `put` asks for a number that is not too large.
+    check(rt, pass.next().number < 100, "a number");
+    ask(rt, rt.alloc(), queue, pass)
 }
 
-// None is there before a ticket is put. The first that is put is got first, and is not answered before.
-fn expect_first<R: Abort + Wait>(
+fn expect_got<R: Alloc<A = Global> + Abort + Wait>(
     rt: &R,
-    alloc: Global,
     queue: &Queue,
-    puts: &mut Vec<PutPass>,
     pass: &mut PopPass,
+    sides: &mut Vec<AskSide>,
+    wanted: Ticket,
 )
-    requires queue { All (λ p. p.queue ≡ queue.now.id) puts.old.items }
-    requires unused { (vec_len puts.old ≡ 2) × All (λ p. p.put ≡ 0) puts.old.items }
-    requires pass { pass.old.queue ≡ queue.now.id }
-    ensures puts { All (λ p. p.queue ≡ queue.now.id) puts.new.items }
-    ensures pass { pass.new.queue ≡ pass.old.queue }
+    requires { pass.old.queue ≡ queue.now.id }
+    ensures { pass.new.queue ≡ pass.old.queue }
 {
-    check(rt, serve(rt, alloc, queue, pass).is_none(), "no ticket");
-    let side = ask_three(rt, alloc, queue, puts);
-    let side = look(side).err().expect(rt, "no answer");
-    let got = serve(rt, alloc, queue, pass);
-    check(rt, got == Some(FIRST), "the first ticket");
+    check(rt, !sides.is_empty(), "a ticket that was put");
+    let side = look(sides.remove(0)).err().expect(rt, "no answer");
+    let got = serve(rt, rt.alloc(), queue, pass);
+    check(rt, got == Some(wanted), "the ticket that is got");
     check(rt, look(side).ok() == Some(true), "the round is back");
 }
 
-// These are the jobs of the second ticket and the third. They are finished.
-fn expect_rest(rt: &impl Abort, alloc: Global, jobs: Vec<Job>) {
-    let are_left = match jobs.as_slice() {
-        [second, third] => second.ticket() == SECOND && third.ticket() == THIRD,
-        _ => false,
-    };
-    check(rt, are_left, "the jobs that are left");
-    finish_all(alloc, jobs);
+fn take_steps<R: Alloc<A = Global> + Abort + Wait>(
+    rt: &R,
+    queue: &Queue,
+    puts: &mut Vec<PutPass>,
+    pass: &mut PopPass,
+    steps: &[Step],
+)
+    requires puts { All (λ p. p.queue ≡ queue.now.id) puts.old.items }
+    requires pass { pass.old.queue ≡ queue.now.id }
+    ensures puts { All (λ p. p.queue ≡ queue.now.id) puts.new.items }
+    ensures pass { pass.new.queue ≡ queue.now.id }
+{
+    let alloc = rt.alloc();
+    let mut sides = Vec::new(alloc);
+    for step in steps {
+        match step {
+            Puts(place) => {
+                let side = ask_at(rt, queue, puts, *place);
+                sides.push(side).expect(rt, "memory");
+            }
+            Misses => check(rt, serve(rt, alloc, queue, pass).is_none(), "no ticket"),
+            Gets(ticket) => expect_got(rt, queue, pass, &mut sides, *ticket),
+        }
+    }
 }
 
-// Three tickets are put and one is got; the queue is closed, and the other jobs come back in order.
+// The tickets of these jobs, which are finished.
+fn finish<R: Alloc<A = Global> + Abort>(rt: &R, jobs: Vec<Job>) -> Vec<Ticket> {
+    let mut tickets = Vec::new(rt.alloc());
+    for job in &jobs {
+        tickets.push(job.ticket()).expect(rt, "memory");
+    }
+    finish_all(rt.alloc(), jobs);
+    tickets
+}
+
+// The tickets that were left; or, where a pass is missing, the queue with all that was handed in.
+fn close<R: Alloc<A = Global> + Abort + Wait>(
+    rt: &R,
+    queue: Queue,
+    puts: Vec<PutPass>,
+    pops: Vec<PopPass>,
+) -> Result<Vec<Ticket>, (Queue, Vec<PutPass>, Vec<PopPass>)>
+    requires puts { All (λ p. p.queue ≡ queue.id) puts.items }
+    requires pops { All (λ p. p.queue ≡ queue.id) pops.items }
+    ensures { IfErr result (λ back. (back.0 ≡ queue) × (back.1.items ≡ puts.items) × (back.2.items ≡ pops.items)) }
+{
+    match queue.close(rt, puts, pops) {
+        Ok(()) => Ok(Vec::new(rt.alloc())),
+        Err(QueueFault::Missing(queue, puts, pops)) => Err((queue, puts, pops)),
+        Err(QueueFault::Left(_puts, _pops, jobs)) => Ok(finish(rt, jobs)),
+    }
+}
+
+// The tickets that were left. The queue closes once neither the last place's pass nor the one to get is missing.
+fn left_of<R: Alloc<A = Global> + Abort + Wait>(
+    rt: &R,
+    queue: Queue,
+    puts: Vec<PutPass>,
+    pops: Vec<PopPass>,
+) -> Vec<Ticket>
+    requires puts { All (λ p. p.queue ≡ queue.id) puts.items }
+    requires pops { All (λ p. p.queue ≡ queue.id) pops.items }
+{
+    let mut puts = puts;
+    let held = puts.pop().expect(rt, "a pass");
+    let back = close(rt, queue, puts, pops);
+    let (queue, mut puts, pops) = back.err().expect(rt, "a place's pass is missing");
+    puts.push(held).expect(rt, "memory");
+    let back = close(rt, queue, puts, Vec::new(rt.alloc()));
+    let (queue, puts, _) = back.err().expect(rt, "the pass to get is missing");
+    let left = close(rt, queue, puts, pops).ok();
+    left.expect(rt, "no pass is missing")
+}
+
+fn play<R: Alloc<A = Global> + Abort + Wait>(rt: &R, script: &Script) {
+    let (queue, mut puts, mut pops) = Queue::open(rt.alloc(), 2, 1).expect(rt, "memory");
+    let pass = &mut pops[0];
+    take_steps(rt, &queue, &mut puts, pass, script.steps);
+    let left = left_of(rt, queue, puts, pops);
+    check(rt, left.as_slice() == script.left, "the tickets left");
+}
+
 #[test]
 fn tickets_are_got_in_order_and_those_left_come_back(rt: HostRuntime) {
-    let alloc = rt.alloc();
-    let (queue, mut puts, mut pops) = Queue::open(alloc, 2, 1).expect(&rt, "memory");
-    let pass = &mut pops[0];
-    expect_first(&rt, alloc, &queue, &mut puts, pass);
-    match queue.close(&rt, puts, pops) {
-        Ok(()) => panic!(&rt; "no job is left"),
-        Err(QueueFault::Missing(_queue, _puts, _pops)) => panic!(&rt; "no pass is missing"),
-        Err(QueueFault::Left(_puts, _pops, jobs)) => expect_rest(&rt, alloc, jobs),
+    for script in &SCRIPTS {
+        play(&rt, script);
     }
 }
 
