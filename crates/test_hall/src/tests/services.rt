@@ -24,6 +24,7 @@ fn play<R: Alloc<A = Global> + Abort + Threads + Wait + Sync>(rt: &R, scene: &'s
     let alloc = rt.alloc();
     let roster = roster_of(rt, alloc, scene.records);
     let workers = scene.workers.clamp(1, 8);
+    let most = scene.most.clamp(1, MOST_INPUT);
     let stage = &Stage::new(scene);
     let reader = &mut Reads { stage };
     let writer = &mut Writes {
@@ -31,10 +32,13 @@ fn play<R: Alloc<A = Global> + Abort + Threads + Wait + Sync>(rt: &R, scene: &'s
         rest: scene.text,
         has_failed: false,
     };
-    let served = serve(
-        rt, alloc, reader, writer, &roster, workers, stage, MOST_INPUT,
-    );
-    expect_end(rt, scene, stage, served.err());
+    let served = serve(rt, alloc, reader, writer, &roster, workers, stage, most);
+    let (rounds, fault) = match served {
+        Ok(totals) => (totals.rounds, None),
+        Err(fault) => (0, Some(fault)),
+    };
+    check(rt, rounds == scene.rounds, "the rounds of the service");
+    expect_end(rt, scene, stage, fault);
 }
 
 /// A service on one thread is as the scene says.
@@ -47,8 +51,14 @@ fn play_alone(rt: &impl Abort, alloc: Global, scene: &'static Scene) {
         rest: scene.text,
         has_failed: false,
     };
-    let served = serve_one(alloc, reader, writer, &roster, MOST_INPUT);
+    let most = scene.most.clamp(1, MOST_INPUT);
+    let served = serve_one(alloc, reader, writer, &roster, most);
     expect_end(rt, scene, stage, served.err());
+}
+
+fn play_both<R: Alloc<A = Global> + Abort + Threads + Wait + Sync>(rt: &R, scene: &'static Scene) {
+    play(rt, scene);
+    play_alone(rt, rt.alloc(), scene);
 }
 
 /// Of an input that comes in one read.
@@ -70,6 +80,7 @@ f,2,0,1,0,0
 g,2,0,1,0,0
 h,2,0,1,0,0",
     workers: 8,
+    most: MOST_INPUT,
     input: b"a round\nb round\nc round\nd round\ne round\nf round\ng round\nh round\n",
     more: NOTHING_MORE,
     held: 8,
@@ -85,6 +96,7 @@ f 1 ok round cost 0
 g 1 ok round cost 0
 h 1 ok round cost 0
 ",
+    rounds: 8,
     fault: None,
 };
 
@@ -99,6 +111,7 @@ static OF_NEIGHBOURS: [Scene; 5] = [
     Scene {
         records: "b,2,0,9,0,0\na,2,0,9,0,0",
         workers: 2,
+        most: MOST_INPUT,
         input: b"a round\nb round\n",
         more: More {
             times: 0,
@@ -110,24 +123,28 @@ static OF_NEIGHBOURS: [Scene; 5] = [
         until: &[Until::Written(1)],
         lines: 2,
         text: b"a 1 ok round cost 0\nb 1 ok round cost 0\n",
+        rounds: 2,
         fault: None,
     },
     // It waits at the end of the input.
     Scene {
         records: "b,2,0,9,0,0\na,2,0,9,0,0",
         workers: 2,
+        most: MOST_INPUT,
         input: b"a round\nb round\n",
         more: NOTHING_MORE,
         held: 1,
         until: &[Until::Written(1)],
         lines: 2,
         text: b"a 1 ok round cost 0\nb 1 ok round cost 0\n",
+        rounds: 2,
         fault: None,
     },
     // A line of the tenant waits for its round.
     Scene {
         records: "b,2,0,9,0,0\na,2,0,9,0,0",
         workers: 2,
+        most: MOST_INPUT,
         input: b"a round\nb round\nb where t\na costs\n",
         more: NOTHING_MORE,
         held: 1,
@@ -139,12 +156,14 @@ b 1 ok round cost 0
 b 2 no 10 no-such-task
 a 2 ok costs 0
 ",
+        rounds: 2,
         fault: None,
     },
     // The tenant's retirement waits for its round.
     Scene {
         records: "b,2,0,9,0,0\na,2,0,9,0,0",
         workers: 2,
+        most: MOST_INPUT,
         input: b"a round\nb round\n+ retire b\na costs\n",
         more: NOTHING_MORE,
         held: 1,
@@ -156,6 +175,7 @@ b 1 ok round cost 0
 + ok retired b
 a 2 ok costs 0
 ",
+        rounds: 2,
         fault: None,
     },
     // The queue is full, and the service reads on; no round is refused for that.
@@ -174,6 +194,7 @@ t10,2,0,1,0,0
 t11,2,0,1,0,0
 t12,2,0,1,0,0",
         workers: 1,
+        most: MOST_INPUT,
         input: b"\
 t01 round
 t02 round
@@ -206,6 +227,7 @@ t10 1 ok round cost 0
 t11 1 ok round cost 0
 t12 1 ok round cost 0
 ",
+        rounds: 12,
         fault: None,
     },
 ];
@@ -229,6 +251,7 @@ fn no_reply_waits_for_the_round_of_another(rt: HostRuntime) {
 static FULL: Scene = Scene {
     records: "a,2,0,1,0,0\nb,2,0,2000,0,0",
     workers: 2,
+    most: MOST_INPUT,
     input: b"\
 a round
 a
@@ -259,6 +282,7 @@ c 1 ok round cost 0
 + no 26 no-such-tenant
 b 1 no 2 bad-command
 ",
+    rounds: 3,
     fault: None,
 };
 
@@ -270,6 +294,7 @@ fn only_a_lack_of_room_for_answers_waits_for_a_round_of_another(rt: HostRuntime)
 static LATE: Scene = Scene {
     records: "a,2,0,1,0,0\nb,2,0,2000,0,0",
     workers: 2,
+    most: MOST_INPUT,
     input: b"a round\n",
     more: More {
         times: 0,
@@ -281,6 +306,7 @@ static LATE: Scene = Scene {
     until: &[Until::Waits, Until::Read(2)],
     lines: 2,
     text: b"a 1 ok round cost 0\nb 1 no 2 bad-command\n",
+    rounds: 1,
     fault: None,
 };
 
@@ -295,6 +321,7 @@ const LINES_ASKED: u64 = 50;
 static ONE_AT_A_TIME: Scene = Scene {
     records: "a,2,0,1099511627776,0,0",
     workers: 2,
+    most: MOST_INPUT,
     input: b"a round\n",
     more: More {
         times: LINES_ASKED - 1,
@@ -306,6 +333,7 @@ static ONE_AT_A_TIME: Scene = Scene {
     until: &[Until::Asleep],
     lines: LINES_ASKED,
     text: b"a 1 ok round cost 0\na 2 ok round cost 0\n",
+    rounds: LINES_ASKED,
     fault: None,
 };
 
@@ -318,18 +346,57 @@ fn each_reply_is_written_before_the_next_line_comes(rt: HostRuntime) {
 static UNFLUSHED: Scene = Scene {
     records: "a,2,0,1,0,0",
     workers: 2,
+    most: MOST_INPUT,
     input: b"a round\n",
     more: NOTHING_MORE,
     held: 0,
     until: &[],
     lines: 1,
     text: b"a 1 ok round cost 0\n",
+    rounds: 0,
     fault: Some(ServeFault::Write),
 };
 
 // Standard output has no flush that can fail, so nothing outside shows it.
 #[test]
 fn a_failed_flush_is_a_failed_write(rt: HostRuntime) {
-    play(&rt, &UNFLUSHED);
-    play_alone(&rt, rt.alloc(), &UNFLUSHED);
+    play_both(&rt, &UNFLUSHED);
+}
+
+/// An input of 7 bytes.
+static AT_MOST: [Scene; 2] = [
+    Scene {
+        records: "a,2,0,1,0,0",
+        workers: 2,
+        most: 6,
+        input: b"a show\n",
+        more: NOTHING_MORE,
+        held: 0,
+        until: &[],
+        lines: 0,
+        text: b"",
+        rounds: 0,
+        fault: Some(ServeFault::TooLong),
+    },
+    Scene {
+        records: "a,2,0,1,0,0",
+        workers: 2,
+        most: 7,
+        input: b"a show\n",
+        more: NOTHING_MORE,
+        held: 0,
+        until: &[],
+        lines: 1,
+        text: b"a 1 ok machines 0 jobs 0 tasks 0 running 0 nodes 2 of 2 arcs 0 of 0\n",
+        rounds: 0,
+        fault: None,
+    },
+];
+
+// Nobody waits for 2^32 bytes of a program's input.
+#[test]
+fn an_input_has_at_most_so_many_bytes(rt: HostRuntime) {
+    for scene in &AT_MOST {
+        play_both(&rt, scene);
+    }
 }

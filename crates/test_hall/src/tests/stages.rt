@@ -25,6 +25,8 @@ pub struct Scene {
     /// The records of its roster.
     pub records: &'static str,
     pub workers: usize,
+    /// The most bytes of input that it takes.
+    pub most: u64,
     /// What the first read gives, and what those behind it give.
     pub input: &'static [u8],
     pub more: More,
@@ -32,9 +34,11 @@ pub struct Scene {
     pub held: u32,
     /// What such a round waits for, one after the other.
     pub until: &'static [Until],
-    /// How many lines are written, and the text of the first ones.
+    /// How many lines are written, and the text of the first ones. With no line nothing is written.
     pub lines: u64,
     pub text: &'static [u8],
+    /// How many rounds it says were taken; 0 after a fault.
+    pub rounds: u64,
     /// The fault with which it ends. With a failed write its flush fails.
     pub fault: Option<ServeFault>,
 }
@@ -244,6 +248,7 @@ impl Sink for Writes<'_> {
     ghost write_failed = { λ sink. sink.has_failed };
 
     fn write(&mut self, bytes: &[u8]) -> Result<usize, Failed> {
+        self.stage.expect(self.stage.scene.lines != 0);
         let count = bytes.len().min(self.rest.len());
         self.stage.expect(bytes[..count] == self.rest[..count]);
         self.rest = &self.rest[count..];
