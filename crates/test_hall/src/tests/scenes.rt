@@ -3,7 +3,7 @@
 ghost use Rattle.std.specs.Prelude.{◌≡◌, ◌≤◌, All, IfErr};
 ghost use Rattle.std.specs.Thread.{IsSync};
 
-use super::callers::call_all;
+use super::callers::{Calls, call_all};
 use super::check;
 use super::gates::Holds;
 use super::held::expect_passed;
@@ -24,7 +24,7 @@ use std::time::Clock;
 #[derive(Clone, Copy)]
 pub enum Play {
     /// Each desk has a caller on a thread of its own.
-    Callers,
+    Callers(Calls),
     /// The gate holds one round; another comes back meanwhile.
     Passed,
     /// Two rounds are put in one go while one is held, turn after turn.
@@ -33,6 +33,8 @@ pub enum Play {
     Timed,
     /// The hall is shut right behind a round, which is asked so many turns after the worker begins.
     ShutBehind(u64),
+    /// The hall is shut before its workers start.
+    ShutFirst,
 }
 
 /// A play at the desks of these records, while workers run behind a gate for this many places.
@@ -59,11 +61,12 @@ fn act<R: Alloc<A = Global> + Abort + Clock + Threads + Wait + Sync>(
 {
     let mut desks = desks;
     match play {
-        Play::Callers => return call_all(rt, hall, desks),
+        Play::Callers(calls) => return call_all(rt, hall, desks, calls),
         Play::Passed => expect_passed(rt, rt.alloc(), hall, &mut desks, gate),
         Play::TwoEachTurn => put_two_each_turn(rt, hall, &mut desks, gate),
         Play::Timed => expect_solved_behind(rt, hall, &mut desks, gate),
         Play::ShutBehind(turns) => ask_and_shut(rt, hall, &mut desks, gate, turns),
+        Play::ShutFirst => {}
     }
     desks
 }
@@ -140,7 +143,16 @@ fn close<R: Alloc<A = Global> + Abort + Wait>(
     }
 }
 
-/// How many rounds the hall had. It closes once no report and no empty desk is missing.
+/// How many rounds the workers took.
+fn counted(reports: &[Report]) -> u64 {
+    let mut rounds = 0u64;
+    for report in reports {
+        rounds = rounds.saturating_add(report.count());
+    }
+    rounds
+}
+
+/// How many rounds the hall had. It closes once neither the last report nor the empty desks are missing.
 fn rounds_of<R: Alloc<A = Global> + Abort + Wait>(
     rt: &R,
     hall: Hall,
@@ -152,10 +164,13 @@ fn rounds_of<R: Alloc<A = Global> + Abort + Wait>(
     requires reports { All (λ r. r.queue ≡ hall.id) reports.items }
     requires empty { All (λ e. e.queue ≡ hall.id) empty.items }
 {
-    let back = close(rt, hall, desks, Vec::new(rt.alloc()), empty);
-    let (hall, desks, _, empty) = back.err().expect(rt, "a report is missing");
+    let mut reports = reports;
+    let held = reports.pop().expect(rt, "a report");
+    let back = close(rt, hall, desks, reports, empty);
+    let (hall, desks, mut reports, empty) = back.err().expect(rt, "a report is missing");
+    reports.push(held).expect(rt, "memory");
     let back = close(rt, hall, desks, reports, Vec::new(rt.alloc()));
-    let (hall, desks, reports, _) = back.err().expect(rt, "an empty desk is missing");
+    let (hall, desks, reports, _) = back.err().expect(rt, "empty desks are missing");
     let rounds = close(rt, hall, desks, reports, empty).ok();
     rounds.expect(rt, "nothing is missing")
 }
@@ -171,7 +186,27 @@ pub fn perform<R: Alloc<A = Global> + Abort + Clock + Threads + Wait + Sync>(
     let alloc = rt.alloc();
     let roster = roster_of(rt, alloc, scene.records);
     let (hall, desks, passes, empty) = Hall::open(alloc, &roster, workers).expect(rt, "memory");
+    if matches!(scene.play, Play::ShutFirst) {
+        hall.shut();
+    }
     let (reports, desks) = act_beside_workers(rt, &hall, desks, passes, scene);
+    check(
+        rt,
+        counted(&reports) == scene.rounds,
+        "the rounds of the workers",
+    );
     let rounds = rounds_of(rt, hall, desks, reports, empty);
     check(rt, rounds == scene.rounds, "the rounds of the hall");
+}
+
+const NEVER_OPEN: Scene = Scene {
+    records: "alpha,9,24,100,1,2\nbeta,8,30,100,0,3",
+    places: 0,
+    play: Play::ShutFirst,
+    rounds: 0,
+};
+
+#[test]
+fn a_hall_that_is_shut_first_has_no_rounds(rt: HostRuntime) {
+    perform(&rt, 2, NEVER_OPEN);
 }
