@@ -97,7 +97,9 @@ impl Paths {
     fn send_all_free(&mut self, table: &Table, draft: &mut Draft, rest: &mut Stack, work: &mut Work)
         ensures most { work.new.most ≡ work.old.most }
     {
-        self.begin_sweep(work);
+        if !self.begin_sweep(work) {
+            return;
+        }
         for at in 0..rest.count() {
             self.send_free(table, draft, rest.at(at), work);
         }
@@ -108,7 +110,9 @@ impl Paths {
     fn send_nearest(&mut self, table: &Table, draft: &mut Draft, rest: &mut Stack, work: &mut Work)
         ensures most { work.new.most ≡ work.old.most }
     {
-        self.begin_far(table, table.outside(), work);
+        if !self.begin_far(table, table.outside(), work) {
+            return;
+        }
         for at in 0..rest.count() {
             self.start_at(table, draft, rest.at(at), work);
         }
@@ -121,7 +125,9 @@ impl Paths {
         ensures most { work.new.most ≡ work.old.most }
     {
         for at in 0..rest.count() {
-            self.begin_far(table, table.outside(), work);
+            if !self.begin_far(table, table.outside(), work) {
+                break;
+            }
             self.start_at(table, draft, rest.at(at), work);
             self.end_send(table, draft, work);
         }
@@ -134,10 +140,9 @@ impl Paths {
         ensures most { work.new.most ≡ work.old.most }
     {
         for _ in 0..=table.tasks() {
-            if !self.is_lacking() || work.is_short() {
+            if !self.is_lacking() || work.is_short() || !self.begin_sweep(work) {
                 return;
             }
-            self.begin_sweep(work);
             for machine in 0..table.machines() {
                 self.pull_slots(table, draft, machine, work);
             }
@@ -178,13 +183,13 @@ impl Paths {
         self.lacks > 0
     }
 
-    // Begins a sweep, if a search is left: prices have changed, so what led nowhere may lead on again. A sweep
-    // counts as one search, since no place that led nowhere is seen in it twice.
-    fn begin_sweep(&mut self, work: &mut Work)
+    // Begins a sweep, if a search is left, which it says: prices have changed, so what led nowhere may lead on again. A
+    // sweep counts as one search, since no place that led nowhere is seen in it twice.
+    fn begin_sweep(&mut self, work: &mut Work) -> bool
         ensures most { work.new.most ≡ work.old.most }
     {
-        work.begin_search();
         self.sweep = self.sweep.saturating_add(1);
+        work.begin_search()
     }
 
     // Sends a task that is left out over ways that cost nothing more, and says whether it found one.
@@ -411,7 +416,9 @@ impl Paths {
     fn pull(&mut self, table: &Table, draft: &mut Draft, work: &mut Work)
         ensures most { work.new.most ≡ work.old.most }
     {
-        self.begin_far(table, table.hub(), work);
+        if !self.begin_far(table, table.hub(), work) {
+            return;
+        }
         self.start_outside(table.outside());
         let end = self.find(table, draft, work);
         if end == NONE {
@@ -437,14 +444,14 @@ impl Paths {
         }
     }
 
-    // Begins a search for a cheapest path to this place.
-    fn begin_far(&mut self, table: &Table, goal: u32, work: &mut Work)
+    // Begins a search for a cheapest path to this place, if one is left, which it says.
+    fn begin_far(&mut self, table: &Table, goal: u32, work: &mut Work) -> bool
         ensures most { work.new.most ≡ work.old.most }
     {
-        work.begin_search();
         self.begin(table, goal);
         self.nearest.clear(table.places());
         self.settled.clear();
+        work.begin_search()
     }
 
     // Settles places, the nearest first, up to an end, which it gives; `NONE` if there is none.

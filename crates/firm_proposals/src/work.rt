@@ -1,4 +1,4 @@
-//! What a proposal costs: searches and looks, counted one by one as they are made.
+//! What a proposal costs: its searches and looks, counted as they are made.
 ghost use Rattle.std.specs.Prelude.{◌≡◌, ◌≤◌};
 
 use std::marker::Model;
@@ -10,8 +10,10 @@ pub struct Allowance {
     pub looks: u64,
 }
 
-/// The searches and the looks that were made, and how many are allowed. None is made that is not counted: a look at a
-/// task, at one of its ways or at a link is made only where one is left.
+/// The searches and the looks that were counted, and how many are allowed. A look is at a task that trades or chooses,
+/// or at what a search tries: a task's way, or a link of units. A search is begun, and a look made, only where one is
+/// left. Passes over a table are not counted: those that read a case, find a task's cheapest way, or find the ways and
+/// machines that cost nothing more.
 #[derive(Drop)]
 pub struct Work {
     searches: u64,
@@ -52,7 +54,7 @@ impl Work {
         }
     }
 
-    /// How many searches were made. Each took a look to begin.
+    /// How many searches were counted. Each took a look to begin, and a sweep is one.
     pub fn searches(&self) -> u64
         ensures searches { result ≡ self.now.searches }
         ensures most { result ≤ self.now.most.0 }
@@ -60,7 +62,7 @@ impl Work {
         self.searches
     }
 
-    /// How many looks were made.
+    /// How many looks were counted.
     pub fn looks(&self) -> u64
         ensures looks { result ≡ self.now.looks }
         ensures most { result ≤ self.now.most.1 }
