@@ -8,7 +8,7 @@ use firm_rents::shows_first;
 use firm_rules::{Case, Choice, Limits};
 use std::alloc::{AllocError, Global};
 
-/// The most looks that a proposal may take; some 40 times the most seen for 3,000 tasks on 1,000 machines.
+/// The most looks that a proposal may take; over 100 times the most seen for 3,000 tasks on 1,000 machines.
 const MOST_LOOKS: u64 = 1 << 24;
 
 /// What proposes rounds, and how many looks it may take for each.

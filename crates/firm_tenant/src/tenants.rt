@@ -145,8 +145,8 @@ impl Tenant {
         self.pool.allow_proposals(looks);
     }
 
-    /// The workspace of the tenant's rounds, for a net of the tenant's limits. It counts the searches and looks of the
-    /// last round, and the looks of its proposal.
+    /// The workspace of the tenant's rounds, for a net of the tenant's limits. That it counts the searches and looks of
+    /// the last round, and the looks of its proposal, is a clause of the pool's answer, private.
     pub fn scratch(&self) -> &Scratch
         ensures { result.now.limits ≡ (self.now.rows.limits.nodes, self.now.rows.limits.arcs) }
     {
