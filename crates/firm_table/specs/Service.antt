@@ -86,10 +86,6 @@ pub record StoppedFrom (places : List Place) (most : ℕ) (reader writer : Devic
 abbrev pub Answers : List RosterRow → List ℕ → Option (List ℕ) → Option (List ℕ) → Type 0
 Answers roster = AnswersFrom (opening_places roster)
 
--- or a prefix of it
-abbrev pub BeginsAnswers : List RosterRow → List ℕ → Option (List ℕ) → Option (List ℕ) → Type 0
-BeginsAnswers roster = BeginsAnswersFrom (opening_places roster)
-
 -- such a service has read all and written its output
 abbrev pub Served : List RosterRow → ℕ → Device → Device → Type 0
 Served roster = ServedFrom (opening_places roster)

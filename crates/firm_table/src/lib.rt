@@ -64,5 +64,5 @@ pub use reading::{MOST_INPUT, serve_lines};
 pub use serving::{serve_one, serve_one_from, serve_to_state};
 pub use table::Table;
 pub use tenants::Tenants;
-pub use watching::{Watcher, serve_watched, serve_watched_from};
+pub use watching::{Watcher, serve_watched_from};
 pub use writing::write_held;

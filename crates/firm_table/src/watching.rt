@@ -3,8 +3,8 @@
 ghost use Rattle.std.specs.Prelude.{◌≡◌, ◌^◌, ℕ, List, Option, [], false, OnOk, OnErr, IfErr, IfSome};
 ghost use Rattle.firm_rules.specs.Book.{Book};
 ghost use Rattle.firm_table.specs.Openings.{places_opened};
-ghost use Rattle.firm_table.specs.Service.{Answers, IsWritingFault, Served, Stopped, UpToDate, between};
-ghost use Rattle.firm_table.specs.Service.{AnswersFrom, BeginsAnswersFrom, ServedFrom, StoppedFrom};
+ghost use Rattle.firm_table.specs.Service.{AnswersFrom, BeginsAnswersFrom, IsWritingFault, ServedFrom, StoppedFrom};
+ghost use Rattle.firm_table.specs.Service.{UpToDate, between};
 ghost use Rattle.firm_table.specs.declared.faults.ServeFault.TheVariants.{Read};
 ghost use Rattle.firm_table.specs.inner.Books.{book_named};
 ghost use Rattle.firm_table.specs.inner.Granting.{ToldAs};
@@ -16,7 +16,7 @@ use crate::openings::Opening;
 use crate::reading::{MOST_INPUT, serve_lines};
 use crate::serving::Service;
 use firm_rules::{Command, Name, RecentCosts, Rows};
-use firm_text::{Line, Roster, Sink, Source};
+use firm_text::{Line, Sink, Source};
 use std::alloc::{AllocError, Global};
 
 /// A watcher of a service's rounds, which is shown the tenant's book before each and its rows after it.
@@ -34,32 +34,12 @@ pub trait Watcher {
     fn after_round(&mut self, name: Name, rows: &Rows) -> Result<(), AllocError>;
 }
 
-/// Answers the lines of an input of at most 2^32 bytes as `serve_one` does, regardless of the watcher, and shows it
-/// each round. What the watcher writes after a round to another sink, perhaps of the same device, comes after the reply
-/// to that round.
+/// Answers the lines of an input of at most 2^32 bytes as `serve_one_from` does, regardless of the watcher, and shows
+/// it each round. What the watcher writes after a round to another sink, perhaps of the same device, comes after the
+/// reply to that round.
 ///
-/// Reads, writes to the writer and ends as `serve_one` does, except that `Memory` may also say that the watcher was
-/// refused memory.
-pub fn serve_watched<R: Source, W: Sink, V: Watcher>(
-    alloc: Global,
-    reader: &mut R,
-    writer: &mut W,
-    watcher: &mut V,
-    roster: &Roster,
-) -> Result<(), ServeFault>
-    requires reader { R.read_failed reader.old ≡ false }
-    requires writer { W.write_failed writer.old ≡ false }
-    ensures served { OnOk result (Served roster.now (2 ^ 32)
-        (between R.left R.read_failed reader.old reader.new) (between W.written W.write_failed writer.old writer.new)) }
-    ensures stopped { IfErr result (Stopped roster.now (2 ^ 32)
-        (between R.left R.read_failed reader.old reader.new) (between W.written W.write_failed writer.old writer.new)) }
-    ensures in_full { IfErr result (λ fault. fault ≡ Read → UpToDate (Answers roster.now)
-        (between R.left R.read_failed reader.old reader.new) (between W.written W.write_failed writer.old writer.new)) }
-{
-    serve_watched_from(alloc, reader, writer, watcher, Opening::Roster(roster))
-}
-
-/// The same as `serve_watched`, for a service that opens with a roster or with a saved state.
+/// Reads, writes to the writer and ends as `serve_one_from` does, except that `Memory` may also say that the watcher
+/// was refused memory.
 pub fn serve_watched_from<R: Source, W: Sink, V: Watcher>(
     alloc: Global,
     reader: &mut R,
