@@ -488,7 +488,7 @@ def statuses(options: Options) -> None:
         cases: list[tuple[list[str], int, bytes]] = [
             ([], 2, neither),
             (["--roster", roster, "--state", state], 2, both),
-            (["--state", state, "--tenant", "A"], 2, b"a tenant is no name"),
+            (["--state", state, "--tenant", "A"], 2, b"a tenant's name is not valid"),
             (["--roster", "/nonexistent"], 3, b"cannot read roster"),
             (["--state", "/nonexistent"], 3, b"cannot read state"),
             (["--roster", faulty], 3, b"roster fault 1 header"),

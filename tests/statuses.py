@@ -285,7 +285,7 @@ def faulty_words(built: str) -> None:
             found = run(built, words, b"a show\n")
             require(found == (2, b"", f"firm: {said}\n".encode()), f"{words}: {found}")
     found = run(built, [b"--roster", b"\xff.csv"])
-    require(found == (2, b"", b"firm: the command line is no text\n"), found)
+    require(found == (2, b"", b"firm: the command line is not UTF-8\n"), found)
 
 
 def requests(built: str) -> None:

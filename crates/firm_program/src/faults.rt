@@ -42,11 +42,11 @@ pub enum WordsFault {
     NoFile,
     #[error("a roster and a state: give --roster FILE or --state FILE, not both")]
     TwoFiles,
-    #[error("the command line is no text")]
+    #[error("the command line is not UTF-8")]
     NoText,
-    #[error("a tenant is no name")]
+    #[error("a tenant's name is not valid")]
     NoTenant,
-    #[error("the tenant or the task is no name")]
+    #[error("the tenant's or the task's name is not valid")]
     NoTenantOrTask,
 }
 

@@ -18,7 +18,7 @@ use std::rt::Files;
 // One byte more than a roster may have, so that a longer file is recognized as such.
 const MOST_OF_ROSTER: u64 = LONGEST_ROSTER as u64 + 1;
 
-/// So many bytes of a state's file are read at most. No state is longer: it has at most 262,210 lines, of at most 135
+/// The most bytes of a state's file that are read. No state is longer: it has at most 262,210 lines, of at most 135
 /// bytes each.
 pub const LONGEST_STATE: u64 = 41_943_040;
 
