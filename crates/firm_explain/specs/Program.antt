@@ -10,8 +10,8 @@ use Rattle.firm_program.specs.declared.faults.Fault.TheVariants.{Service}
 use Rattle.firm_program.specs.declared.words.Named.{Named}
 use Rattle.firm_explain.specs.CommandLine.{AskAmiss, AskFor, faults_in}
 
--- how the program stops once it has the path of its file: as `firm` does, or after all replies, if the reasons could
--- not be written
+-- how the program stops once it has the path of its file: as `firm` does, or after all replies, with the fault of a
+-- failed write, which is one of reasons
 pub data StopsExplaining (named : Named) (reader replies : Device) (fault : Fault) : Type 0 where
   StopsServing : StopsFile named reader replies fault → StopsExplaining named reader replies fault
   LosesReasons : fault ≡ Service Write → ServesFile named reader replies → StopsExplaining named reader replies fault

@@ -13,11 +13,13 @@
 //! - With status 0 some text was a roster, or there was a sound state, as the words have it, and the sink of replies
 //!   got what `firm` writes.
 //! - With a fault's status the file was refused, and nothing was read; or the service stopped; or all replies were
-//!   written, and reasons could not be.
+//!   written, and the status is that of a failed write.
 //!
 //! The words ask for none: they name no file, or two, or a tenant or a task that is no name; or they were answered as
 //! firm_program has it. Then nothing was read. A failed write to the sink of faults changes no status. This contract
-//! doesn't say what goes to the sink of reasons, nor what other options do.
+//! doesn't see the sink of reasons, as that of the service says nothing of its watcher: that runs which wrote all
+//! replies end with a failed write just where reasons were lost is tested (`tests/explain.py`). Nor does it say what
+//! other options do.
 //!
 //! With `--rows` what is written for a round begins with the rows of its tenant's book before it, in the words of a
 //! state (`specs/RoundRows.antt`): the service shows the watcher that book, the watcher keeps its text (`awaits` of
@@ -25,8 +27,8 @@
 //!
 //! A `Market` is a round that is explained: by its ghost fields its placement is legal, the low and the high rents show
 //! it to be least, and no low rent is above the high one. `Market::of` has `firm_rents` check all that, else the
-//! reasons are the line `# NOT SHOWN to be least`. Printed numbers rest on these contracts (claims: docs/TRUST.md,
-//! firm_rents):
+//! reasons are the line `# NOT SHOWN to be least`. Printed numbers rest on these contracts (claims:
+//! docs/results/claims.md, Rents):
 //!
 //! - the cost, payments and gains: `shows_least`
 //! - loads, moves, preemptions, waits, remote: `parts_of`

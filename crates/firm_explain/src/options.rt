@@ -144,7 +144,7 @@ fn command_line<'a>(alloc: Global) -> Result<Command<'a>, AllocError>
     ensures { IfOk result IsCommandLine }
 {
     Command::new(alloc, "firm_explain")
-        .about("Answers as firm does, and writes behind each round why it is the cheapest")
+        .about("Answers as firm does, and writes after each round why it is the cheapest")
         .after_help(MEASURING)
         .arg(roster_option(alloc))?
         .arg(state_option(alloc))?
