@@ -224,9 +224,19 @@ fn place_crowd(rt: &impl Abort, alloc: Global, book: &mut Book) {
     }
     let mut work = ample();
     let case = book.graph.rows().case();
+    expect_no_search(rt, &mut book.proposer, case);
     let is_proposed = is_first(&mut book.proposer, case, &mut work);
     check(rt, is_proposed, "a round is proposed");
     check(rt, work.searches() < 20, "a crowd takes few searches");
+}
+
+// Where no search is allowed none is made: three looks at each task find that some have no slot.
+fn expect_no_search(rt: &impl Abort, proposer: &mut Proposer, case: &Case) {
+    let looks = 1_000_000;
+    let mut work = Work::new(Allowance { searches: 0, looks });
+    let is_proposed = proposer.propose(case, None, &mut work);
+    check(rt, !is_proposed, "a search is refused");
+    expect(rt, work.looks(), 3 * 44);
 }
 
 /// Heavier tasks that come to full machines take the places of the lightest, without a search for each.
