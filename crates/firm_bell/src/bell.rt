@@ -78,7 +78,7 @@ impl Model for Listener {
 }
 
 impl Bell {
-    /// Fails only if memory is refused.
+    /// A bell for 1 to 8 workers. Fails only if memory is refused.
     pub fn open(alloc: Global, workers: usize) -> Result<Bell, AllocError>
         requires { (1 ≤ workers) × (workers ≤ 8) }
     {

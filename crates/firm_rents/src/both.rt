@@ -52,8 +52,8 @@ impl<'a> Nearest<'a> {
         self.gap
     }
 
-    /// The machine that costs the task least more, the first if several do, apart from the task's choice and its own
-    /// machine; `Wait` if there is no such machine.
+    /// A machine that costs the task least more, apart from the task's choice and its own machine; `Wait` if there is
+    /// no such machine.
     pub fn machine(&self, case: &Case, task: usize, chosen: Choice) -> Choice
         requires task { task < length case.now.tasks }
         requires one_each { length self.now.low.now ≡ length case.now.slots }

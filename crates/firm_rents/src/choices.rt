@@ -29,9 +29,8 @@ pub fn excess(case: &Case, rents: &Rents, task: usize, chosen: Choice, other: Ch
     paid(case, rents, task, other).saturating_sub(paid(case, rents, task, chosen))
 }
 
-/// The machine that costs the task of this number least with its rent, apart from these two; the first if several do,
-/// and `Wait` if there is no other machine. Looks at the task's own machine, those it prefers, and the first with the
-/// lowest rent.
+/// A machine that costs the task of this number least with its rent, apart from these two; `Wait` if there is no other
+/// machine. Looks at the task's own machine, those it prefers, and one with the lowest rent.
 pub fn cheapest_other(case: &Case, rents: &Rents, task: usize, one: Choice, other: Choice) -> Choice
     requires task { task < length case.now.tasks }
     requires one_each { length rents.now ≡ length case.now.slots }

@@ -19,7 +19,7 @@ use crate::rents::MOST_RENT;
 use firm_levels::{Class, LevelRents};
 use firm_rules::{Case, Choice, MOST_MACHINES, legality_is_judged, slot_cost};
 
-/// Whether rents in levels, whoever proposed them, show that a placement is the round's: it is legal, no legal one
+/// Whether rents in levels, from any proposer, show that a placement is the round's: it is legal, no legal one
 /// costs less, and none that costs as much comes before it. Where the answer is no, nothing is said. Takes no memory.
 pub fn shows_first(case: &Case, rents: &LevelRents, placement: &[Choice]) -> bool
     ensures { IsTrue result → IsRound case.now placement.now }

@@ -5,8 +5,8 @@
 //! job and machines exist, no machine runs more tasks than it has slots, no wait is above the patience, the limits of
 //! nodes and arcs are kept. A `Book` is rows, costs and a count of commands.
 //!
-//! A round is a function, `round_placement` in `specs/Round.antt`, which three laws (docs/TRUST.md) read aloud;
-//! `proofs/RoundExamples.antt` computes worked rounds with all their placements. Three more laws, in
+//! A round is a function, `round_placement` in `specs/Round.antt`, which three laws (docs/results/claims.md) read
+//! aloud; `proofs/RoundExamples.antt` computes worked rounds with all their placements. Three more laws, in
 //! `specs/Preemption.antt`, say what a preemption takes (docs/PLACEMENT.md), one in `specs/Starvation.antt` what a
 //! round does to a long wait.
 //!

@@ -19,7 +19,7 @@ pub enum FaultKind {
     Version,
     /// Its words are no row, or the row may not stand there.
     Row,
-    /// A name has not the form of one.
+    /// A name is malformed.
     BadName,
     /// A number is not written as one, or is out of its range.
     BadNumber,
