@@ -2,7 +2,7 @@
 //! is too large.
 use super::expect;
 use Refused::{Full, Worn};
-use Step::{Found, Put, Room, Taken};
+use Step::{Counts, Found, Put, Taken};
 use firm_arena::{Arena, Id, Refused};
 use std::alloc::Global;
 use std::cell::Cell;
@@ -85,7 +85,8 @@ enum Step {
     Taken(usize, Option<u32>),
     /// What it finds.
     Found(usize, Option<u32>),
-    Room(u32),
+    /// How many values it holds, and how many more fit.
+    Counts(u32, u32),
 }
 
 fn put_number(
@@ -112,7 +113,7 @@ fn make(rt: &impl Abort, arena: &mut Arena<u32>, ids: &mut Vec<Id>, step: &Step)
         Put(number, wanted) => expect(rt, put_number(rt, arena, ids, *number) == *wanted, true),
         Taken(id, wanted) => expect(rt, arena.take(id_of(rt, ids, *id)), *wanted),
         Found(id, wanted) => expect(rt, arena.get(id_of(rt, ids, *id)).copied(), *wanted),
-        Room(wanted) => expect(rt, arena.room(), *wanted),
+        Counts(held, free) => expect(rt, (arena.len(), arena.room()), (*held, *free)),
     }
 }
 
@@ -150,7 +151,9 @@ static PLAYED: [&Script; 4] = [
             Found(0, None),
             Found(2, Some(40)),
             Found(1, Some(20)),
-            Room(0),
+            Counts(2, 0),
+            Taken(1, Some(20)),
+            Counts(1, 1),
         ],
     ),
     &(0, None, &[Put(1, Some(Full(1)))]),

@@ -5,7 +5,7 @@ use super::books::{add_job, add_machine, add_task, name, opened, settle};
 use super::nets::{Link, TWO_RUNNING_TASKS, TWO_WAITING_TASKS};
 use super::{check, expect};
 use Choice::{On, Wait};
-use Step::{Costs, Job, Machine, Network, NotLegal, Settle, Slots, Task};
+use Step::{Costs, Job, Machine, Network, NotLegal, Settle, Slots, Sources, Task};
 use firm_graph::Graph;
 use firm_net::NodeId;
 use firm_rents::{Rents, high_rents, lost_by_slot, low_rents, saved_by_slot};
@@ -27,6 +27,8 @@ enum Step {
     Settle(&'static [Choice]),
     /// All arcs of the network, in the order in which they were added. Nodes are the sink, the hub, and those of rows.
     Network(&'static [Link]),
+    /// The nodes of the tasks, in order of submission.
+    Sources(&'static [u32]),
     /// These are legal, each with its cost, and each comes before the next one.
     Costs(&'static [Priced]),
     NotLegal(&'static [Choice]),
@@ -64,6 +66,14 @@ fn expect_network(rt: &impl Abort, graph: &Graph, links: &[Link]) {
         place = place.wrapping_add(1);
     }
     expect(rt, graph.net().used(), place);
+}
+
+fn expect_sources(rt: &impl Abort, graph: &Graph, wanted: &[u32]) {
+    let sources = graph.sources();
+    expect(rt, sources.len(), wanted.len());
+    for (source, node) in sources.iter().zip(wanted) {
+        expect(rt, number_of(graph, *source), Some(*node));
+    }
 }
 
 fn expect_cost(rt: &impl Abort, rows: &Rows, placement: &[Choice], cost: i64) {
@@ -143,6 +153,7 @@ fn take(rt: &impl Abort, alloc: Global, graph: &mut Graph, step: &Step) {
         }
         Settle(placement) => settle(rt, graph, placement),
         Network(links) => expect_network(rt, graph, links),
+        Sources(wanted) => expect_sources(rt, graph, wanted),
         Costs(wanted) => expect_placements(rt, graph.rows(), wanted),
         NotLegal(placement) => expect(rt, legal(graph.rows(), placement), false),
         Slots(placement, wanted) => {
@@ -184,6 +195,7 @@ static PLAYED: [&Worked; 11] = [
             Settle(&[On(0), On(1)]),
             Task(b"j", b"c", &[]),
             Network(&TWO_RUNNING_TASKS),
+            Sources(&[5, 6, 7]),
         ],
     ),
     // A task that prefers both machines, waits once and then runs on one.

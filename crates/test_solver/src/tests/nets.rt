@@ -6,13 +6,14 @@ ghost use Rattle.firm_paths.specs.NetArcs.{limits_of};
 
 use super::books::Workspace;
 use super::{check, expect};
-use Step::{Arcs, Counts, Flows, Looks, Nodes, Reused, Solved};
+use Step::{Arcs, Counts, Flows, Nodes, Reused, Searched, Solved};
+use Way::{Backward, Forward};
 use firm_flow::{
     NoWay, balanced_flows, conserved_where_balanced, differ_only_where_tight,
     least_with_valid_prices, none_where_cut_off, round_a_cycle, solve,
 };
 use firm_net::{ArcId, ArcRefusal, ArcRow, Arcs as Walk, Net, NoNode, NodeId, NodeRefusal, Way};
-use firm_paths::{arcs_are_rows, searches_add_up, tight_path};
+use firm_paths::{Step as PathStep, arcs_are_rows, searches_add_up, tight_path};
 use std::alloc::Global;
 use std::process::Abort;
 
@@ -32,9 +33,10 @@ enum Step {
     Counts(&'static [usize], (u64, u64)),
     /// What flows from an arc on, along it and those behind it.
     Flows(usize, &'static [u32]),
-    /// How often a search for a path of no cost looks at an arc: from a node to node 0, not along these arcs.
-    Looks(usize, &'static [usize], u64),
-    /// An arc is added, carries a unit and goes, and one like it takes its place.
+    /// A search for a path of no cost from a node to node 0, not along these arcs: how often it looks at an arc, and
+    /// the path's steps, if there is a path.
+    Searched(usize, &'static [usize], u64, Option<&'static [(usize, Way)]>),
+    /// An arc between other nodes than node 0 is added, carries a unit and goes, and one like it takes its place.
     Reused(Link),
 }
 
@@ -141,34 +143,65 @@ fn expect_flows(rt: &impl Abort, world: &World, first: usize, flows: &[u32]) {
     }
 }
 
-// Looks for a path, and says how many looks that took.
-fn looks_in(
+// The search for a path that is this one, or for one where there is none: its looks.
+fn search_in(
     rt: &impl Abort,
     net: &Net,
     space: &mut Workspace,
-    ends: (NodeId, NodeId),
-    barred: &[ArcId],
+    asked: (NodeId, NodeId, &[ArcId]),
+    wanted: Option<&[PathStep]>,
 ) -> u64
     requires { (space.old.prices.limits ≡ limits_of net.now) × (space.old.scratch.limits ≡ limits_of net.now) }
 {
-    let (from, to) = ends;
+    let (from, to, barred) = asked;
     check(rt, from != to, "the nodes differ");
     check(rt, net.place(from).is_some(), "the first node is there");
     check(rt, net.place(to).is_some(), "the last node is there");
     let (prices, scratch) = (&space.prices, &mut space.scratch);
-    tight_path(scratch, net, prices, from, to, barred);
+    let found = tight_path(scratch, net, prices, from, to, barred);
+    expect(rt, found, wanted);
     expect(rt, space.scratch.searches(), 1);
     space.scratch.looks()
 }
 
-fn looks(rt: &impl Abort, alloc: Global, world: &World, from: usize, barred: &[usize]) -> u64 {
-    let ends = (at(rt, &world.nodes, from), at(rt, &world.nodes, 0));
-    let barred = all_at(rt, alloc, &world.arcs, barred);
-    let mut space = Workspace::new(rt, alloc, &world.net);
-    looks_in(rt, &world.net, &mut space, ends, &barred)
+fn steps_at(
+    rt: &impl Abort,
+    alloc: Global,
+    arcs: &[ArcId],
+    steps: &[(usize, Way)],
+) -> Vec<PathStep> {
+    let mut found = Vec::new(alloc);
+    for (number, way) in steps {
+        let step = PathStep {
+            arc: at(rt, arcs, *number),
+            way: *way,
+        };
+        found.push(step).expect(rt, "memory");
+    }
+    found
 }
 
-// An arc that went answers no more, whatever has its place.
+fn looks(
+    rt: &impl Abort,
+    alloc: Global,
+    world: &World,
+    (from, barred): (usize, &[usize]),
+    steps: Option<&[(usize, Way)]>,
+) -> u64 {
+    let (from, to) = (at(rt, &world.nodes, from), at(rt, &world.nodes, 0));
+    let barred = all_at(rt, alloc, &world.arcs, barred);
+    let mut space = Workspace::new(rt, alloc, &world.net);
+    let asked = (from, to, &barred[..]);
+    match steps {
+        Some(steps) => {
+            let steps = steps_at(rt, alloc, &world.arcs, steps);
+            search_in(rt, &world.net, &mut space, asked, Some(&steps))
+        }
+        None => search_in(rt, &world.net, &mut space, asked, None),
+    }
+}
+
+// An arc that went answers no more, though the one that has its place might be changed like that.
 fn expect_gone(rt: &impl Abort, net: &mut Net, arc: ArcId, head: NodeId) {
     expect(rt, net.arc(arc), None);
     expect(rt, net.remove_arc(arc), None);
@@ -177,14 +210,15 @@ fn expect_gone(rt: &impl Abort, net: &mut Net, arc: ArcId, head: NodeId) {
     expect(rt, net.retarget(arc, head), false);
 }
 
-fn reuse(rt: &impl Abort, net: &mut Net, row: ArcRow, full: ArcRow) {
+// The third node is at neither end of the arc.
+fn reuse(rt: &impl Abort, net: &mut Net, row: ArcRow, full: ArcRow, third: NodeId) {
     let first = add(rt, net, row);
     let used = net.used();
     expect(rt, net.push(first, Way::Forward), true);
     expect(rt, net.remove_arc(first), Some(full));
     let second = add(rt, net, row);
     expect(rt, (net.used(), first == second), (used, false));
-    expect_gone(rt, net, first, row.tail());
+    expect_gone(rt, net, first, third);
     expect(rt, net.arc(second), Some(row));
 }
 
@@ -193,7 +227,8 @@ fn reuse_like(rt: &impl Abort, world: &mut World, link: &Link) {
         row(rt, &world.nodes, link, 0),
         row(rt, &world.nodes, link, 1),
     );
-    reuse(rt, &mut world.net, row, full);
+    let third = at(rt, &world.nodes, 0);
+    reuse(rt, &mut world.net, row, full, third);
 }
 
 fn take(rt: &impl Abort, alloc: Global, world: &mut World, step: &Step) {
@@ -203,7 +238,10 @@ fn take(rt: &impl Abort, alloc: Global, world: &mut World, step: &Step) {
         Solved(sources, wanted) => expect(rt, solved(rt, alloc, world, sources).0, *wanted),
         Counts(sources, wanted) => expect(rt, solved(rt, alloc, world, sources).1, *wanted),
         Flows(first, flows) => expect_flows(rt, world, *first, flows),
-        Looks(from, barred, wanted) => expect(rt, looks(rt, alloc, world, *from, barred), *wanted),
+        Searched(from, barred, wanted, steps) => {
+            let found = looks(rt, alloc, world, (*from, barred), *steps);
+            expect(rt, found, *wanted);
+        }
         Reused(link) => reuse_like(rt, world, link),
     }
 }
@@ -263,7 +301,7 @@ pub const TWO_RUNNING_TASKS: [Link; 16] = [
 ];
 
 // Each begins with a net of no nodes.
-static PLAYED: [&[Step]; 13] = [
+static PLAYED: [&[Step]; 14] = [
     &[
         Nodes(7),
         Arcs(&TWO_WAITING_TASKS),
@@ -284,7 +322,10 @@ static PLAYED: [&[Step]; 13] = [
         Nodes(4),
         Arcs(&[(1, 3, [0, 1, 1]), (2, 3, [0, 1, 1]), (3, 0, [0, 1, 1])]),
         Solved(&[1], Ok(2)),
+        Flows(0, &[1, 0, 1]),
+        // Where there is no way for both, none is left half done.
         Solved(&[1, 2], Err(NoWay)),
+        Flows(0, &[0, 0, 0]),
         // One look at the source, and three at the node between it and the sink.
         Counts(&[1], (1, 4)),
         // The second search goes from its source to the node between, and back to the first source.
@@ -364,11 +405,20 @@ static PLAYED: [&[Step]; 13] = [
             (1, 0, [0, 1, 6]),
         ]),
         // Three arcs at the end, and two at each of the nodes in the middle, though the start was seen from the first.
-        Looks(1, &[], 7),
+        Searched(1, &[], 7, Some(&[(2, Forward), (3, Forward)])),
         // A barred arc is looked at, and leads to no node.
-        Looks(1, &[0], 7),
-        Looks(1, &[1, 3], 3),
-        Looks(4, &[], 10),
+        Searched(1, &[0], 7, Some(&[(2, Forward), (3, Forward)])),
+        Searched(1, &[2], 7, Some(&[(0, Forward), (1, Forward)])),
+        Searched(1, &[1, 3], 3, None),
+        Searched(4, &[], 10, None),
+    ],
+    // A path goes back along an arc that carries a unit.
+    &[
+        Nodes(3),
+        Arcs(&[(1, 2, [0, 1, 0]), (2, 0, [0, 1, 0])]),
+        Solved(&[1], Ok(0)),
+        Arcs(&[(1, 0, [0, 1, 0])]),
+        Searched(2, &[], 4, Some(&[(0, Backward), (2, Forward)])),
     ],
     // The place of an arc that went is used again.
     &[

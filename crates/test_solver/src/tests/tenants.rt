@@ -44,6 +44,8 @@ fn play(rt: &impl Abort, alloc: Global, (room, rows, allowed, wanted): &Counted)
     add_many(rt, alloc, &mut tenant, machines, tasks);
     give(rt, alloc, &mut tenant, Command::Round);
     let scratch = tenant.scratch();
+    // Of all commands the round alone begins a count.
+    expect(rt, scratch.begins(), 1);
     let counts = (scratch.searches(), scratch.looks(), scratch.proposed());
     expect(rt, counts, *wanted);
 }
