@@ -24,7 +24,9 @@
 //! the base, as after a search for another goal.
 //!
 //! `tight_path` and `tight_paths` are one breadth-first search from the end of the paths against the arcs, up to where
-//! the path begins, or else through all nodes. A search resets only the nodes that the one before visited.
+//! the path begins, or else through all nodes. A search resets only the nodes that the one before visited. `path_from`,
+//! which `first_best` of firm_canon calls for each open arc that it tries, looks for its node among all visits: up to a
+//! step for each node of the net, and none of them is counted as a look.
 
 mod laws;
 mod prices;
