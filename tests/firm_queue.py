@@ -26,6 +26,7 @@ from pathlib import Path
 
 import queue_access
 import queue_bounds
+import queue_gaps
 import queue_hostile
 import queue_kills
 import queue_tables
@@ -727,6 +728,7 @@ CHECKS: tuple[Callable[[Setup], None], ...] = (
     *(silence, mute, registrations, lost_claim, marks, kept_late, damage, full_disk, *queue_access.CHECKS),
     *queue_hostile.CHECKS,
     *queue_bounds.CHECKS,
+    *queue_gaps.CHECKS,
 )
 
 

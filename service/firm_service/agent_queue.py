@@ -317,12 +317,13 @@ class QueueSource:
 
     def _keep(self, tokens: Sequence[str]) -> None:
         """Records it before the queue takes the runs' rows away. Of what the disk does not take the queue tells again,
-        as long as it is to be kept."""
-        kept = []
+        as long as it is to be kept. What is kept already is said again, as an earlier connection may have lost that."""
+        kept = [run.token for run in self.agent.history.runs.values() if run.is_kept]
         for run in self._runs_of(tokens):
+            if run.is_kept:
+                continue
             try:
-                if not run.is_kept:
-                    self.agent.state.record("keep", run=run.number)
+                self.agent.state.record("keep", run=run.number)
                 kept.append(run.token)
             except OSError as error:
                 self._tell_once(f"{self.agent.state.folder}: {error}")

@@ -131,7 +131,7 @@ class Agents:
                 mark = self.core.marks.get(machine)
                 if mark is None and not kept[machine]:
                     wanted[machine] = slots
-                elif mark == CORDONED and not loads[machine]:
+                elif not loads[machine]:  # cordoned, or with runs that were kept only after the cordon was taken back
                     unwanted.add(machine)
         return Machines(wanted, unwanted - wanted.keys())
 
@@ -236,7 +236,9 @@ class Agents:
     def _must_end(self, token: str) -> bool:
         attempt = self.core.rows.open.get(token)
         task = self.core.rows.task(attempt.name) if attempt is not None else None
-        return attempt is None or task is None or attempt.is_kept and task.is_cancelled
+        if attempt is None or task is None:
+            return True
+        return attempt.is_kept and (task.is_cancelled or self.core.marks.get(attempt.machine) == DRAINED)
 
     def _is_to_keep(self, attempt: Attempt) -> bool:
         return attempt.is_kept or self.core.marks.get(attempt.machine) == CORDONED
@@ -408,19 +410,24 @@ class Agents:
                 agent.session.tell({"tell": "again"})
 
     async def kept(self, session: Session, given: Json) -> int:
-        """Takes in that an agent goes on with runs although firm will have no rows of them."""
+        """Takes in that an agent goes on with runs although firm will have no rows of them. That holds though a cordon
+        was taken back meanwhile, since firm's rows end them no more: what is not to go on is told to end."""
         Fields(given, ["ask", "tokens"])
-        agent, count = self.of_session(session), 0
+        agent, found = self.of_session(session), []
         for token in tokens_of(given, "tokens"):
             attempt = self.core.rows.open.get(token)
-            if attempt is not None and attempt.agent_id == agent.id and self._is_to_keep(attempt):
+            if attempt is None or attempt.agent_id != agent.id:
+                continue
+            found.append(attempt)
+            if not attempt.is_kept:
                 self.core.store.require_good()
                 attempt.is_kept = True
                 self.core.store.save_attempt(attempt)
                 self.core.look_at([attempt.name])
-                count += 1
         await self.core.store.settled()
-        return count
+        ending = [attempt for attempt in found if self._must_end(attempt.token)]
+        self._tell_tokens(ending, {"tell": "end", "why": "cancelled or drained meanwhile"})
+        return len(found)
 
     def end_kept(self, tasks: Iterable[Task]) -> None:
         """Has agents end runs of cancelled tasks of which firm has no rows."""
@@ -455,10 +462,14 @@ class Agents:
                 changed.append(machine)
         self.core.firm.changed.set()
         await self.core.store.settled()
+        still = [machine for machine in changed if self.core.marks.get(machine) == mark]  # others may have changed it
+        there = [attempt for machine in still for attempt in self.open_on(machine)]
         if mark == CORDONED:
-            there = [attempt for machine in changed for attempt in self.open_on(machine) if not attempt.is_kept]
-            self._to_keep.update(attempt.token for attempt in there)
-            self._tell_tokens(there, {"tell": "keep"})
+            lacking = [attempt for attempt in there if not attempt.is_kept]
+            self._to_keep.update(attempt.token for attempt in lacking)
+            self._tell_tokens(lacking, {"tell": "keep"})
+        elif mark == DRAINED:  # firm, which has no rows of these, ends them no more
+            self._tell_tokens((attempt for attempt in there if attempt.is_kept), {"tell": "end", "why": "drained"})
         return changed, unchanged
 
     def _mark(self, machine: str, mark: str | None) -> None:

@@ -174,8 +174,9 @@ told: {"ask": "told", "events": [EVENT, ..]}, at most 1,000, in their order; aga
   asked and why `timeout`: the task is `timeout`. asked otherwise: the attempt has ended and the task goes on as firm's
   rows say (or is `cancelled`). `memory` counts as a failure. The queue alone says `done` to firm, an agent never does.
 
-kept: {"ask": "kept", "tokens": [..]} -> {"kept": n}, once the agent has recorded a tell "keep". Only then does the
-  queue take the rows out of firm.
+kept: {"ask": "kept", "tokens": [..]} -> {"kept": n}, once the agent has recorded a tell "keep", and of all kept runs as
+  it is registered. Only then does the queue take the rows out of firm, though the cordon may be gone. Such a run is
+  ended by a tell "end", as it is cancelled or its machine drained.
 
 Errors of any request: `bad-request` (no JSON, no object, nothing to be asked), `bad-field`, `too-long` (the connection
 is closed), `too-many-clients` (the same), `operator-only`, `not-written` (the disk is full or fails, or has not
