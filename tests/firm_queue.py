@@ -733,7 +733,7 @@ CHECKS: tuple[Callable[[Setup], None], ...] = (
 
 
 def checks(setup: Setup) -> dict[str, Check]:
-    found: dict[str, Check] = dict(queue_tables.CHECKS)
+    found: dict[str, Check] = {**queue_tables.CHECKS, **queue_gaps.TABLES}
     for check in CHECKS:
         found[check.__name__.replace("_", " ")] = partial(check, setup)
     found["kills"] = partial(

@@ -1,11 +1,24 @@
-"""What firm-queue does where a word of an agent is late."""
+"""What firm-queue does where a word of an agent is late, and where nobody asks firm for a round."""
 
 from __future__ import annotations
 
+import sys
+from collections.abc import Callable
+from math import inf
+
 from harness.checks import require
-from queue_kit import FOREVER, Json, Setup, asked_of_firm, claim_place
+from harness.deployed import Book, Limits, books
+from firm_service.queue import giving
+from queue_kit import FOREVER, Json, Setup, Size, asked_of_firm, claim_place
 
 SOON_SECONDS = 60.0  # for what comes within one, on a busy host
+# A queue that has waits age 50 times as fast.
+SOON = """\
+import sys
+from firm_service.queue import daemon, giving
+giving.AGING_SECONDS = 0.1
+sys.exit(daemon.main(sys.argv[1:]))
+"""
 
 
 def kept_ends(setup: Setup) -> None:
@@ -61,4 +74,64 @@ def kept_alone(setup: Setup) -> None:
         require(claim_place(case)["task"] == "2", "it has the slot then")
 
 
-CHECKS = (kept_ends, kept_alone)
+def first_round(setup: Setup) -> None:
+    """What an earlier run gave to firm, and did not come to ask a round for, has one as the queue begins."""
+    with setup.case() as case, case.firmd.client() as firm:
+        for line in ("machine m 2", "job j 3", "task j mine"):
+            require(firm.ask(f"{case.tenant} {line}".encode()).endswith(b" ok"), line)
+        case.start()
+        case.until(lambda: asked_of_firm(case, "tasks")[0]["machine"] == "m", "a round places it", SOON_SECONDS)
+
+
+def ages(setup: Setup) -> None:
+    """What waits beside a slot that is dearer than its wait is given it in the end, though nothing else changes."""
+    with setup.case(size=Size(spread=3)) as case:
+        case.words = [sys.executable, "-c", SOON, "run"]
+        case.start()
+        with case.client() as client:
+            case.agent("a1", m1=2)
+            client.submit(*FOREVER, weight=1, array=[1, 2])
+            case.until(lambda: len(case.world.running()) == 2, "both run", SOON_SECONDS)
+
+
+def book_of(limits: Limits, *tasks: tuple[str | None, tuple[str, ...], int]) -> Book:
+    """Machines with 3 slots and 1, and tasks of weight 1: where each is, what it prefers and how long it has waited."""
+    found = Book(limits, {"m": 3, "n": 1}, {"j": 1})
+    for number, (machine, prefers, waited) in enumerate(tasks):
+        found.tasks[f"t{number}"] = books.Task("j", number, prefers, -waited, None, machine)
+        found.waiting += machine is None
+    return found
+
+
+def rounds_that_age() -> None:
+    """Rounds are asked for to make waits dearer only where that gives one a slot in some time, and nobody else asks."""
+    limits, dear = Limits("alpha", 64, 400, 1_000, 2, 0, 7), Limits("alpha", 64, 400, 1_000, 2, 0, 50_000)
+    on_both = (("m", (), 0), ("n", (), 0))
+    cases = {
+        1.0: book_of(limits, *on_both, (None, (), 0)),
+        0.0: book_of(limits, *on_both, (None, (), 9)),
+        8.0: book_of(limits, *on_both, (None, ("n",), 0)),
+        5.0: book_of(limits, *on_both, (None, ("n",), 3), (None, ("n",), 0)),
+        inf: book_of(Limits("alpha", 64, 400, 1_000, 2, 0, 7, 5), *on_both, (None, ("n",), 0)),
+        50_001.0: book_of(dear, *on_both, (None, ("n",), 0)),
+    }
+    found = {wanted: giving.rounds_to_start(book) for wanted, book in cases.items()}
+    require(all(wanted == rounds for wanted, rounds in found.items()), found)
+    require(giving.Aging().seconds_left(cases[50_001.0], 0.0) is None, "without an end in sight")
+    require(giving.Aging().seconds_left(book_of(limits, *on_both), 0.0) is None, "nothing waits")
+    full = book_of(limits, *on_both, *[("m", (), 0)] * 2, (None, (), 0))
+    require(giving.Aging().seconds_left(full, 0.0) is None, "no slot is free")
+    aging, book = giving.Aging(), cases[8.0]
+    require(aging.seconds_left(book, 100.0) == 0, "at first")
+    aging.asked(100.0, True)
+    book.rounds = 1
+    require(aging.seconds_left(book, 101.0) == giving.AGING_SECONDS, "behind its own")
+    book.rounds = 2
+    require(aging.seconds_left(book, 103.0) == giving.OTHERS_SECONDS, "behind another's")
+    require(aging.seconds_left(book, 103.0 + giving.OTHERS_SECONDS) == 0, "others ask no more")
+    aging.asked(200.0, False)
+    require(aging.seconds_left(book, 200.0) == giving.AGING_SECONDS, "one that was refused is not asked for at once")
+
+
+CHECKS = (kept_ends, kept_alone, first_round, ages)
+TABLES: dict[str, Callable[[], None]] = {"rounds that age": rounds_that_age}

@@ -429,15 +429,16 @@ class StandIn:
 
 @dataclass
 class Size:
-    """Of the tenant's arena, and how dear it is to preempt."""
+    """Of the tenant's arena, and how dear it is to preempt, and to share a machine."""
 
     nodes: int = 4096
     arcs: int = 65_536
     churn: int = 1_000_000
+    spread: int = 0
 
     def row(self, tenant: str) -> str:
         """Of a roster."""
-        return f"{tenant},{self.nodes},{self.arcs},1000000000,0,{self.churn}"
+        return f"{tenant},{self.nodes},{self.arcs},1000000000,{self.spread},{self.churn}"
 
 
 class Firmd:

@@ -5,10 +5,14 @@ from __future__ import annotations
 import asyncio
 import sqlite3
 import time
+from collections import Counter
 from collections.abc import Callable
 from dataclasses import dataclass
+from math import inf
 
+from ..books import Book
 from ..logs import WARNING, tell
+from ..roster import slot_cost
 from .backlog import Kind, Line, Wishes, plan
 from .core import Core
 from .firm import Away, Reply
@@ -19,6 +23,11 @@ FULL_SECONDS = 1.0  # until a task is given again after firm had no room for it,
 WORN_SECONDS = 10.0
 # A round is asked for this multiple of the duration of the one before it after that, and at most this long.
 ROUND_SHARE, LONGEST_ROUND_PAUSE = 2, 0.2
+# While tasks wait beside free slots, a round makes each wait dearer by 1, until one is worth a slot. It is asked for so
+# long after the last one: with spread 1, the last of 64 slots is worth a wait within some five minutes. As each is a
+# line of the journal and of the tenant's life, they come to an end: none is asked for where no wait is worth a slot
+# within so many (a day of them), or where others asked for one so lately, as firmd does with --every.
+AGING_SECONDS, MOST_AGING, OTHERS_SECONDS = 5.0, 17_280, 60.0
 NO_ROOM = {"arena-nodes", "arena-arcs", "memory"}
 WAITING_FOR_ROOM = "the arena is full"
 
@@ -43,8 +52,10 @@ class Giver:
     def __init__(self, core: Core, machines: Callable[[], Machines], giving: Giving) -> None:
         self._core, self._machines, self._giving = core, machines, giving
         self._loop = asyncio.get_running_loop()
-        self._is_round_due = False
+        self._is_round_due = True  # of what an earlier run gave, perhaps, and did not come to ask for
         self._next_round = 0.0  # by the loop's clock
+        self._aging = Aging()
+        self._look: asyncio.TimerHandle | None = None  # whether waits are to age
         self._next_tasks = 0.0
         self._told = ""
 
@@ -97,6 +108,7 @@ class Giver:
         if lines[-1].kind == Kind.ROUND:
             pause = min(ROUND_SHARE * (time.monotonic() - began), LONGEST_ROUND_PAUSE)
             self._is_round_due, self._next_round = False, self._loop.time() + pause
+            self._aging.asked(self._loop.time(), replies[-1].is_ok)
         for line, reply in zip(lines, replies):
             self._hear(line, reply)
 
@@ -111,6 +123,8 @@ class Giver:
         lines = plan(book, wishes, core.backlog, core.rows.task)
         kinds = {line.kind for line in lines}
         self._is_round_due |= bool(kinds & {Kind.TASK, Kind.DONE, Kind.MACHINE, Kind.DRAIN})
+        if self._giving.asks_rounds and not lines:
+            self._age(book)
         may_wait = book.waiting or kinds & {Kind.TASK, Kind.DRAIN}
         if self._giving.asks_rounds and self._is_round_due and may_wait and not is_closed(lines):
             if self._loop.time() >= self._next_round:
@@ -118,6 +132,21 @@ class Giver:
             else:
                 self._again(self._next_round - self._loop.time())
         return lines
+
+    def _age(self, book: Book) -> None:
+        """Has a round asked for where nothing else is to come, and waits are to age; looks again later otherwise."""
+        now = self._loop.time()
+        seconds = self._aging.seconds_left(book, now)
+        if seconds is None:
+            return
+        if seconds <= 0:
+            self._is_round_due = True
+        elif self._look is None:
+            self._look = self._loop.call_later(seconds, self._look_again)
+
+    def _look_again(self) -> None:
+        self._look = None
+        self._core.firm.changed.set()
 
     def _hear(self, line: Line, reply: Reply) -> None:
         """Takes in a reply; rows that changed are heard of by the view."""
@@ -148,6 +177,48 @@ class Giver:
         if why != self._told:
             self._told = why
             tell(WARNING, f"{why}; what waits is given later")
+
+
+class Aging:
+    """When a round is to age what waits beside free slots."""
+
+    def __init__(self) -> None:
+        self._rounds = self._own = 0  # that the rows have had, as last seen, and those of them that the queue asked for
+        self._last = self._last_of_others = -inf
+
+    def asked(self, now: float, is_ok: bool) -> None:
+        """Takes in that the queue's own has had its reply."""
+        self._last = now
+        self._own += is_ok
+
+    def seconds_left(self, book: Book, now: float) -> float | None:
+        """Until it is to be asked for; None where none is, unless the rows change."""
+        if book.rounds != self._rounds:
+            self._last = now
+            if book.rounds > self._rounds + self._own:
+                self._last_of_others = now
+            self._rounds, self._own = book.rounds, 0
+        if not book.waiting or book.running >= book.slots or book.commands >= book.limits.life:
+            return None
+        seconds = max(self._last + AGING_SECONDS, self._last_of_others + OTHERS_SECONDS) - now
+        if seconds > 0:
+            return seconds
+        return None if rounds_to_start(book) > MOST_AGING else 0.0
+
+
+def rounds_to_start(book: Book) -> float:
+    """How many rounds make a first wait worth a slot that is free; infinite: none do."""
+    limits, loads = book.limits, Counter(task.machine for task in book.tasks.values())
+    free = [name for name, slots in book.machines.items() if loads[name] < slots]
+    costs = {name: slot_cost(limits.spread, loads[name]) for name in free}
+    least, found = min(costs.values(), default=inf), inf
+    for task in book.tasks.values():
+        if task.machine is None:
+            near = [costs[name] for name in task.prefers if name in costs]
+            cost, waited = min([least + limits.remote * bool(task.prefers), *near]), book.waited(task)
+            missing = max(0, cost - book.jobs[task.job] - waited)
+            found = min(found, missing if missing <= limits.patience - waited else inf)
+    return found
 
 
 def is_closed(lines: list[Line]) -> bool:
