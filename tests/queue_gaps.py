@@ -1,17 +1,24 @@
-"""What firm-queue does where a word of an agent is late, and where nobody asks firm for a round."""
+"""What firm-queue does where a word of firmd or of an agent is lost or late, and where nobody asks firm for a round."""
 
 from __future__ import annotations
 
+import socket
 import sys
-from collections.abc import Callable
+import threading
+import time
+from collections.abc import Callable, Iterator
+from contextlib import closing, contextmanager, suppress
 from math import inf
 
 from harness.checks import require
-from harness.deployed import Book, Limits, books
+from harness.deployed import Book, Doors, Limits, backlog, books, bound
+from firm_service import view, viewed
 from firm_service.queue import giving
-from queue_kit import FOREVER, Json, Setup, Size, asked_of_firm, claim_place
+from queue_kit import FOREVER, Case, Json, Setup, Size, asked_of_firm, claim_place
+from queue_tables import Plans
 
 SOON_SECONDS = 60.0  # for what comes within one, on a busy host
+LOOK_SECONDS = 1.0  # between two looks of the queue whose jobs firm has
 # A queue that has waits age 50 times as fast.
 SOON = """\
 import sys
@@ -133,5 +140,72 @@ def rounds_that_age() -> None:
     require(aging.seconds_left(book, 200.0) == giving.AGING_SECONDS, "one that was refused is not asked for at once")
 
 
-CHECKS = (kept_ends, kept_alone, first_round, ages)
-TABLES: dict[str, Callable[[], None]] = {"rounds that age": rounds_that_age}
+class Door:
+    """In front of firmd's socket for lines; as it takes the first `job`, the connection is lost before its reply."""
+
+    def __init__(self, case: Case) -> None:
+        self.is_lost, self._lines = False, case.doors.lines
+        path = case.folder / "door"
+        case.doors = Doors(case.tenant, case.doors.view, path)
+        self.listening = bound(path)
+        self.listening.listen()
+        threading.Thread(target=self._serve, daemon=True).start()
+
+    def _serve(self) -> None:
+        with suppress(OSError):
+            while True:
+                self._pass_on(self.listening.accept()[0])
+
+    def _pass_on(self, client: socket.socket) -> None:
+        with closing(client), closing(socket.socket(socket.AF_UNIX)) as firm:
+            firm.connect(str(self._lines))
+            replies = firm.makefile("rb")
+            for line in client.makefile("rb"):
+                firm.sendall(line)
+                reply = replies.readline()
+                if line.split()[1] == b"job" and not self.is_lost:
+                    self.is_lost = True
+                    return
+                client.sendall(reply)
+
+
+@contextmanager
+def losing(case: Case) -> Iterator[Door]:
+    door = Door(case)
+    try:
+        yield door
+    finally:
+        door.listening.shutdown(socket.SHUT_RDWR)
+        door.listening.close()
+
+
+def lost_reply(setup: Setup) -> None:
+    """A job whose reply was lost is the queue's own as any other: it is closed, and comes with another weight then."""
+    with setup.case() as case, losing(case) as door, case.start().client() as client:
+        time.sleep(1.5 * LOOK_SECONDS)  # it has looked which jobs of an earlier run are there
+        client.submit(*FOREVER, job="web", weight=10)
+        case.until(lambda: case.firm_tasks() == ["1"], "it is in firm")
+        require(door.is_lost, "a reply was lost")
+        client.ask("cancel", tasks=["1"])
+        case.until(lambda: asked_of_firm(case, "jobs") == [], "its job is closed", SOON_SECONDS)
+        client.submit(*FOREVER, job="web", weight=20)
+        case.until(lambda: case.firm_tasks() == ["2"], "it is in firm, with another weight", SOON_SECONDS)
+
+
+def told_waits() -> None:
+    """Rows that are told anew have waited as long as is told: what is lighter with that takes no place of theirs."""
+    for weight, expected in {20: [], 502: [], 503: ["done 1-1", "job heavy 503", "task heavy 2-1"]}.items():
+        plans = Plans()
+        plans.book.jobs["light"] = 2
+        plans.want(1, "light", 2)
+        plans.backlog = backlog.Backlog()
+        plans.has("1-1", "light")
+        plans.book.rounds, plans.book.waiting = 500, 1
+        (plans.book,) = viewed.books_of("alpha", view.rows_of(plans.book)).tenants.values()
+        require(plans.book.waited(plans.book.tasks["1-1"]) == 500, plans.book)
+        plans.want(2, "heavy", weight)
+        require((found := plans.lines(most=1)) == expected, f"weight {weight}: {found}")
+
+
+CHECKS = (kept_ends, kept_alone, first_round, ages, lost_reply)
+TABLES: dict[str, Callable[[], None]] = {"rounds that age": rounds_that_age, "told waits": told_waits}

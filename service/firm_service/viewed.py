@@ -37,6 +37,8 @@ def books_of(tenant: str, rows: dict[str, Any] | None) -> Books:
         book.machines = {row["machine"]: row["slots"] for row in rows["machines"]}
         book.jobs = {row["job"]: row["weight"] for row in rows["jobs"]}
         for row in rows["tasks"]:
-            book.tasks[row["task"]] = Task(row["job"], row["line"], tuple(row["prefers"]), 0, None, row["machine"])
+            waits_from = -row["waited"]  # as the rounds are counted from here on
+            place = (tuple(row["prefers"]), waits_from, None, row["machine"])
+            book.tasks[row["task"]] = Task(row["job"], row["line"], *place)
         book.waiting = sum(task.machine is None for task in book.tasks.values())
     return books

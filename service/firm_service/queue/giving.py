@@ -102,6 +102,9 @@ class Giver:
         except NotWritten:
             core.leaving -= leaving  # nothing was said, and perhaps none of it ever is
             raise
+        except Away:  # some may have been obeyed: a job that is there now is the queue's own, and is to be closed by it
+            core.own_jobs.update(line.words.split()[0] for line in lines if line.kind == Kind.JOB)
+            raise
         finally:
             if core.rows is rows:
                 core.look_at(line.task.name for line in lines if line.task is not None)
