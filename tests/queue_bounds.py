@@ -20,6 +20,8 @@ from typing import Any
 
 from firmd_kit import memory_kilobytes
 from harness.checks import Skipped, require
+from firm_service.queue.backlog import Backlog, order_of
+from firm_service.queue.rows import SINGLE, Spec, Submission, Task
 from firm_service.queue.shares import BOUNDS, Share, Shares
 from queue_kit import ANN, BOB, FOREVER, Case, Disk, Json, Setup, as_user, as_user_does, claim_place
 
@@ -184,6 +186,21 @@ def answers_alone(setup: Setup) -> None:
 
     most = asyncio.run(most_at_once())
     require(most == 1, f"{most} at a time")
+
+
+def held_and_released(setup: Setup) -> None:
+    """However often a task is held and released behind another, the order of what waits takes no more memory."""
+    both = [Submission(number, 0, "j", 1, Spec(("x",), "/"), None, None, 0.0) for number in (1, 2)]
+    first, other = [Task(submission, SINGLE) for submission in both]
+    waiting = Backlog()
+    waiting.put(first)
+    for _ in range(10_000):
+        waiting.put(other)
+        waiting.drop(other)
+    waiting.put(other)
+    require(len(waiting._heap) < 2_000, f"{len(waiting._heap):,} entries of {len(waiting)} tasks")
+    found = [waiting.take() for _ in range(3)]
+    require(found == [order_of(first), order_of(other), None], found)
 
 
 def others_rest(setup: Setup) -> None:
@@ -511,6 +528,7 @@ CHECKS: tuple[Callable[[Setup], None], ...] = (
         long_requests,
         repeated_command,
         answers_alone,
+        held_and_released,
         others_rest,
         names_of_the_past,
         forgotten,

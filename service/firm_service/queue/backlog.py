@@ -16,6 +16,7 @@ FIXED_NODES = 2  # the sink and the hub
 TASK_ARCS = 3
 RESERVED_PART = 16  # of an arena: a 16th is left for machines that come
 MOST_LINES = 1_000  # to firm at a time
+LONG_HEAP = 1_000  # entries of a backlog, beside twice its members
 
 
 Order = tuple[int, int, int]  # heavy jobs first, then what was submitted first: weight, number and index
@@ -49,7 +50,12 @@ class Backlog:
             heapq.heappush(self._heap, order)
 
     def drop(self, task: Task) -> None:
+        """Its entry stays until it comes first, or until such entries are most of a long heap: tasks that are held and
+        released behind a first one would add entries without end."""
         self._members.discard(order_of(task))
+        if len(self._heap) > LONG_HEAP + 2 * len(self._members):
+            self._heap = list(self._members)
+            heapq.heapify(self._heap)
 
     def first(self) -> Order | None:
         while self._heap and self._heap[0] not in self._members:
