@@ -18,7 +18,9 @@ from pathlib import Path
 from typing import Any, TypeVar
 
 from harness.checks import Missed, require
-from harness.deployed import ID, SERVICE, Books, Shown, Status, bound, serve_view, supervisor
+from harness.deployed import ID, SERVICE, Books, Refused, Shown, Status, bound, serve_view, supervisor
+from firm_service.sight import Sight
+from firm_service.view import refused, watched
 
 AGENT = [sys.executable, str(SERVICE / "firm-agent")]
 Result = TypeVar("Result")
@@ -75,6 +77,23 @@ class StandIn:
     async def _serve(self) -> list[asyncio.AbstractServer]:
         view = await serve_view(bound(self.folder / "view"), self.shown)
         return [view, await asyncio.start_unix_server(self._client, self.folder / "socket")]
+
+    def open_to_none(self) -> None:
+        """As firmd with a socket for lines of another tenant alone: of this one nothing is shown."""
+
+        async def show(reader: asyncio.StreamReader, writer: asyncio.StreamWriter) -> None:
+            wanted = json.loads(await reader.readline())["tenant"]
+            try:
+                writer.write(watched(self.shown, Sight(frozenset({"alhpa"})), wanted))
+            except Refused as refusal:
+                writer.write(refused(refusal))
+            await reader.read()  # until it leaves
+            writer.close()
+
+        async def serve() -> list[asyncio.AbstractServer]:
+            return [await asyncio.start_unix_server(show, sock=bound(self.folder / "view"))]
+
+        self.servers = self.within(serve())
 
     async def _client(self, reader: asyncio.StreamReader, writer: asyncio.StreamWriter) -> None:
         self.writers.add(writer)

@@ -364,6 +364,23 @@ def told_by_the_queue() -> None:
         require(case.until_told("ended", "a")["status"] == 0, "how a ended")
 
 
+def not_shown() -> None:
+    """What runs goes on while firmd shows nothing of the tenant, as where the name of its socket is misspelt."""
+    with Cluster("a") as case:
+        case.start_registered()
+        case.firmd.round("start a m1")
+        case.until_told("running", "a")
+        case.firmd.close()
+        case.firmd.open_to_none()
+        hidden = "no tenant 'alpha' is shown to this user"
+        case.until(lambda: hidden in case.told() or case.queue.ends("a"), "it is told")
+        require(case.queue.ends("a") == [] and case.processes().keys() == {"a"}, f"a has ended: {case.told()}")
+        case.firmd.close()
+        case.firmd.open()
+        case.go("a")
+        require(case.until_told("ended", "a")["status"] == 0, "how a ended")
+
+
 def other_user() -> None:
     """As root, a task is its user's process, with that user's rights, groups, home and output."""
     if os.getuid() != 0:
@@ -716,6 +733,7 @@ QUICK = [
     killed_supervisor,
     stopped_as_its_queue_goes,
     told_by_the_queue,
+    not_shown,
     other_user,
     whose_work,
     no_work,

@@ -702,6 +702,11 @@ def own_tenant(setup: Setup) -> None:
         require(len(answers[0]["tasks"]) == 2, "an operator")
         answers = asked_by(daemon, 61999, [VIEW], tasks)
         require(answers[0]["error"] == "no-tenant", answers)
+        watches = [{"ask": "watch", "tenant": tenant} for tenant in ("nobody", ["beta"])]
+        answers = asked_by(daemon, ALPHA, [ALPHA, VIEW], *watches, status)
+        require([answer.get("error") for answer in answers] == ["no-tenant", "no-tenant", None], answers)
+        answers = asked_by(daemon, OPERATORS, [OPERATORS, VIEW], watches[0], status)
+        require(answers[0].get("book", "") is None, f"shown, and not there: {answers[0]}")
         watched(daemon)
         daemon.stop()
 
@@ -720,7 +725,7 @@ def watched(daemon: Daemon) -> None:
     require([row["tenant"] for row in everything[0]["tenants"]] == ["alpha"], everything[0])
     lines = {event["line"] for event in everything[1:]}
     require(lines == {"alpha show"}, lines)
-    require(another == [{"state": another[0]["state"], "book": None}], another)
+    require([answer.get("error") for answer in another] == ["no-tenant"], f"nobody is to take it for gone: {another}")
 
 
 CHECKS: list[Callable[[Setup], None]] = [

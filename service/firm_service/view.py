@@ -9,8 +9,9 @@ A request is one object on a line, and so is its answer:
 - {"ask": "state", "tenant": "alpha"}: {"tenant": .., "line": .., "text": ..}, the tenant's state and the number of the
   last line before it; {"ask": "before", "tenant": "alpha", "round": 11}: the same before the round of this number, with
   its time (`past_rounds.py`);
-- {"ask": "watch", "tenant": "alpha"}: first {"state": ID, "book": ..}, the state's id and the rows or null, then
-  {"line": .., "reply": .., "number": ..} for each line of that tenant, and of the operator that admits or retires it.
+- {"ask": "watch", "tenant": "alpha"}: first {"state": ID, "book": ..}, the state's id and the rows, or null where it is
+  not there, then {"line": .., "reply": .., "number": ..} for each line of that tenant, and of the operator that admits
+  or retires it. One that is not shown is {"error": "no-tenant"}, there or not: what is gone has its runs ended.
   Where no tenant is named, first {"tenants": [..]}, a row for each, then all lines. The first answer comes again where
   a tenant that is watched has come by a move, as no line admits it.
 
@@ -144,13 +145,15 @@ def books_of(books: Books, sight: Sight) -> list[Book]:
 
 
 def watched(shown: Shown, sight: Sight, wanted: object) -> bytes:
-    """What one that begins to watch a tenant, or all of them, is told first."""
+    """What one that begins to watch a tenant, or all, is told first; raises `Refused` where it may not see that."""
     if wanted is None:
         answer: Json = {"tenants": [summary_of(book) for book in books_of(shown.books, sight)]}
     else:
-        is_there = isinstance(wanted, str) and sight.has(wanted) and wanted in shown.books.tenants
-        book = rows_of(shown.books.tenants[str(wanted)]) if is_there else None
-        answer = {"state": shown.state, "book": book}
+        name = wanted if isinstance(wanted, str) else None
+        if not sight.has(name):
+            raise Refused("no-tenant", f"no tenant {wanted!r} is shown to this user")
+        book = shown.books.tenants.get(name) if name is not None else None
+        answer = {"state": shown.state, "book": rows_of(book) if book is not None else None}
     return json.dumps(answer).encode() + b"\n"
 
 
@@ -408,9 +411,9 @@ class Connection:
 
     def _watch(self, wanted: object) -> None:
         """Sends the tenant's rows as they are, or a row for each tenant, and then each line until the client leaves."""
+        text = watched(self._shown, self._sight, wanted)
         self._shown.unwatch(self)
         self._wanted, self._is_watching = wanted, True
-        text = watched(self._shown, self._sight, wanted)
         self._most_unread = MOST_UNREAD + len(text)
         self._writer.write(text)
         self._shown.watchers.append(self)

@@ -14,7 +14,7 @@ from .tables import Row
 
 ANSWER_SECONDS, PAST_SECONDS = 20, 70  # for an answer; for one by the journal, which the viewer gives 60
 # Exit statuses of refusals; of others it is the service's that is not as it must be.
-STATUSES = dict.fromkeys(["no-such-tenant", "no-such-round", "not-kept"], NOT_THERE)
+STATUSES = dict.fromkeys(["no-such-tenant", "no-tenant", "no-such-round", "not-kept"], NOT_THERE)
 STATUSES |= dict.fromkeys(["not-built", "too-long", "too-many-questions", "memory", "failed"], NOT_BUILT)
 
 
