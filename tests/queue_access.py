@@ -61,6 +61,34 @@ def users(setup: Setup) -> None:
         require("submit" in ask(ANN, requests=[submit])[0], "there is room again")
 
 
+def heavy(setup: Setup) -> None:
+    """Users other than operators have no job above --most-weight, nor go on with one of before; by default they may."""
+    if os.geteuid():
+        raise Skipped("it needs root, to be other users")
+    submit: Json = {"ask": "submit", "command": FOREVER, "dir": "/tmp", "hold": True}
+    with setup.case("--socket-mode=666") as case:
+        case.folder.chmod(0o755)
+        case.start()
+        (found,) = as_user(ANN, case.socket, [{**submit, "job": "old", "weight": 1_000_000}])
+        require("submit" in found, found)
+        case.kill()
+        case.options.append("--most-weight=5")
+        case.start()
+        given: list[Json] = [{"weight": 6}, {"weight": 5, "job": "a"}, {}, {"job": "old"}, {"weight": 10**7}]
+        answers = as_user(ANN, case.socket, [{**submit, **fields} for fields in given])
+        names = [answer.get("error") for answer in answers]
+        require(names == ["weight-too-large", None, None, "weight-too-large", "bad-field"], answers)
+        require("weight 6; a job of yours may have 5" in answers[0]["text"], answers[0])
+        two: list[Json] = [{"command": FOREVER, "dir": "/"}, {"command": FOREVER, "dir": "/", "job": "b", "weight": 9}]
+        (refused,) = as_user(ANN, case.socket, [{"ask": "submit-all", "submissions": two}])
+        require((refused.get("error"), refused.get("at")) == ("weight-too-large", 1), refused)
+        with case.client() as root:
+            root.submit(*FOREVER, hold=True, job="c", weight=1_000_000)
+            root.submit(*FOREVER, hold=True)
+            weights = {row["job"]: row["weight"] for row in root.ask("jobs")}
+        require(weights == {"old": 1_000_000, "a": 5, f"u{ANN}": 5, "c": 1_000_000, "root": 10}, weights)
+
+
 def faulty(setup: Setup) -> None:
     """Each faulty request is refused by name, and nothing is made of it."""
     with setup.case().start() as case, case.client() as client:
@@ -229,4 +257,4 @@ def log_of(client: Client, **fields: Any) -> tuple[bytes, Json]:
     return text, answer["end"]
 
 
-CHECKS = (users, faulty, logs, others_files, files_of_the_queue)
+CHECKS = (users, heavy, faulty, logs, others_files, files_of_the_queue)

@@ -15,7 +15,7 @@ from types import MappingProxyType
 
 from . import queries, states
 from .backlog import Backlog
-from .fields import Json, Refused, Submit
+from .fields import MOST_WEIGHT, Json, Refused, Submit
 from .firm import Firm, Heard
 from .rows import MOST_NUMBER, SINGLE, WORD_BYTES, Attempt, Job, Name, Need, Rows, Submission, Task
 from .spending import ATTEMPT_BYTES, NEED_BYTES, Spending, rows_bytes
@@ -39,6 +39,7 @@ class Bounds:
     in_all: int
     array: int  # tasks of one array
     budget: int = 2**30  # bytes of the disk that a user, operators excepted, may take, and again in each week
+    weight: int = MOST_WEIGHT  # of a job of such a user: what is heavy enough preempts all that others run
 
 
 Forgotten = Mapping[int, Submission]  # such as have ended and are not in memory any more
@@ -208,6 +209,9 @@ class Core:
     def _made(self, one: Submit, jobs: dict[str, Job], named: Named) -> Submission:
         """A submission without number; `jobs` are those of the same request."""
         name, job = self._job(named.user, one, jobs)
+        if not named.user.is_operator and job.weight > self.bounds.weight:  # one of before the bound, too
+            told = f"the job {name} with the weight {job.weight:,}; a job of yours may have {self.bounds.weight:,}"
+            raise Refused("weight-too-large", told)
         jobs[name] = job
         first, last = one.array if one.array is not None else (None, None)
         needs = [self._need(text, True, named) for text in one.after]
@@ -225,7 +229,8 @@ class Core:
             name = f"u{user.number}"
             found = jobs.get(name) or self.rows.jobs.get(name)
         if found is None:
-            return name, Job(user.number, one.weight or DEFAULT_WEIGHT)
+            usual = DEFAULT_WEIGHT if user.is_operator else min(DEFAULT_WEIGHT, self.bounds.weight)
+            return name, Job(user.number, one.weight or usual)
         if found.user != user.number:
             raise Refused("not-yours", f"the job {name} is another user's")
         if one.weight not in (None, found.weight):

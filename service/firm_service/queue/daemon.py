@@ -25,6 +25,7 @@ from ..relief import Relief
 from ..sockets import Names
 from .agents import Agents, Terms
 from .core import Bounds, Core
+from .fields import MOST_WEIGHT
 from .firm import Doors, Firm
 from .forms import bytes_of
 from .front import MOST_CLIENTS, TOO_MANY, Front, encode
@@ -243,6 +244,8 @@ def add_bounds(found: argparse._ArgumentGroup) -> None:
     add("--most-of-user", type=most, default=20_000, metavar="N", help=f"tasks of a user that have not ended ({told}")
     add("--most-in-all", type=most, default=200_000, metavar="N", help=f"of all users ({told}")
     add("--most-in-array", type=most, default=100_000, metavar="N", help=f"of an array ({told}")
+    heavy, told_weight = partial(number, 1, MOST_WEIGHT), f"weight of a job, operators' excepted ({told}"
+    add("--most-weight", type=heavy, default=MOST_WEIGHT, metavar="N", help=told_weight)
     told_budget = "bytes of the disk that a user's work may take, and again in each week (default: 1G)"
     add("--budget", type=size, default=2**30, metavar="SIZE", help=told_budget)
     add("--most-in-firm", type=most, metavar="N", help="tasks in firm at a time (what its arena holds)")
@@ -260,7 +263,7 @@ def read_options(arguments: list[str] | None) -> tuple[Options, str]:
         int(given.socket_mode, 8),
         Doors(given.tenant, given.view, given.firm),
         Operators(given.operators),
-        Bounds(given.most_of_user, given.most_in_all, given.most_in_array, given.budget),
+        Bounds(given.most_of_user, given.most_in_all, given.most_in_array, given.budget, given.most_weight),
         Giving(given.most_in_firm, not given.no_rounds),
         Terms(given.lease, given.margin),
         given.http,

@@ -32,8 +32,8 @@ submit: {"ask": "submit", "command": [WORD, ..], "dir": "/abs"} and, with their 
     "key": null         any text of 1 to 128 characters; the same again, by the same user, gives the same answer (with
                         "again": true) and makes nothing, whatever else the request says
     "job": null         a name (1 to 16 of a-z, 0-9, -); null: the user's login name, or uN by the number N
-    "weight": null      1 to 1,000,000 of the job; null: the job's, 10 for a new one. A job is there, and is its user's,
-                        while it has tasks that have not ended
+    "weight": null      1 to 1,000,000 of the job; null: the job's, for a new one 10, or --most-weight if less. A
+                        job is there, and is its user's, while it has tasks that have not ended
     "array": null       [FIRST, LAST], 0 <= FIRST <= LAST <= 9,999,999
     "after": []         tasks or submissions that must end with `done` before: "12", "12_4"
     "after_any": []     that must end, however
@@ -46,9 +46,9 @@ submit: {"ask": "submit", "command": [WORD, ..], "dir": "/abs"} and, with their 
     "memory": null      bytes; "processors": null, a number above 0: limits by cgroup where there is one
     "hold": false       begin as `held`
   -> {"submit": {"number": 12, "first": 1|null, "last": 3|null, "count": 3, "job": "web"}}
-  Errors: `bad-field` (with "field"), `array-too-large`, `no-such-task` (of `after`), `not-yours` (the job is another
-  user's), `job-has-weight`, `quota`, `queue-full`, `budget` (what the user's submissions take of the disk; with
-  "seconds" until there is room).
+  Errors: `bad-field` (with "field"), `array-too-large`, `weight-too-large` (of a user's job, past --most-weight),
+  `no-such-task` (of `after`), `not-yours` (another's job), `job-has-weight`, `quota`, `queue-full`, `budget` (what the
+  user's submissions take of the disk; with "seconds" until there is room).
 
 submit-all: {"ask": "submit-all", "key": null, "submissions": [S, ..]}, at most 10,000, each S as above without "ask"
   and "key", with "label": null or a text; `after` and `after_any` may name labels (of the list, before or behind) as
