@@ -49,6 +49,7 @@ from firm_service.view_client import Service
 HEADING = "tenant,nodes,arcs,life,spread,churn\n"
 KILLED_MOVES = 12
 SHORTEST_MOVE = 0.05  # seconds
+BUSY_SECONDS = 2.0  # some looks of HAProxy
 SILENCE_SECONDS = 6.0  # of a client of the door, whose leader is killed: a lease, and two looks of HAProxy
 TABLE = """\
 bind = "127.0.0.1:{door}"
@@ -185,12 +186,13 @@ def door() -> Iterator[Door]:
 
 
 @contextmanager
-def firmd(here: Door, shard: str, firm: str, rows: str) -> Iterator[subprocess.Popen[bytes]]:
+def firmd(here: Door, shard: str, firm: str, rows: str, *options: str) -> Iterator[subprocess.Popen[bytes]]:
     """A shard of one firmd, with the sockets that firm-door names."""
     roster = here.folder / f"{shard}.csv"
     roster.write_text(HEADING + rows)
     words: list[Any] = [SERVICE / "firmd", "--firm", firm, "--roster", roster, "--state", here.folder / shard]
     words += ["--operator", here.folder / f"{shard}.operator", *(here.folder / f"{shard}.options").read_text().split()]
+    words += options
     with open(here.folder / f"{shard}.said", "wb") as said, subprocess.Popen(words, stderr=said) as process:
         try:
             until((here.folder / f"{shard}.operator").exists, f"{shard} serves")
@@ -245,6 +247,30 @@ def rights(program: str) -> None:
                     require(inner.recv(100) == b"", "a tenant's certificate opens a shard's host")
             except OSError:
                 pass
+
+
+def busy_tenant(program: str) -> None:
+    """A tenant that has as many clients as it may keeps none of another out, whichever is the table's first."""
+    with door() as here, ExitStack() as stack:
+        here.write({"one": ["a"]}, {"alpha": ["one"], "beta": ["one"]})
+        rows = ROW.format("alpha") + ROW.format("beta")
+        stack.enter_context(firmd(here, "one", program, rows, "--most-clients", "8"))
+        here.start("one-a", "door")
+        for tenant in ("alpha", "beta"):
+            until(partial(here.serves, tenant), f"{tenant} is served")
+
+        def comes() -> bool:
+            return stack.enter_context(here.visit("alpha")).ask("alpha show").startswith("alpha ")
+
+        with here.visit("beta") as beta:
+            for _ in range(8):
+                until(comes, "a client of alpha comes")
+            ends = time.monotonic() + BUSY_SECONDS
+            while time.monotonic() < ends:
+                require(beta.ask("beta show").startswith("beta "), "beta's client is still connected")
+                require(here.serves("beta"), "beta is served")
+                time.sleep(0.1)
+        require(not comes(), "alpha has as many as it may")
 
 
 def names(program: str) -> None:
@@ -495,7 +521,8 @@ def start_replicas(here: Door, replicas: Replicas) -> None:
 
 
 def spawn(here: Door, replicas: Replicas, name: str) -> None:
-    replicas.spawn(name, "--client", f"alpha={here.folder}/{name}/alpha")
+    sockets = [word for one in ("none", "alpha") for word in ("--client", f"{one}={here.folder}/{name}/{one}")]
+    replicas.spawn(name, *sockets)
 
 
 def moves_of_replicas(program: str) -> None:
@@ -545,7 +572,8 @@ class Hosts(Replicas):
     tenants: list[str] = field(default_factory=list)
 
     def spawn(self, name: str, *options: str) -> subprocess.Popen[bytes]:
-        sockets = [word for one in self.tenants for word in ("--client", f"{one}={self.folder}/{name}-{one}")]
+        names = ("none", *self.tenants)
+        sockets = [word for one in names for word in ("--client", f"{one}={self.folder}/{name}-{one}")]
         return super().spawn(name, *sockets, *options)
 
     def begin(self, here: Door, *names: str) -> None:
@@ -608,8 +636,11 @@ def written_files() -> None:
         hosts = {f"{shard}-{replica}.cfg" for shard in ("one", "two") for replica in "ab"}
         require(names == {"tenants.map", "door.cfg", "one.options", "two.options"} | hosts, names)
         require((folder / "tenants.map").read_text() == "alpha one\nbeta two\n", "the map")
-        require((folder / "one.options").read_text() == "--client alpha=/run/one-alpha\n", "options")
-        require("beta" not in (folder / "one-a.cfg").read_text(), "a host has its shard's tenants alone")
+        words = "--client none=/run/one-none\n--client alpha=/run/one-alpha\n"
+        require((folder / "one.options").read_text() == words, "options")
+        text = (folder / "one-a.cfg").read_text()
+        require("beta" not in text, "a host has its shard's tenants alone")
+        require("server firmd unix@/run/one-none check " in text and "backend none.one" not in text, text)
         text = (folder / "door.cfg").read_text()
         require("server b 10.0.0.2:7444 track two/b sni str(beta.two.firm)" in text, text)
         require("backend one:alpha" in text and "backend two:alpha" in text and "backend one:beta" not in text, text)
@@ -625,7 +656,7 @@ def written_files() -> None:
 
 
 RULES: list[Callable[[], None]] = [faulty_tables, written_files]
-CHECKS: list[Callable[[str], None]] = [rights, names, moves, moves_by_lines, late_rows, killed_moves]
+CHECKS: list[Callable[[str], None]] = [rights, busy_tenant, names, moves, moves_by_lines, late_rows, killed_moves]
 CHECKS += [killed_moves_by_lines, refused_moves, moves_of_replicas, leaders]
 
 

@@ -9,7 +9,7 @@
 
     [shards.one]
     certificate = "/etc/firm/host.pem"    # on its hosts, for *.one.firm, with its key
-    sockets = "/run/firm/{tenant}/lines"  # of firmd, on its hosts
+    sockets = "/run/firm/{tenant}/lines"  # of firmd, on its hosts; that of `none` is for checks alone
     operator = "/run/firm/operator"       # and its state, as `firmctl move` reaches them: for that alone; {replica} in
     state = "/var/lib/firm/state"         # either stands for the name of each
 
@@ -31,7 +31,7 @@ from typing import Any
 from ..lines import is_name
 
 MOST_TENANTS = 64  # of a shard
-NOWHERE = "none"  # in the place of a shard, while a tenant moves
+NOWHERE = "none"  # in the place of a shard while a tenant moves, and of a tenant at the socket for checks
 TEXTS = ("bind", "certificate", "clients", "hosts", "admin", "map")
 
 

@@ -41,7 +41,8 @@ frontend tenants
 # No such tenant, or it is on its way to another shard: the connection is closed. Names have no colon.
 backend none
 """
-# firmd refuses an operator's line at a tenant's socket by itself, and only where it leads: followers don't listen.
+# firmd refuses an operator's line at a tenant's socket by itself, and only where it leads: followers don't listen. It
+# is asked at a socket that no client gets to: at a tenant's own the check would fail while that has all it may.
 HOST = """\
 {defaults}
 frontend lines-{shard}
@@ -84,25 +85,26 @@ def door_text(table: Table) -> str:
 
 def host_text(table: Table, shard: Shard, address: str) -> str:
     """The configuration of a shard's host: its sockets, each by the name that the door asks for."""
-    tenants = table.tenants_of(shard.name)
     text = HOST.format(
         defaults=DEFAULTS,
         shard=shard.name,
         address=address,
         certificate=shard.certificate,
         hosts=table.hosts,
-        socket=shard.socket(tenants[0]),
+        socket=shard.socket(NOWHERE),
         looks=LOOKS,
     )
     sockets = (
-        f"\nbackend {tenant}.{domain(shard.name)}\n    server firmd unix@{shard.socket(tenant)}\n" for tenant in tenants
+        f"\nbackend {tenant}.{domain(shard.name)}\n    server firmd unix@{shard.socket(tenant)}\n"
+        for tenant in table.tenants_of(shard.name)
     )
     return WRITTEN.format(path=table.path) + text + "".join(sockets)
 
 
 def options_text(table: Table, shard: Shard) -> str:
-    """What a shard's firmd is started with for its tenants' sockets."""
-    return "".join(f"--client {tenant}={shard.socket(tenant)}\n" for tenant in table.tenants_of(shard.name))
+    """What a shard's firmd is started with for its tenants' sockets, and for the check's, which is no tenant's."""
+    names = (NOWHERE, *table.tenants_of(shard.name))
+    return "".join(f"--client {name}={shard.socket(name)}\n" for name in names)
 
 
 def read_map(path: Path) -> dict[str, str]:
