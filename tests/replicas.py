@@ -41,6 +41,7 @@ from etcd_kit import (
     until,
 )
 from front_kit import missing_of, samples_of
+from firmd_disks import PATCHED
 from firmd_kit import Client, Gone, stand_in
 from slurm_kit import slowness
 from harness.checks import Check, Skipped, Suite, print_skipped, require, run_script, run_suites
@@ -55,6 +56,7 @@ from replica_chaos import KILLED, KINDS, ROSTER, STOPPED, Chaos, latencies
 
 CHECKS_AT_A_TIME = 3
 CHAOS_SNAPSHOT_LINES, SNAPSHOT_LINES = 1_000, 300  # between snapshots
+HUNG_SECONDS = 30.0  # of a client whose leader's disk hangs, on a busy host
 KILL_SECONDS, STOP_SECONDS = 5.0, 0.5  # the longest silences behind a kill of the leader, and a stop
 # What has the loopback of a network's namespace drop packets, each way; the first that the host has is taken.
 LOSSES = {
@@ -385,6 +387,50 @@ def sleeping_leader(setup: Setup) -> None:
         require(b"machines 0" in before[0] and b"machines 0" in ask(replicas, b"t0 show")[0], before)
 
 
+def hung_disk(setup: Setup) -> None:
+    """Where the leader's disk hangs, it ends, and another replica leads, with what stood in etcd."""
+    with setup.cluster() as (_, replicas):
+        plain, script, sign = replicas.firmd, replicas.folder / "patched.py", replicas.folder / "hangs"
+        is_late = "sys.modules['firm_service.stream'].LATE_SECONDS = 0.5"
+        hangs = f"{is_late}\n            while os.path.exists({str(sign)!r}): time.sleep(0.05)"
+        script.write_text(PATCHED.format(log=str(replicas.folder / "syncs"), action=hangs))
+        replicas.firmd = [sys.executable, str(script)]
+        replicas.start("a")
+        replicas.firmd = plain
+        replicas.start("b", "c")
+        with Client(replicas.socket("a")) as client:
+            require(client.ask(b"t0 machine m1 2").endswith(b" ok"), "a reply")
+            sign.touch()
+            client.socket.settimeout(HUNG_SECONDS)
+            with suppress(Gone):
+                while client.ask(b"t0 where nobody"):  # they are answered until the disk is to have them
+                    time.sleep(0.05)
+        until(lambda: replicas.leader() in ("b", "c"), "another leads")
+        require(replicas.processes["a"].wait(20) == 4, replicas.said("a"))
+        require("as on a disk that hangs" in replicas.said("a"), replicas.said("a"))
+        require(b" ok machines 1 " in ask(replicas, b"t0 show")[0], "the state")
+        sign.unlink()
+        replicas.revive()
+        replicas.settle()
+
+
+def unread_replies(setup: Setup) -> None:
+    """A leader that ends by a fault lets another one lead before its clients have read what they were told."""
+    with setup.cluster() as (_, replicas):
+        replicas.start(*NAMES)
+        first, count = replicas.leads(), 12_000
+        process = replicas.processes[first].pid
+        children = Path(f"/proc/{process}/task/{process}/children").read_text().split()
+        with Client(replicas.socket(first)) as client, Client(replicas.socket(first)) as other:
+            client.send(b"t0 where nobody\n" * count)
+            until(lambda: int(other.ask(b"t0 show").split()[1]) > count, "all is answered")
+            for firm in children:
+                if setup.program.encode() in cmdline_of(firm).split(b"\0")[:1]:
+                    os.kill(int(firm), signal.SIGKILL)
+            until(lambda: replicas.leader() not in (None, first), "another leads")
+            require(not replicas.has_ended(first), f"it had ended before: {replicas.said(first)}")
+
+
 def state_at(path: Path, count: int) -> Path:
     """A file with the state of a service of this number of tasks."""
     lines = [b"t0 machine y 2", b"t0 job y 10", *[b"t0 task y y%d" % number for number in range(count)], b"t0 round"]
@@ -711,7 +757,7 @@ def unreachable(setup: Setup) -> None:
 RULES = [*replica_rules.RULES, *replica_states.RULES]
 CHECKS: list[Callable[[Setup], None]] = [chaos, control, cut_connections, dropped_packets]
 CHECKS += [late_replica, snapshots, restored, other_firm, sleeping_leader, from_one_host, histories, one_name]
-CHECKS += [certificates, full_etcd, half_full, wiped_member, unreachable]
+CHECKS += [hung_disk, unread_replies, certificates, full_etcd, half_full, wiped_member, unreachable]
 
 
 def main() -> int:

@@ -64,6 +64,7 @@ if TYPE_CHECKING:
 MOST_INPUT = 2**32  # bytes that firm reads
 SWITCH_SECONDS = 0.0002  # until a busy loop lets the writer go on, which waits for it several times a line
 TICK_SECONDS = 0.1  # between looks at what the status counts
+CLOSING_SECONDS = 0.05  # until connections that were dropped are closed
 LOAD_SECONDS = 1.0  # between looks at the load of each tenant and socket
 # Eight clients at their own limit, and four such sockets: while fewer are at it, each of the others has all of its own.
 UNREAD_OF_SOCKET, UNREAD_IN_ALL = 64 * MEBIBYTE, 256 * MEBIBYTE
@@ -216,6 +217,7 @@ class Daemon:
             feeder = Feeder(Told(self._books, self._status, self._faults, self._state.id or ""), self._served())
             moves = await self._serve_moves(rounds, feeder)
             servers = self._listen(clients)
+            self._stream.on_late = partial(self._give_way, clients, servers)
             self._stream.observe(feeder)
             feeder.start()
             rounds.start()
@@ -226,6 +228,8 @@ class Daemon:
         except Fault as fault:
             self._stream.fail(fault)
         finally:
+            if self._replicated is not None:
+                self._replicated.leave()  # before clients may read on for some seconds
             self._names.remove()
             for server in servers:
                 server.close()
@@ -254,6 +258,18 @@ class Daemon:
         moves = Moves(parts, rounds, feeder)
         await moves.listen(self._names.listen(self._state.folder / MOVES, PRIVATE))
         return moves
+
+    def _give_way(self, clients: Clients, servers: list[Acceptor]) -> None:
+        """Has another replica lead where this one's disk hangs. Clients are closed first: as long as the disk has a
+        thread, the system closes nothing of a process that ends."""
+        if self._replicated is None:
+            return
+        for server in servers:
+            server.close()
+        for client in list(clients.connected):
+            client.drop()
+        say("ends, so that another replica leads", logs.ERROR)
+        asyncio.get_running_loop().call_later(CLOSING_SECONDS, self._replicated.give_way)
 
     def _listen(self, clients: Clients) -> list[Acceptor]:
         servers: list[Acceptor] = []

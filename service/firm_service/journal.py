@@ -63,17 +63,21 @@ def is_shortage(error: BaseException) -> bool:
 
 
 class Writing:
-    """Remembers a failure: whatever is written behind it could make the extent say what the disk has not."""
+    """Knows since when the disk is written, and remembers a failure: whatever is written behind that could make the
+    extent say what the disk has not."""
 
     def __init__(self, fault_of: Callable[[OSError], Fault]) -> None:
         self._fault_of = fault_of
         self._trouble: Fault | None = None
+        self.since: float | None = None
 
     def __enter__(self) -> None:
         if self._trouble is not None:
             raise self._trouble
+        self.since = time.monotonic()
 
     def __exit__(self, kind: object, error: BaseException | None, trace: object) -> None:
+        self.since = None
         if isinstance(error, OSError):
             self._trouble = self._fault_of(error)
             raise self._trouble from error
@@ -119,6 +123,11 @@ class Journal:
     def is_of_today(self) -> bool:
         """Whether no segment is of an older firmd."""
         return self.found.since == 1
+
+    @property
+    def writing_since(self) -> float | None:
+        """Since when the disk is written or synced, where it is: by whichever thread, as all others wait for it."""
+        return self._writing.since
 
     def sealed(self) -> Base:
         """What stands before the last segment: nothing is added to it."""

@@ -42,7 +42,7 @@ GROUP_BYTES = 1_048_576  # of lines that are written and synced together, unless
 READ_BYTES = 65_536  # a piece that needs no memory of its own from the system
 SHORTAGE_SECONDS, SHORTAGE_TRIES = 0.02, 500  # until what lacked memory is tried again, and how often at most
 WATCH_SECONDS = 1.0  # between looks at how long firm, or the disk, has been silent
-LATE_SECONDS = 30.0  # of a write of the journal, after which it is told
+LATE_SECONDS = 30.0  # of a write or a sync of the journal, after which it is told
 IDLE_SECONDS = 0.002  # between looks whether all is answered
 OPERATED, WORN_END = b"+ ok ", b" %b\n" % WORN  # what stands in replies that admit or retire, and ends a worn tenant's
 
@@ -57,6 +57,10 @@ class Journal(Protocol):
     @property
     def is_following(self) -> bool:
         """Whether pieces come from another firmd, as long as that leads."""
+
+    @property
+    def writing_since(self) -> float | None:
+        """Since when its disk is written, where it is."""
 
     def pieces(self) -> Iterator[Piece]:
         ...
@@ -105,6 +109,7 @@ class Stream:
         self.status, self._faults, self._options = accounts.status, faults, options
         self._observers: list[Observer] = []
         self.on_stop: Callable[[], None] = lambda: None  # called once, before the last lines are handed over
+        self.on_late: Callable[[], None] = lambda: None  # called at each look at a journal that isn't written for long
         self.on_shortage: Callable[[BaseException], None] = lambda error: None  # of memory; called by any thread
         # Whether memory can't have been refused to a line, before it is taken in: an older firmd was mistaken then.
         self.is_mistaken: Callable[[bytes], bool] = lambda line: False
@@ -126,8 +131,7 @@ class Stream:
         self.sync_times = Histogram(SYNC_SECONDS)
         self._heard = self._loop.time()  # when firm was heard last
         self._silence = 0.0  # that was seen at the last look
-        self._writing_since: float | None = None  # by the writer, of what it writes to the journal
-        self._is_late = False  # what it writes, as was told
+        self._is_late = False  # the journal, as was told
         self._half = b""  # of a reply
         self._replies: list[bytes] = []  # that are not handed out yet
         self._tries = 0  # since memory was there
@@ -250,15 +254,17 @@ class Stream:
         self._loop.call_later(seconds, self._watch)
 
     def _watch_disk(self) -> None:
-        """Tells of a journal that can't be written for long. Nothing is refused: what was written may count, and all
-        else waits as for a round."""
-        since = self._writing_since
+        """Tells of a journal that can't be written for long. Nothing is refused here: what was written may count, and
+        all else waits as for a round, unless another replica can go on."""
+        since = self._journal.writing_since
         is_late = since is not None and time.monotonic() - since > LATE_SECONDS
         if is_late and not self._is_late:
             say(f"the journal has not been written for {LATE_SECONDS:g} s, as on a disk that hangs: lines wait")
         if self._is_late and not is_late:
             say("the journal is written again", INFO)
         self._is_late = is_late
+        if is_late:
+            self.on_late()
 
     def _hand_over_soon(self) -> None:
         if not self._is_handing:
@@ -393,11 +399,7 @@ class Stream:
     def _write_shares(self, shares: list[Share]) -> None:
         batches, text = self._joined(shares)
         began = time.monotonic()
-        self._writing_since = began
-        try:
-            place = self._journal.append(batches)
-        finally:
-            self._writing_since = None
+        place = self._journal.append(batches)
         number, end, now = place.number, place.end - len(text), time.monotonic()
         self.sync_times.add(now - began)
         for share in shares:

@@ -6,6 +6,7 @@ leads. The maker of the key `leader` appends, and only while that key is still t
 
 from __future__ import annotations
 
+import os
 import time
 from collections.abc import Callable, Iterator, Sequence
 from dataclasses import dataclass
@@ -85,6 +86,10 @@ class ReplicatedJournal:
     def is_following(self) -> bool:
         """Whether lines come from etcd."""
         return self._revision > 0 and not self._epoch
+
+    @property
+    def writing_since(self) -> float | None:
+        return self._own.writing_since
 
     # As a follower.
 
@@ -270,6 +275,16 @@ class ReplicatedJournal:
         if lease is not None:
             lease.end()
         self.housekeeper.end()
+
+    def give_way(self) -> None:
+        """Ends this process, as its disk hangs, and has another one lead: of what is not answered here that has what
+        stands in etcd, and takes no more from here. It waits for no thread, as some may wait for the disk."""
+        lease = self._lease
+        try:
+            if lease is not None:
+                lease.end()
+        finally:
+            os._exit(Exit.STATE)
 
     def _lose(self) -> None:
         self._fail(Fault(Exit.STATE, "the lease was lost: another firmd may lead by now"))
