@@ -307,8 +307,8 @@ exec '{program}' "$@"
 
 
 def named_meanwhile(setup: Options) -> None:
-    """A tenant of the same name that comes, and goes or stays, while another is taken in has that refused, and changes
-    nothing."""
+    """Another tenant that comes while one is taken in has that refused, and so has one of the same name, which goes or
+    stays; that changes nothing."""
     with pair(setup) as found:
         found.speak_all()
         there = found.there
@@ -319,21 +319,49 @@ def named_meanwhile(setup: Options) -> None:
         there.start()
         move = secrets.token_hex(8)
         state = done(found.here, "hold", move)["state"]
-        for goes in (True, False):
+        comes = [b"+ admit alpha,30,300,1000000000,1,2", b"alpha machine zz 1"]
+        for lines in ([b"+ admit extra,2,0,1000,0,0"], [*comes, b"+ retire alpha"], comes):
             held.touch()
             asked.unlink(missing_ok=True)
             with ThreadPoolExecutor(1) as pool, Client(there.operator) as client:
                 taking = pool.submit(ask, there, "take", move, state=state)
                 wait_for(asked.exists, "it is being taken in")
-                lines = [b"+ admit alpha,30,300,1000000000,1,2", b"alpha machine zz 1", *[b"+ retire alpha"] * goes]
                 require(all(b" ok" in client.ask(line) for line in lines), "it comes")
                 held.unlink()
                 require(taking.result().get("error") in ("failed", "tenant-exists"), taking.result())
         with Client(there.operator) as client:
             require(client.ask(b"+ retire alpha") == b"+ ok retired alpha", "it goes")
+            require(client.ask(b"extra show").startswith(b"extra 1 ok "), "the other one stays")
         done(there, "take", move, state=state)
         done(found.here, "give", move)
         found.turn()
+        found.speak_all()
+        found.judge()
+
+
+def no_place(setup: Options) -> None:
+    """Where tenants that were admitted since the last snapshot have all places, nobody is taken in and they stay; once
+    one of them has gone, a tenant comes."""
+    with pair(setup) as found:
+        found.speak_all()
+        there = found.there
+        with Client(there.operator) as client:
+            rows = [b"+ admit spare%d,2,0,1000,0,0" % number for number in range(63)]
+            require(all(client.ask(row).startswith(b"+ ok") for row in rows), "they are admitted")
+        move, again = secrets.token_hex(8), secrets.token_hex(8)
+        state = done(found.here, "hold", move)["state"]
+        refused(there, "failed", "take", move, state=state)
+        for is_again in (False, True):
+            with Client(there.operator) as client:
+                shown = client.ask(b"spare62 show")
+                require(shown.startswith(b"spare62 %d ok " % (1 + is_again)), shown)
+            if not is_again:
+                there.kill()
+                there.start()
+        done(found.here, "release", move)
+        with Client(there.operator) as client:
+            require(client.ask(b"+ retire spare62") == b"+ ok retired spare62", "one goes")
+        go(found, again)
         found.speak_all()
         found.judge()
 
@@ -545,6 +573,7 @@ QUICK: list[Callable[[Options], None]] = [
     held,
     refusals,
     named_meanwhile,
+    no_place,
     killed,
     without_snapshots,
 ]

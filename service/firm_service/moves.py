@@ -385,7 +385,7 @@ class Moves:
         return {}
 
     def _is_far(self, snapshot: Snapshot | None, tenant: bytes) -> bool:
-        """Whether much was said behind a snapshot, or something of a tenant, or etcd lacks what was."""
+        """Whether much was said behind a snapshot, or something by a tenant or the operator, or etcd lacks what was."""
         base, shared = self._parts.state.base if snapshot is None else snapshot.base, self._parts.shared
         if shared is not None and not shared.has_lines(base.size):
             return True
@@ -393,7 +393,8 @@ class Moves:
         return found.lines - found.base.lines > MOST_LINES or speaks_of(found, tenant) is not None
 
     def _require_silent(self, tenant: bytes, found: Found) -> None:
-        """Asks that nothing was said of the tenant behind the state that has it; it would be obeyed there."""
+        """Asks that neither the tenant nor the operator said anything behind the state that has it: a fresh firm would
+        obey the tenant's lines, and may find no place for whom the operator has admitted."""
         line = speaks_of(found, tenant)
         if line is not None:
             raise Unusable(f"meanwhile somebody said {line.decode(errors='replace')!r}")
@@ -410,12 +411,10 @@ class Moves:
 
 
 def speaks_of(found: Found, tenant: bytes) -> bytes | None:
-    """A line of a tenant, or one of the operator's that names it; None where there is none."""
-    named = re.compile(rb"[ \t,]%b([ \t,]|$)" % tenant)
+    """A line of a tenant, or of the operator's; None where there is none."""
     for kept in kept_lines(found):
         for line in kept.lines:
-            word = first_word(line)
-            if word == tenant or word == OPERATORS and named.search(line.rstrip(b"\r")):
+            if first_word(line) in (tenant, OPERATORS):
                 return line
     return None
 
