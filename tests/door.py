@@ -18,13 +18,16 @@ import subprocess
 import tempfile
 import time
 from collections.abc import Callable, Iterator
-from contextlib import ExitStack, contextmanager, suppress
+from concurrent.futures import ThreadPoolExecutor
+from contextlib import ExitStack, contextmanager
 from dataclasses import dataclass, field
 from functools import partial
+from itertools import count
 from pathlib import Path
 from typing import Any
 
 from etcd_kit import (
+    START_SECONDS,
     Authority,
     Replicas,
     cluster,
@@ -48,7 +51,9 @@ from firm_service.view_client import Service
 
 HEADING = "tenant,nodes,arcs,life,spread,churn\n"
 KILLED_MOVES = 12
-SHORTEST_MOVE = 0.05  # seconds
+SHORTEST_MOVE, LOOK_SECONDS = 0.01, 0.001  # seconds, and those between two looks whether one is under way
+SHOWN_SECONDS = 10.0  # until a shard's view has what was answered
+MOST_TASKS = 20  # of a tenant that is at work
 BUSY_SECONDS = 2.0  # some looks of HAProxy
 SILENCE_SECONDS = 6.0  # of a client of the door, whose leader is killed: a lease, and two looks of HAProxy
 TABLE = """\
@@ -385,15 +390,59 @@ def moves_by_lines(program: str) -> None:
         moved = here.ask("alpha", "alpha show", "alpha where a", "alpha round", "alpha where a")
         require(moved[0].split(" ", 2)[2] == shown.replace("running 2", "running 0"), (moved, shown))
         require("waits" in moved[1] and "at m1" in moved[3], moved)
+        # What an older firmctl left that was killed before it retired alpha at one: two has all rows.
+        require(operator_says(here.folder / "one.operator", "+ admit alpha,100,1000,100000,1,2").startswith("+ ok"), "")
+        (here.folder / "tenants.map.move").write_text("alpha two one\n")
+        require(here.control("move", "alpha", "--to", "two").stdout == "alpha is at two\n", "the former move is ended")
+        require(operator_says(here.folder / "one.operator", "alpha show") == "! unknown-tenant", "it is at two alone")
         done = here.control("move", "alpha", "--to", "one", "--by-lines", "--json")
         require(done.returncode == 0 and '"lines": 4' in done.stdout, done)
+
+
+def told_meanwhile(program: str) -> None:
+    """What a client at the old shard's own socket is answered while a tenant moves by lines is at the new one too."""
+    with two_shards(program) as here, ThreadPoolExecutor(1) as pool:
+        require(here.ask("alpha", "alpha job web 10")[0].endswith(" ok"), "a job")
+        working = pool.submit(work, here.folder / "one-alpha")
+        done = here.control("move", "alpha", "--to", "two", "--by-lines")
+        require(done.returncode == 0, done)
+        tasks = working.result()
+
+        def carried() -> set[str]:
+            lines = Service(str(here.folder / "two")).ask("lines", "alpha")["lines"]
+            return {line.split()[3] for line in lines if line.startswith("alpha task ")}
+
+        until(lambda: carried() == tasks, f"those at two are {sorted(tasks)}", SHOWN_SECONDS)
+
+
+def work(path: Path) -> set[str]:
+    """Submits tasks and has earlier ones done, until the tenant has gone; those that are there by what was answered."""
+    tasks: dict[str, None] = {}
+    with socket.socket(socket.AF_UNIX) as connected:
+        connected.settimeout(60)
+        connected.connect(str(path))
+        replies = connected.makefile("rb")
+        for number in count():
+            tasks[f"t{number}"] = None
+            lines = [f"task web t{number}"] + [f"done {name}" for name in [*tasks][:-MOST_TASKS]]
+            for line in lines:
+                connected.sendall(f"alpha {line}\n".encode())
+                reply = replies.readline()
+                is_done = reply.startswith(b"alpha ") and b" ok" in reply
+                if is_done == line.startswith("done "):
+                    tasks.pop(line.split()[-1])
+                if not is_done:
+                    require(reply == b"! unknown-tenant\n", reply)
+                    return set(tasks)
+            time.sleep(0.02)
+    raise ValueError("unreachable")
 
 
 def late_rows(program: str) -> None:
     """A move takes all that was answered with it, also where the reader of the rows lags behind firmd."""
     with two_shards(program) as here:
         shards = Table.read(here.table).shards
-        move = Move("alpha", shards["one"], shards["two"])
+        move = Move("alpha", shards["one"], shards["two"], "0" * 8)
         here.ask("alpha", "alpha machine m1 2")
         until(lambda: "alpha machine m1 2" in Service(str(here.folder / "one")).ask("lines", "alpha")["lines"], "m1")
         old = Service(str(here.folder / "one")).ask("lines", "alpha")
@@ -429,11 +478,13 @@ def kill_moves(program: str, *how: str) -> None:
             to = "one" if at == "two" else "two"
             words: list[Any] = [SERVICE / "firmctl", "move", "alpha", "--to", to, "--door", here.table, *how]
             with subprocess.Popen(words, stdout=subprocess.DEVNULL, stderr=subprocess.DEVNULL) as move:
-                until(lambda: record.exists() or move.poll() is not None, "the move has begun")
+                while not record.exists() and move.poll() is None:
+                    time.sleep(LOOK_SECONDS)
                 began = time.monotonic()
-                with suppress(subprocess.TimeoutExpired):
-                    move.wait(draw.uniform(0, middle) if number else None)
-                if move.poll() is not None:  # as the first is, which is not killed
+                ends = began + (draw.uniform(0, middle) if number else START_SECONDS)
+                while record.exists() and time.monotonic() < ends:
+                    time.sleep(LOOK_SECONDS)
+                if not record.exists():  # as of the first, which is not killed
                     middle = max(SHORTEST_MOVE, time.monotonic() - began)
                 move.kill()
             killed += record.exists()
@@ -656,8 +707,8 @@ def written_files() -> None:
 
 
 RULES: list[Callable[[], None]] = [faulty_tables, written_files]
-CHECKS: list[Callable[[str], None]] = [rights, busy_tenant, names, moves, moves_by_lines, late_rows, killed_moves]
-CHECKS += [killed_moves_by_lines, refused_moves, moves_of_replicas, leaders]
+CHECKS: list[Callable[[str], None]] = [rights, busy_tenant, names, moves, moves_by_lines, told_meanwhile, late_rows]
+CHECKS += [killed_moves, killed_moves_by_lines, refused_moves, moves_of_replicas, leaders]
 
 
 def main() -> int:

@@ -267,6 +267,29 @@ def held(setup: Options) -> None:
         found.judge()
 
 
+def paused(setup: Options) -> None:
+    """A tenant is held without its state too, up to a reply of some number, and gone once it is given; no snapshots are
+    needed for that."""
+    with pair(setup, "--snapshot-lines", "0") as found:
+        found.speak_all()
+        move = secrets.token_hex(8)
+        replies = [answered.reply for answered in found.tenants["alpha"].answered]
+        last = max(int(reply.split()[1]) for reply in replies if reply.startswith(b"alpha "))
+        for _ in range(2):
+            require(done(found.here, "pause", move) == {"number": last}, f"not held behind {last}")
+        refused(found.here, "moving", "pause", secrets.token_hex(8), "beta")
+        with Client(found.here.any) as client:
+            waits(client)
+            found.speak("beta")
+            done(found.here, "release", move)
+            require(client.reply().startswith(b"alpha %d ok " % (last + 1)), "it goes on")
+            again = secrets.token_hex(8)
+            require(done(found.here, "pause", again) == {"number": last + 1}, "held again")
+            waits(client)
+            done(found.here, "give", again)
+            require(client.reply() == b"! unknown-tenant", "it has gone")
+
+
 def refusals(setup: Options) -> None:
     """What can't be done is refused by name, and changes nothing; each request may be sent again."""
     with pair(setup) as found:
@@ -571,6 +594,7 @@ QUICK: list[Callable[[Options], None]] = [
     watched,
     rounds,
     held,
+    paused,
     refusals,
     named_meanwhile,
     no_place,

@@ -6,6 +6,8 @@ the move, by a name that no other move has:
 
     {"ask": "hold", "tenant": T, "move": M} -> {"state": TEXT}: firm gets no line of the tenant from here on, and its
         state is this. It stays so over restarts, by the file `moving` or etcd's key, until `give` or `release`.
+    {"ask": "pause", "tenant": T, "move": M} -> {"number": N}: the same without its state, for one who carries its rows;
+        N is that of its last reply.
     {"ask": "take", "tenant": T, "move": M, "state": TEXT} -> {}: the tenant is here, and stays.
     {"ask": "taken", "tenant": T, "move": M} -> {"taken": BOOL}: whether it has come by this move. After false it never
         will.
@@ -234,6 +236,8 @@ class Moves:
                     return {}
                 case {"ask": "hold", "tenant": str(tenant), "move": str(move)}:
                     return {"state": await self._hold(named(tenant, move))}
+                case {"ask": "pause", "tenant": str(tenant), "move": str(move)}:
+                    return {"number": await self._number(named(tenant, move))}
                 case {"ask": "take", "tenant": str(tenant), "move": str(move), "state": str(text)}:
                     return await self._by_thread(partial(self._take, named(tenant, move), text.encode()))
                 case {"ask": "taken", "tenant": str(tenant), "move": str(move)}:
@@ -281,6 +285,18 @@ class Moves:
     # The service that has the tenant.
 
     async def _hold(self, asked: Held) -> str:
+        rows = rows_of(await self._pause(asked))
+        state = await self._by_thread(partial(self._part, rows))
+        await asyncio.to_thread(self._mark.require_current)
+        return state
+
+    async def _number(self, asked: Held) -> int:
+        book = await self._pause(asked)
+        await asyncio.to_thread(self._mark.require_current)
+        return int(book.number)
+
+    async def _pause(self, asked: Held) -> Book:
+        """Holds a tenant; its rows, once all is answered that firm has of it."""
         parts, name = self._parts, asked.tenant.encode()
         async with self._lock:
             if asked.move in self._released:
@@ -297,10 +313,7 @@ class Moves:
                 await asyncio.sleep(QUIET_SECONDS)
             if asked.tenant not in parts.books.tenants:
                 raise Refused("no-tenant", f"{asked.tenant} was retired")
-            rows = rows_of(parts.books.tenants[asked.tenant])
-        state = await self._by_thread(partial(self._part, rows))
-        await asyncio.to_thread(self._mark.require_current)
-        return state
+            return parts.books.tenants[asked.tenant]
 
     def _part(self, rows: TenantRows) -> str:
         """The state that has one tenant alone, as firm_state makes it of its own lines, and as the replies say."""

@@ -5,7 +5,8 @@ retires it. A record beside the door's map tells of a move from its beginning to
 tenant is at the new shard if that has taken it, and otherwise at the old one. Of replicas the one is asked that leads.
 
 By lines (`--by-lines`), as where no snapshots are made, all its tasks wait again: lines can't say where a task runs,
-for how long it has waited or how many commands there were.
+for how long it has waited or how many commands there were. The old firmd holds its lines all the same: what it answered
+behind the rows that are carried would be lost.
 """
 
 from __future__ import annotations
@@ -38,6 +39,7 @@ LEADER_SECONDS, PROBE_SECONDS = 30.0, 2.0  # until one of several replicas leads
 UNKNOWN = "! unknown-tenant"  # firm's reply where a tenant is not there
 MOST_TRIES, TRY_SECONDS = 20, 0.5  # of a request whose replica was lost, and between two of them
 LEFT = ("not-leading", "stopping")  # what a replica says that leads no more
+CARRYING, CARRIED = "carrying", "carried"  # of a move by lines: whether the new shard has all rows
 MOVES = "moves"  # firmd's socket for moves, in its state's folder
 
 Lines = Callable[[str, str], Row]  # of a tenant, by the state folder of its firmd
@@ -160,8 +162,8 @@ class Record:
             raise Failure(NO_SERVICE, "another move is under way") from None
 
     def read(self) -> list[str]:
-        """Of a move that did not end: its tenant, and two shards. By lines that which has all its rows, and the other;
-        otherwise the old one and the new one, and the move's name."""
+        """Of a move that did not end: its tenant, the old shard and the new one, the move's name, and by lines whether
+        the new one has all its rows."""
         return self._path.read_text().split() if self._path.exists() else []
 
     def keep(self, *words: str) -> None:
@@ -173,85 +175,13 @@ class Record:
 
 
 @dataclass(frozen=True)
-class Move:
-    """By lines."""
-
-    tenant: str
-    old: Shard
-    new: Shard
-
-    def operator(self, shard: Shard) -> Path:
-        if not shard.operators:
-            raise Failure(USAGE, f"the table has no operator of the shard {shard.name}")
-        return shard.operators[leading(shard)]
-
-    def require_room(self) -> None:
-        """Asks that the new shard serves, and hasn't the tenant."""
-        (reply,) = ask(self.operator(self.new), [f"{self.tenant} show"])
-        if reply != UNKNOWN:
-            raise Failure(NOT_THERE, f"the shard {self.new.name} has a tenant {self.tenant} already: {reply}")
-        self.operator(self.old)
-        if not self.old.states:
-            raise Failure(USAGE, f"the table has no state of the shard {self.old.name}")
-
-    def carry(self, lines: Lines) -> int:
-        """Gives the new shard the tenant's rows; how many lines they took. The old one has it still."""
-        found = self._settled(lines)
-        for line in (f"+ admit {found['row']}", *found["lines"]):
-            (reply,) = ask(self.operator(self.new), [line])
-            is_done = reply.endswith(" ok") or reply.startswith("+ ok admitted")
-            if not is_done:
-                raise Failure(NOT_THERE, f"the shard {self.new.name} replies {reply!r} to {line!r}")
-        return len(found["lines"])
-
-    def _settled(self, lines: Lines) -> Row:
-        """The lines of its rows, behind all that was answered: the reader of the rows may lag."""
-        ends = time.monotonic() + MOST_QUIET_SECONDS
-        while True:
-            number, found = self._number(), lines(str(self.old.states[leading(self.old)]), self.tenant)
-            if found["number"] == number and self._number() <= number + 1:
-                return found
-            if time.monotonic() > ends:
-                raise Failure(NO_SERVICE, f"the rows of {self.tenant} change all the time: who else sends its lines?")
-            time.sleep(LOOK_SECONDS)
-
-    def _number(self) -> int:
-        """That of a reply to the tenant, one higher each time unless it is worn."""
-        (reply,) = ask(self.operator(self.old), [f"{self.tenant} show"])
-        words = reply.split()
-        if words[:1] != [self.tenant]:
-            raise Failure(NOT_THERE, f"the shard {self.old.name} has no tenant {self.tenant}: {reply}")
-        return int(words[1])
-
-
-@dataclass(frozen=True)
-class WholeMove:
-    """With placements, waits and numbers."""
+class Asked:
+    """A move, as the firmd of both shards are asked for it."""
 
     tenant: str
     old: Shard
     new: Shard
     name: str  # that no other move has
-
-    def require_served(self) -> None:
-        """Asks that both shards do what a move needs, by one that is never made."""
-        probe = replace(self, name=secrets.token_hex(8))
-        probe._ask(self.new, "taken")
-        probe._ask(self.old, "release")
-
-    def carry(self) -> None:
-        """Has the old shard hold the tenant, and the new one take it."""
-        state = self._ask(self.old, "hold")["state"]
-        self._ask(self.new, "take", state=state)
-
-    def finish(self, proxy: Proxy) -> None:
-        """Has the shard alone serve it that has it, and the door know."""
-        if self._ask(self.new, "taken")["taken"]:
-            proxy.point(self.tenant, self.new.name)
-            self._ask(self.old, "give")
-        else:
-            self._ask(self.old, "release")
-            proxy.point(self.tenant, self.old.name)
 
     def _ask(self, shard: Shard, what: str, **more: str) -> Row:
         """What the shard says, by another replica where one is lost meanwhile: each request may be sent again."""
@@ -280,6 +210,89 @@ class WholeMove:
             time.sleep(TRY_SECONDS)
 
 
+@dataclass(frozen=True)
+class Move(Asked):
+    """By lines."""
+
+    def operator(self, shard: Shard) -> Path:
+        if not shard.operators:
+            raise Failure(USAGE, f"the table has no operator of the shard {shard.name}")
+        return shard.operators[leading(shard)]
+
+    def require_room(self) -> None:
+        """Asks that the new shard serves, and hasn't the tenant."""
+        (reply,) = ask(self.operator(self.new), [f"{self.tenant} show"])
+        if reply != UNKNOWN:
+            raise Failure(NOT_THERE, f"the shard {self.new.name} has a tenant {self.tenant} already: {reply}")
+        self.operator(self.old)
+        if not self.old.states:
+            raise Failure(USAGE, f"the table has no state of the shard {self.old.name}")
+
+    def carry(self, lines: Lines) -> int:
+        """Has the old shard hold the tenant, and gives the new one its rows; how many lines they took."""
+        found = self._settled(lines, self._ask(self.old, "pause")["number"])
+        for line in (f"+ admit {found['row']}", *found["lines"]):
+            (reply,) = ask(self.operator(self.new), [line])
+            is_done = reply.endswith(" ok") or reply.startswith("+ ok admitted")
+            if not is_done:
+                raise Failure(NOT_THERE, f"the shard {self.new.name} replies {reply!r} to {line!r}")
+        return len(found["lines"])
+
+    def _settled(self, lines: Lines, number: int) -> Row:
+        """The lines of its rows, up to its reply of this number: the reader of the rows may lag."""
+        ends = time.monotonic() + MOST_QUIET_SECONDS
+        while (found := lines(str(self.old.states[leading(self.old)]), self.tenant))["number"] != number:
+            if time.monotonic() > ends:
+                raise Failure(NO_SERVICE, f"the rows of {self.tenant} at {self.old.name} are not those of {number}")
+            time.sleep(LOOK_SECONDS)
+        return found
+
+    def finish(self, proxy: Proxy, is_carried: bool) -> None:
+        """Has the shard alone serve it that has all its rows, and the door know."""
+        if is_carried:
+            self._require_there(self.new)
+            proxy.point(self.tenant, self.new.name)
+            self._ask(self.old, "give")
+        else:
+            self._ask(self.old, "release")
+            self._require_there(self.old)
+            proxy.point(self.tenant, self.old.name)
+            _, reply = ask(self.operator(self.new), [f"+ retire {self.tenant}", f"{self.tenant} show"])
+            if reply != UNKNOWN:
+                raise Failure(NOT_THERE, f"the shard {self.new.name} still has {self.tenant}: {reply}")
+
+    def _require_there(self, shard: Shard) -> None:
+        (reply,) = ask(self.operator(shard), [f"{self.tenant} show"])
+        if reply == UNKNOWN:
+            told = f"the shard {shard.name} has {self.tenant} no more, which was to have all its rows"
+            raise Failure(NOT_THERE, told)
+
+
+@dataclass(frozen=True)
+class WholeMove(Asked):
+    """With placements, waits and numbers."""
+
+    def require_served(self) -> None:
+        """Asks that both shards do what a move needs, by one that is never made."""
+        probe = replace(self, name=secrets.token_hex(8))
+        probe._ask(self.new, "taken")
+        probe._ask(self.old, "release")
+
+    def carry(self) -> None:
+        """Has the old shard hold the tenant, and the new one take it."""
+        state = self._ask(self.old, "hold")["state"]
+        self._ask(self.new, "take", state=state)
+
+    def finish(self, proxy: Proxy) -> None:
+        """Has the shard alone serve it that has it, and the door know."""
+        if self._ask(self.new, "taken")["taken"]:
+            proxy.point(self.tenant, self.new.name)
+            self._ask(self.old, "give")
+        else:
+            self._ask(self.old, "release")
+            proxy.point(self.tenant, self.old.name)
+
+
 def move(options: argparse.Namespace, lines: Lines) -> None:
     try:
         table = Table.read(options.door)
@@ -297,7 +310,7 @@ def move(options: argparse.Namespace, lines: Lines) -> None:
         raise Failure(NOT_THERE, f"the door sends {tenant} to {now}, and no move of it was begun")
     if now == to:
         return show(options, {"tenant": tenant, "shard": to, "lines": 0}, lambda _: f"{tenant} is at {to}\n")
-    moved = Move(tenant, table.shards[now], table.shards[to])
+    moved = Move(tenant, table.shards[now], table.shards[to], secrets.token_hex(8))
     moved.require_room()
     if options.by_lines:
         count = move_by_lines(moved, lines, record, proxy)
@@ -311,7 +324,7 @@ def move(options: argparse.Namespace, lines: Lines) -> None:
 
 def move_whole(moved: Move, record: Record, proxy: Proxy) -> None:
     """Has the new shard have the tenant, though the old one has it still."""
-    whole = WholeMove(moved.tenant, moved.old, moved.new, secrets.token_hex(8))
+    whole = WholeMove(moved.tenant, moved.old, moved.new, moved.name)
     whole.require_served()
     record.keep(moved.tenant, moved.old.name, moved.new.name, whole.name)
     with taken_back(moved, whole.finish, record, proxy):
@@ -320,11 +333,11 @@ def move_whole(moved: Move, record: Record, proxy: Proxy) -> None:
 
 def move_by_lines(moved: Move, lines: Lines, record: Record, proxy: Proxy) -> int:
     """The same by so many lines."""
-    back = Move(moved.tenant, moved.new, moved.old)
-    record.keep(moved.tenant, moved.old.name, moved.new.name)
-    with taken_back(moved, partial(finish_by_lines, back), record, proxy):
+    words = (moved.tenant, moved.old.name, moved.new.name, moved.name)
+    record.keep(*words, CARRYING)
+    with taken_back(moved, partial(moved.finish, is_carried=False), record, proxy):
         count = moved.carry(lines)
-    record.keep(moved.tenant, moved.new.name, moved.old.name)
+    record.keep(*words, CARRIED)
     return count
 
 
@@ -346,24 +359,14 @@ def finish(table: Table, record: Record, proxy: Proxy) -> None:
     words = record.read()
     if not words:
         return
-    tenant, one, two, *names = words
+    tenant, one, two, *more = words
     for shard in (one, two):
         if shard not in table.shards:
             raise Failure(NOT_THERE, f"{table.path} lacks the shard {shard}, where a move of {tenant} did not end")
-    if names:
-        WholeMove(tenant, table.shards[one], table.shards[two], *names).finish(proxy)
+    # An older firmctl gave a move by lines no name: the first shard has all rows.
+    name, *kind = more or (secrets.token_hex(8), CARRYING)
+    if kind:
+        Move(tenant, table.shards[one], table.shards[two], name).finish(proxy, kind == [CARRIED])
     else:
-        finish_by_lines(Move(tenant, table.shards[two], table.shards[one]), proxy)
+        WholeMove(tenant, table.shards[one], table.shards[two], name).finish(proxy)
     record.drop()
-
-
-def finish_by_lines(moved: Move, proxy: Proxy) -> None:
-    """The tenant is at the shard that has all its rows, and not at the other."""
-    tenant, here, other = moved.tenant, moved.new.name, moved.old.name
-    (reply,) = ask(moved.operator(moved.new), [f"{tenant} show"])
-    if reply == UNKNOWN:
-        raise Failure(NOT_THERE, f"the shard {here} has {tenant} no more, which was to have all its rows")
-    proxy.point(tenant, here)
-    _, reply = ask(moved.operator(moved.old), [f"+ retire {tenant}", f"{tenant} show"])
-    if reply != UNKNOWN:
-        raise Failure(NOT_THERE, f"the shard {other} still has {tenant}: {reply}")
