@@ -86,6 +86,8 @@ def joined_at(base: Base, move: str, state: bytes) -> Joined:
 
 
 def shared_of(journal: ReplicatedJournal) -> Shared:
+    """Of one whose housekeeper does what it is called for: on a slow host its thread would remove lines before that."""
+    journal.housekeeper.end()
     journal.housekeeper.retained = 0
     return journal.shared
 
