@@ -38,6 +38,7 @@ UNREAD_LINES = 10_000
 NO_HTTP = f"neither {sys.executable} nor /usr/bin/python3 has aiohttp and prometheus_client"
 ALL_SECONDS = 120.0  # for a hundred thousand lines on a busy host
 SOON_SECONDS = 0.3  # in which something that must not happen would have happened
+MEANWHILE_SECONDS = 30.0  # for what must happen while firm stands still, on a busy host
 PATIENT = ("--firm-timeout", "600")  # where a check has firm stand still
 REQUEST = b"GET /metrics HTTP/1.1\r\nHost: localhost\r\nAccept: text/html\r\nConnection: close\r\n\r\n"
 # Requests at which parsers have failed.
@@ -462,6 +463,45 @@ def bounded_lines(setup: Setup) -> None:
             ends_well(daemon)
 
 
+def bounded_in_all(setup: Setup) -> None:
+    """Sockets that are owed as much as all may be keep nobody out who is owed little: a tenant and the operator."""
+    crowd = [b"alpha", b"gamma", b"delta", b"omega"]
+    roster = firmd_kit.ROSTER + b"".join(b"%b,30,300,1000000000,1,2\n" % name for name in crowd[1:])
+
+    def ask(name: bytes) -> int:
+        with Client(daemon.folder / name.decode()) as client:
+            client.socket.settimeout(ALL_SECONDS)
+            client.send((b"%b show" % name + b" " * 240 + b"\n") * 1_000)
+            return client.end().count(b"\n")
+
+    options = ["--most-unanswered-in-all", "400000", *PATIENT]
+    with setup.daemon(*options, roster=roster) as daemon, ThreadPoolExecutor(32) as pool:
+        for name in (*crowd, b"beta"):
+            daemon.options += ["--client", f"{name.decode()}={daemon.folder / name.decode()}"]
+        daemon.start()
+        firm = daemon.firm_process()
+        os.kill(firm, signal.SIGSTOP)
+        answers = [pool.submit(ask, name) for name in crowd * 8]
+        try:
+            wait_for(lambda: status_of(daemon)["owed_bytes"] > 400_000, "lines are taken")
+            time.sleep(SOON_SECONDS + TICK_SECONDS)
+            taken = status_of(daemon)["owed_bytes"]
+            require(taken < 2_000_000, f"{taken} bytes of lines are taken, of {32 * 251_000}")
+            with Client(daemon.folder / "beta") as other, Client(daemon.operator) as operator:
+                other.send(b"beta show\n")
+                operator.send(b"+ retire omega\n")
+                for line in (b"beta show\n", b"+ retire omega\n"):
+                    wait_for(lambda: line in daemon.journal(), f"{line!r} is taken", MEANWHILE_SECONDS)
+                os.kill(firm, signal.SIGCONT)
+                require(other.reply().startswith(b"beta 1 ok"), "and answered")
+                require(operator.reply() == b"+ ok retired omega", "and answered")
+        finally:
+            os.kill(firm, signal.SIGCONT)
+        require([answer.result() for answer in answers] == [1_000] * 32, "each line is answered")
+        wait_for(lambda: status_of(daemon)["owed_bytes"] == 0, "none counts any more")
+        ends_well(daemon)
+
+
 def bounded_refusals(setup: Setup) -> None:
     """Lines that firmd refuses itself count too, while they wait behind others of their client."""
     text = b"alpha round\n" * 2 + b"A\n+\n" * 500
@@ -654,6 +694,7 @@ CHECKS = [
     refusals_in_shortages,
     bounded_replies,
     bounded_lines,
+    bounded_in_all,
     bounded_refusals,
     refused_connections,
     gone_before_their_turn,

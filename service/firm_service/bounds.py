@@ -9,6 +9,7 @@ MEBIBYTE = 2**20
 # Beside their text, as tracemalloc counts in CPython 3.11, rounded up: of lines that came together, with the stream's
 # share and the client's own record, 475; of a note that waits behind replies or lines, with its text, 180.
 SHARE_BYTES, NOTE_BYTES = 512, 192
+SHARES = 128  # of what may be unanswered in all, more than there are sockets: at most twice as much is, then
 UNREAD_PIECE = 65_536  # bytes: small enough for the allocator to use again, a third of what a Unix socket takes
 
 
@@ -76,37 +77,45 @@ class Unread:
 
 
 class Backlog:
-    """Lines that are not answered yet. At a bound the clients concerned are not read, until half of it is answered."""
+    """Lines that are not answered yet. At a bound the clients concerned are not read, until half of it is answered.
+
+    Those of a socket have its own bound; where all together are at theirs, each socket has a share of that, so that
+    some that have much keep nobody out who has little, as the operator.
+    """
 
     def __init__(self, bounds: Bounds) -> None:
         self.account = Account(bounds)
         self._full: set[bytes] = set()  # sockets
         self._is_full = False  # all together
+        self._most = bounds.of_socket  # of a socket, as long as this is so
 
     def is_full(self, socket: bytes) -> bool:
-        return self._is_full or socket in self._full
+        return socket in self._full
 
     def add(self, socket: bytes, size: int) -> bool:
         """Whether other clients are read than before."""
-        self.account.add(socket, size)
-        if size > 0:
-            return self._fill(socket)
-        return bool(self._full or self._is_full) and self._empty(socket)
-
-    def _fill(self, socket: bytes) -> bool:
-        account, bounds = self.account, self.account.bounds
-        if not account.is_over(socket):
-            return False
-        before = self._is_full, len(self._full)
-        self._is_full = self._is_full or account.total > bounds.in_all
-        if account.bytes[socket] > bounds.of_socket:
+        account, in_all = self.account, self.account.bounds.in_all
+        account.add(socket, size)
+        if account.total > in_all and not self._is_full:
+            return self._fill()
+        if self._is_full and account.total <= in_all // 2:
+            return self._empty()
+        if size > 0 and account.bytes[socket] > self._most and socket not in self._full:
             self._full.add(socket)
-        return (self._is_full, len(self._full)) != before
-
-    def _empty(self, socket: bytes) -> bool:
-        account, bounds = self.account, self.account.bounds
-        before = self._is_full, len(self._full)
-        self._is_full = self._is_full and account.total > bounds.in_all // 2
-        if account.bytes[socket] <= bounds.of_socket // 2:
+            return True
+        if size < 0 and socket in self._full and account.bytes[socket] <= self._most // 2:
             self._full.discard(socket)
-        return (self._is_full, len(self._full)) != before
+            return True
+        return False
+
+    def _fill(self) -> bool:
+        bounds = self.account.bounds
+        self._is_full, self._most = True, min(bounds.of_socket, bounds.in_all // SHARES)
+        self._full.update(socket for socket, size in self.account.bytes.items() if size > self._most)
+        return True
+
+    def _empty(self) -> bool:
+        most = self.account.bounds.of_socket
+        self._is_full, self._most = False, most
+        self._full = {socket for socket in self._full if self.account.bytes[socket] > most // 2}
+        return True
