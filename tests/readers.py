@@ -35,7 +35,7 @@ import firmd_kit
 from firmd_kit import REPLY_SECONDS, ROWS, Client, Daemon, Gone, Setup, wait_for
 from harness import program, service
 from harness.checks import Check, Missed, Skipped, Suite, require, run_script, run_suites
-from harness.deployed import Books, Follower, Shown, Status, feed, feeder
+from harness.deployed import MOST_OF_USER, Books, Follower, Shown, Status, feed, feeder
 from harness.small_streams import random_stream
 from hostile import is_served, patch_viewer, view_of, with_http
 from reader_kit import KINDS, SCRAPE, Readers, closing_server, view_of as connect_view, web_of
@@ -367,6 +367,33 @@ def dropped_watchers(setup: Setup, bound: str) -> None:
                 return len(list(descriptors.iterdir())) <= before + 1
 
             wait_for(are_dropped, "they are dropped")
+
+
+UNREAD = json.dumps({"ask": "x" * 40_000}).encode() + b"\n"  # which is refused with its own words
+
+
+def closing_connections(setup: Setup) -> None:
+    """Connections of a user that are closed, but have not read all, count until then: others have descriptors left."""
+    with setup.daemon() as daemon, ExitStack() as held:
+        patch_viewer(daemon, "from firm_service import view\nview.PATIENCE_SECONDS = 1_000", PATIENT)
+        daemon.start()
+        descriptors = Path(f"/proc/{viewer_of(daemon)}/fd")
+        wait_for(lambda: "status" in ask(daemon, {"ask": "status"}), "it answers")
+        before, held_open = len(list(descriptors.iterdir())), list[socket.socket]()
+        for _ in range(200):
+            reader = held.enter_context(connect_view(str(daemon.state)))
+            with suppress(OSError):  # it may be refused
+                reader.sendall(UNREAD * 6)  # whose answers are more than the system takes, and less than asyncio does
+                reader.shutdown(socket.SHUT_WR)
+            held_open.append(reader)
+        for reader in held_open:
+            require(reader.recv(1, socket.MSG_PEEK) == b"{", "it is answered, or refused")
+        more = len(list(descriptors.iterdir())) - before
+        require(more <= MOST_OF_USER, f"{more} connections of a user are open")
+        for reader in held_open[: MOST_OF_USER // 2]:
+            reader.close()
+        wait_for(lambda: "status" in ask(daemon, {"ask": "status"}), "there is room again")
+        daemon.stop()
 
 
 # The process.
@@ -731,6 +758,7 @@ def watched(daemon: Daemon) -> None:
 CHECKS: list[Callable[[Setup], None]] = [
     bounded_memory,
     slow_connections,
+    closing_connections,
     another_viewer,
     told_by_feed,
     whole_messages,

@@ -178,11 +178,9 @@ class View:
             refusal = self._refusal(peer)
             if refusal is not None:
                 await self._refuse(refusal, reader, writer)
+                await closed(writer)
             else:
                 await self._serve(peer, reader, writer)
-            writer.close()
-            async with asyncio.timeout(PATIENCE_SECONDS):
-                await writer.wait_closed()
         except (OSError, ValueError):  # it is gone or slow, or its line is endless
             pass
         except asyncio.CancelledError:  # the service ends; asyncio would report a cancelled connection as an error
@@ -236,11 +234,14 @@ class View:
         self.connections.add(connection)
         self.users[peer.user] += 1
         try:
-            await connection.serve(reader)
+            try:
+                await connection.serve(reader)
+            finally:
+                connection.leave()
+            await closed(writer)  # it counts until then: what it has not read is kept, and so is its descriptor
         finally:
             self.connections.discard(connection)
             self.users[peer.user] -= 1
-            connection.leave()
 
 
 class Connection:
@@ -427,6 +428,13 @@ class Connection:
     async def _drain(self) -> None:
         async with asyncio.timeout(PATIENCE_SECONDS):
             await self._writer.drain()
+
+
+async def closed(writer: asyncio.StreamWriter) -> None:
+    """Closes a connection once all is read that it was sent."""
+    writer.close()
+    async with asyncio.timeout(PATIENCE_SECONDS):
+        await writer.wait_closed()
 
 
 def refused(refusal: Refused) -> bytes:
