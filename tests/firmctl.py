@@ -22,6 +22,7 @@ import socket
 import subprocess
 import sys
 import tempfile
+from concurrent.futures import ThreadPoolExecutor
 from functools import partial
 from pathlib import Path
 
@@ -471,6 +472,25 @@ def exit_statuses() -> None:
     require(done.status == 3, done)
 
 
+def a_view_that_leaves() -> None:
+    """A firmd that takes no further request is told with status 3, and no signal ends firmctl without a word."""
+    with tempfile.TemporaryDirectory(prefix="firm-") as folder, socket.socket(socket.AF_UNIX) as listening:
+        listening.bind(f"{folder}/view")
+        listening.listen()
+
+        def answer_once() -> None:
+            connection, _ = listening.accept()
+            with connection:
+                connection.recv(1_000)
+                connection.shutdown(socket.SHUT_RD)
+                connection.sendall(b'{"tenants": [{"tenant": "alpha"}]}\n')
+
+        with ThreadPoolExecutor(1) as pool:
+            pool.submit(answer_once)
+            done = firmctl("state", "--state", folder)
+        require(done.status == 3 and b"does not answer: Broken pipe" in done.faults, done)
+
+
 def firmctl_over_firmd(built: str) -> None:
     """What it prints of a running firmd, and of one that was killed and started again."""
     with firmd_kit.Setup(built, True, 1).daemon(roster=ROSTER) as daemon:
@@ -743,6 +763,7 @@ def checks(built: str, streams: range) -> dict[str, Check]:
         "firmctl, tables": tables_are_printed,
         "firmctl, JSON": json_is_printed,
         "firmctl, exit statuses": exit_statuses,
+        "firmctl, a view that leaves": a_view_that_leaves,
         "firmctl, watch": watch_prints,
         "view, watchers": watchers_follow,
         "view, tenants that join": watchers_see_who_joins,

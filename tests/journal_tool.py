@@ -2,15 +2,19 @@
 
 from __future__ import annotations
 
+import os
+import signal
 import subprocess
 import sys
 import threading
 from pathlib import Path
+from subprocess import PIPE
 
 import firmd_kit
 from firmd_kit import JOURNAL_TOOL, Setup
 from harness.checks import require
 from harness.deployed import SERVICE, found_now, kept_lines
+from harness.program import opened
 from journal_kit import OLD, ROUNDS, answered, ask_all, serves, tool, write_old
 
 
@@ -144,4 +148,33 @@ def printed_meanwhile(setup: Setup) -> None:
         daemon.stop()
 
 
-SHORT = [cut_rewrites, cut_renewals, new_ids, printed_damage, printed_meanwhile]
+NO_TENANT = "firm_state: tenant fault 4 unknown-tenant ALPHA"
+REFUSING = f"""#!{sys.executable} -IS
+import sys
+sys.exit(sys.stderr.write({NO_TENANT!r}) and 3)
+"""
+ENDING = f"""#!{sys.executable} -IS
+import os
+os.kill(os.getpid(), 9)
+"""
+
+
+def ended_states(setup: Setup) -> None:
+    """Where firm_state ends before it has read all lines, `firm-journal state` says why and ends with a status."""
+    with setup.daemon("--snapshot-lines", "0") as daemon:
+        daemon.start()
+        with daemon.client() as client:
+            client.send(b"alpha show\n" * 1_000)
+            require(all(client.reply().startswith(b"alpha ") for _ in range(1_000)), "replies")
+        daemon.stop()
+        for text, status, words in ((REFUSING, 3, NO_TENANT), (ENDING, 6, "firm_state ended with status -9")):
+            environment = {**os.environ, "FIRM_STATE_PROGRAM": firmd_kit.stand_in(daemon.folder, text)}
+            command = [*JOURNAL_TOOL, "state", str(daemon.state), "--tenant", "ALPHA"]
+            done = subprocess.run(command, env=environment, capture_output=True, text=True)
+            require((done.returncode, done.stdout, done.stderr) == (status, "", f"firm-journal: {words}\n"), done)
+        with subprocess.Popen([*JOURNAL_TOOL, "print", str(daemon.state)], stdout=PIPE, stderr=PIPE) as printing:
+            opened(printing.stdout).close()  # as of `firm-journal print | head`
+            require((opened(printing.stderr).read(), printing.wait()) == (b"", -signal.SIGPIPE), printing)
+
+
+SHORT = [cut_rewrites, cut_renewals, new_ids, printed_damage, printed_meanwhile, ended_states]

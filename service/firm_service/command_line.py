@@ -4,6 +4,8 @@ from __future__ import annotations
 
 import argparse
 import json
+import os
+import signal
 import sys
 from collections.abc import Callable
 from dataclasses import dataclass
@@ -62,6 +64,21 @@ class Verbs:
         )
         command.set_defaults(run=run)
         return command
+
+
+def in_pipe(work: Callable[[], int]) -> int:
+    """The exit status of the program's work; it ends as others do where nobody reads what it prints any more, as in
+    `firmctl tasks | head`. Until then the signal stays ignored: a socket or a program that is gone is an error to be
+    told, and not the end of this one without a word."""
+    try:
+        try:
+            return work()
+        finally:
+            print(end="", flush=True)
+    except BrokenPipeError:
+        signal.signal(signal.SIGPIPE, signal.SIG_DFL)
+        os.kill(os.getpid(), signal.SIGPIPE)
+        raise
 
 
 def show(options: argparse.Namespace, answer: Row, plain: Callable[[Row], str]) -> None:

@@ -14,7 +14,7 @@ from pathlib import Path
 from typing import Any
 
 from . import tables
-from .command_line import NOT_THERE, USAGE, Failure, Verb, Verbs, add_queue, show, whole
+from .command_line import NOT_THERE, USAGE, Failure, Verb, Verbs, add_queue, in_pipe, show, whole
 from .lines import is_name
 from .observers import WARNED_SHARE
 from .questions import add_questions
@@ -249,7 +249,10 @@ def parser(only: str | None = None) -> argparse.ArgumentParser:
 
 
 def main() -> int:
-    signal.signal(signal.SIGPIPE, signal.SIG_DFL)  # as other programs of a pipe: `firmctl tasks | head`
+    return in_pipe(run)
+
+
+def run() -> int:
     options = parser(named_verb(sys.argv[1:])).parse_args()
     try:
         options.run(options)

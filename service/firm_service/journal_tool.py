@@ -4,11 +4,11 @@ from __future__ import annotations
 
 import argparse
 import shutil
-import signal
 import sys
 import time
 from pathlib import Path
 
+from .command_line import in_pipe
 from .faults import Exit, Fault, say
 from .files import sync_folder
 from .journal import SEGMENT_BYTES, Journal, Room
@@ -185,17 +185,23 @@ def parser() -> argparse.ArgumentParser:
 
 
 def main() -> int:
-    signal.signal(signal.SIGPIPE, signal.SIG_DFL)  # as other programs of a pipe
+    return in_pipe(run)
+
+
+def run() -> int:
     options = parser().parse_args()
     begin("firm-journal", options.log_format)
     try:
         options.run(options)
+        print(end="", flush=True)
     except Fault as fault:
         say(str(fault), ERROR)
         return fault.status
     except (NotBuilt, StateError) as error:
         say(str(error), ERROR)
         return Exit.ROSTER if isinstance(error, Refused) else Exit.FIRM
+    except BrokenPipeError:  # of standard output
+        raise
     except OSError as error:
         say(str(error), ERROR)
         return Exit.STATE
