@@ -30,6 +30,7 @@ from dataclasses import dataclass, field
 from functools import partial
 from pathlib import Path
 from typing import Any
+from unittest.mock import Mock
 
 import firmd_kit
 from firmd_kit import REPLY_SECONDS, ROWS, Client, Daemon, Gone, Setup, wait_for
@@ -379,21 +380,30 @@ def closing_connections(setup: Setup) -> None:
         daemon.start()
         descriptors = Path(f"/proc/{viewer_of(daemon)}/fd")
         wait_for(lambda: "status" in ask(daemon, {"ask": "status"}), "it answers")
-        before, held_open = len(list(descriptors.iterdir())), list[socket.socket]()
+        before, readers = len(list(descriptors.iterdir())), list[socket.socket]()
         for _ in range(200):
-            reader = held.enter_context(connect_view(str(daemon.state)))
+            readers.append(held.enter_context(connect_view(str(daemon.state))))
             with suppress(OSError):  # it may be refused
-                reader.sendall(UNREAD * 6)  # whose answers are more than the system takes, and less than asyncio does
-                reader.shutdown(socket.SHUT_WR)
-            held_open.append(reader)
-        for reader in held_open:
-            require(reader.recv(1, socket.MSG_PEEK) == b"{", "it is answered, or refused")
+                readers[-1].sendall(UNREAD * 6)  # whose answers are more than the system takes, and less than asyncio
+                readers[-1].shutdown(socket.SHUT_WR)
+        require(all(reader.recv(1, socket.MSG_PEEK) == b"{" for reader in readers), "each is answered, or refused")
         more = len(list(descriptors.iterdir())) - before
         require(more <= MOST_OF_USER, f"{more} connections of a user are open")
-        for reader in held_open[: MOST_OF_USER // 2]:
+        for reader in readers[: MOST_OF_USER // 2]:
             reader.close()
         wait_for(lambda: "status" in ask(daemon, {"ask": "status"}), "there is room again")
-        daemon.stop()
+
+
+def asked_once(setup: Setup) -> None:
+    """Watchers are asked once for each tenant of a message, and not for each line: those of others cost next to none."""
+    books, lines = Books(), [b"alpha show", b"beta show"] * 500
+    books.start(ROSTER)
+    shown = Shown(books, Status(0.0, 0, 0, 0, 0, 0, 0, 0), "")
+    watchers = [Mock(**{"wants.side_effect": lambda tenant: tenant == "beta"}) for _ in range(WATCHERS)]
+    shown.watchers += watchers
+    shown.replied_all(lines, [b"%b 1 ok" % line.split()[0] for line in lines], None)
+    require(all(watcher.wants.call_count == 2 for watcher in watchers), watchers[0].wants.call_count)
+    require(all(watcher.tell.call_args.args[0].count(b"beta show") == 500 for watcher in watchers), "its lines")
 
 
 # The process.
@@ -759,6 +769,7 @@ CHECKS: list[Callable[[Setup], None]] = [
     bounded_memory,
     slow_connections,
     closing_connections,
+    asked_once,
     another_viewer,
     told_by_feed,
     whole_messages,

@@ -87,9 +87,12 @@ class Shown:
 
     def _tell(self, first: int, lines: Sequence[bytes], replies: Sequence[bytes]) -> None:
         texts: dict[Watcher, list[bytes]] = {watcher: [] for watcher in self.watchers}
+        of_tenants: dict[str | None, list[list[bytes]]] = {}  # the texts of those that want a tenant's lines
         for number, (line, reply) in enumerate(zip(lines, replies), first):
             tenant = tenant_of(reply)
-            wanting = [told for watcher, told in texts.items() if watcher.wants(tenant)]
+            wanting = of_tenants.get(tenant)
+            if wanting is None:  # they are asked once: there may be thousands of lines
+                wanting = of_tenants[tenant] = [told for watcher, told in texts.items() if watcher.wants(tenant)]
             if wanting:
                 text = event(line, reply, number)
                 for told in wanting:
