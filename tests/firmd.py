@@ -62,8 +62,9 @@ from firmd_kit import (
 )
 from harness import program, service
 from harness.checks import Suite, print_skipped, require, run_script, run_suites
-from harness.deployed import Books
+from harness.deployed import SERVICE, Books
 from harness.small_streams import random_stream
+from hostile import patch
 
 
 HELD_SECONDS = 5.0  # below which nobody was held up; one that is waits for as long as the other does not read
@@ -563,6 +564,38 @@ def refuse_and_replay(setup: Setup, library: str, place: int) -> set[bytes]:
         return {MEMORY_LINES[number] for number in marks}
 
 
+# firmd makes a socket just when a snapshot is begun.
+MASKING = """\
+import os
+from firm_service import snapshotting
+snapshotting.PROGRAM = {program!r}
+def _make(self, sealed, original=snapshotting.Snapshots._make):
+    os.umask(0o177)
+    original(self, sealed)
+snapshotting.Snapshots._make = _make
+"""
+
+
+def masked_snapshots(setup: Setup) -> None:
+    """The rights of a socket that is made just then take none from the folders of snapshots, nor from others."""
+    with setup.daemon("--snapshot-lines", "5", "--segment-bytes", "300") as daemon:
+        maker, told = daemon.folder / "maker.py", daemon.folder / "umask"
+        maker.write_text(f"import os\nopen({str(told)!r}, 'a').write(f'{{os.umask(0):o}} ')\n")
+        patch(daemon, MASKING.format(program=str(maker)))
+        daemon.start()
+        with daemon.client() as client:
+            require(all(client.ask(b"alpha show").startswith(b"alpha ") for _ in range(50)), "segments")
+        wait_for(lambda: told.exists() and told.read_text() != "", "a snapshot is begun")
+        require(told.read_text().split()[0] == "77", told.read_text())
+        daemon.kill()
+        archive = daemon.folder / "archive" / "of" / "alpha"
+        made = f"import os, pathlib\nfrom firm_service import files\nos.umask(0o177)\n"
+        made += f"files.make_folder(pathlib.Path({str(archive)!r}), 0o700)\n"
+        subprocess.run([sys.executable, "-c", made], env={**os.environ, "PYTHONPATH": str(SERVICE)}, check=True)
+        modes = [folder.stat().st_mode & 0o700 for folder in (archive, *archive.parents[:2])]
+        require(modes == [0o700] * 3, modes)
+
+
 SHORT = [
     many_clients,
     torn_line,
@@ -587,6 +620,7 @@ SHORT += [
     notifications,
     own_rounds,
     rounds_of_another,
+    masked_snapshots,
 ]
 LONG = [read_only, backpressure, refused_memory]
 

@@ -9,6 +9,7 @@ from contextlib import suppress
 from pathlib import Path
 
 PRIVATE = 0o600  # for what has rows of several tenants
+OWNERS = 0o700  # of a folder
 
 
 def sync_folder(path: Path) -> None:
@@ -21,10 +22,16 @@ def sync_folder(path: Path) -> None:
 
 
 def make_folder(path: Path, mode: int = 0o777) -> None:
-    """Makes a folder, and those above it that are missing, on the disk, where it is not there."""
+    """Makes a folder, and those above it that are missing, on the disk, where it is not there.
+
+    Its owner has all rights there: another thread that makes a socket may have a umask that leaves them out.
+    """
     if not path.exists():
         make_folder(path.parent)
         path.mkdir(mode=mode, exist_ok=True)
+        rights = stat.S_IMODE(path.stat().st_mode)
+        if rights & OWNERS != OWNERS:
+            path.chmod(rights | OWNERS)
         sync_folder(path.parent)
 
 
