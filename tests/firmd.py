@@ -490,6 +490,13 @@ done | '{program}' "$@"
 """
 
 
+def shortest_times(setup: Setup) -> None:
+    """A time between rounds of which firmd could do nothing but look again and again is refused."""
+    for options in (["--after", "0"], ["--after", "0.9"], ["--every", "0.0009"]):
+        with setup.daemon(*options) as daemon:
+            daemon.refuses(2, f"{options[0]}: a millisecond", "is the shortest time")
+
+
 def rounds_of_another(setup: Setup) -> None:
     """A tenant that is retired while its round is asked for, and admitted anew, has its rounds as before."""
     with setup.daemon("--after", "2000") as daemon:
@@ -620,6 +627,7 @@ SHORT += [
     notifications,
     own_rounds,
     rounds_of_another,
+    shortest_times,
     masked_snapshots,
 ]
 LONG = [read_only, backpressure, refused_memory]

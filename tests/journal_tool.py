@@ -3,6 +3,7 @@
 from __future__ import annotations
 
 import os
+import pty
 import signal
 import subprocess
 import sys
@@ -148,6 +149,26 @@ def printed_meanwhile(setup: Setup) -> None:
         daemon.stop()
 
 
+def shown_on_terminals(setup: Setup) -> None:
+    """No line of a client steers the terminal on which a journal is printed; elsewhere each is printed as it is."""
+    line = b"alpha \x1b]0;title\x07\xc2\x9b2J\xff \\ end\r"
+    with setup.daemon() as daemon:
+        daemon.start()
+        with daemon.client() as client:
+            require(client.ask(line) == b"alpha 1 no 2 bad-command", "it is kept")
+        daemon.stop()
+        for option in ([], ["--senders"]):
+            words = [*JOURNAL_TOOL, "print", *option, str(daemon.state)]
+            require(subprocess.run(words, capture_output=True).stdout.endswith(line + b"\n"), "it is as it was sent")
+            terminal, end = pty.openpty()
+            subprocess.run(words, stdout=end, check=True)
+            text = os.read(terminal, 1_000)
+            os.close(terminal)
+            os.close(end)
+            shown = rb"alpha \x1b]0;title\x07\xc2\x9b2J\xff \ end\r"
+            require(text.endswith(shown + b"\r\n") and text.count(b"\n") == 1, f"{option}: {text!r}")
+
+
 NO_TENANT = "firm_state: tenant fault 4 unknown-tenant ALPHA"
 REFUSING = f"""#!{sys.executable} -IS
 import sys
@@ -177,4 +198,4 @@ def ended_states(setup: Setup) -> None:
             require((opened(printing.stderr).read(), printing.wait()) == (b"", -signal.SIGPIPE), printing)
 
 
-SHORT = [cut_rewrites, cut_renewals, new_ids, printed_damage, printed_meanwhile, ended_states]
+SHORT = [cut_rewrites, cut_renewals, new_ids, printed_damage, printed_meanwhile, shown_on_terminals, ended_states]

@@ -110,6 +110,8 @@ def files_are_there(release: ModuleType, root: Path) -> None:
     require((share / "doc/firm/proved.tsv").read_text() == PROOFS, "what was proved")
     units = sorted((root / "usr/lib/systemd/system").iterdir())
     require([unit.name for unit in units] == ["firm-agent@.service", "firm.service"], units)
+    unit = (root / "usr/lib/systemd/system/firm.service").read_text()
+    require("\nRuntimeDirectoryPreserve=yes\n" in unit, "an end of firmd takes away the sockets of others")
     if shutil.which("systemd-analyze"):
         takes_units(root, [unit.name.replace("@.", "@alpha.") for unit in units])
 

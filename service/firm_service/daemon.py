@@ -519,6 +519,8 @@ def read_options(arguments: list[str]) -> argparse.Namespace:
     if len(set(paths)) < len(paths):
         found.error("each socket needs a path of its own")
     options.socket_mode = int(options.socket_mode, 8)
+    if options.after is not None and options.after < 1:  # firmd would look without a pause whether a round is over
+        found.error("--after: a millisecond, 1, is the shortest time")
     if options.after is not None:
         options.after /= 1_000
     if options.name is not None and options.etcd is None:

@@ -22,6 +22,7 @@ from .recovery import Found
 from .snapshots import Snapshot, last, opening_of, remove_all, segments_of, usable
 from .state import NEW_JOURNAL, OLD_JOURNAL, State, StateFolder
 from .states import Part, Refused, StateError, fold
+from .tables import printable
 
 COPIED_LINES = 4_096  # at a time, of an older segment
 EXITS = """\
@@ -49,16 +50,20 @@ def opened(path: Path) -> tuple[State, Journal]:
 
 
 def print_lines(options: argparse.Namespace) -> None:
-    """As firm gets them in a replay, or as they were sent."""
+    """As firm gets them in a replay, or as they were sent. What reads them may be firm; a terminal is shown no line that
+    could steer it."""
     state = StateFolder(options.state)
     found = found_now(options.state, None if options.senders or state.joined is None else state.base)
+    is_shown = sys.stdout.isatty()
     for kept in kept_lines(found):
         if options.senders:
-            sys.stdout.buffer.write(b"".join(described(kept, found.refused)))
+            text = described(kept, found.refused)
         else:
             held = enumerate(kept.lines, kept.number)
             text = [(first_word(line) or b"+") if number in found.refused else line for number, line in held]
-            sys.stdout.buffer.write(b"".join([line + b"\n" for line in text]))
+        if is_shown:
+            text = [printable(line.decode("ascii", "backslashreplace")).encode() for line in text]
+        sys.stdout.buffer.write(b"".join([line + b"\n" for line in text]))
 
 
 def clock(milliseconds: int) -> str:
@@ -69,7 +74,7 @@ def described(kept: Kept, refused: dict[int, int]) -> list[bytes]:
     """The lines, each behind its number, time and sender."""
     begins = b"%b %b" % (clock(kept.time).encode() if kept.time else b"-", kept.sender)
     return [
-        b"%d %b%b %b\n" % (number, begins, b" refused" if number in refused else b"", line)
+        b"%d %b%b %b" % (number, begins, b" refused" if number in refused else b"", line)
         for number, line in enumerate(kept.lines, kept.number)
     ]
 
