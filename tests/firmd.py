@@ -64,7 +64,7 @@ from harness import program, service
 from harness.checks import Suite, print_skipped, require, run_script, run_suites
 from harness.deployed import SERVICE, Books
 from harness.small_streams import random_stream
-from hostile import patch
+from hostile import MEANWHILE_SECONDS, patch, status_of
 
 
 HELD_SECONDS = 5.0  # below which nobody was held up; one that is waits for as long as the other does not read
@@ -603,6 +603,41 @@ def masked_snapshots(setup: Setup) -> None:
         require(modes == [0o700] * 3, modes)
 
 
+# Snapshots of nothing, as a fresh firm is not asked for here, and an archive on a host that is gone.
+HANGING = """\
+import time
+from firm_service import archive, snapshotting
+from firm_service.snapshots import Snapshot, write
+archive.LATE_SECONDS = 0.5
+archive.copy_into = lambda folder, path: time.sleep(1_000)
+def _make(self, sealed):
+    made = Snapshot(self._state.id, self._state.roster_sum, sealed, 0, b"{}", b"")
+    write(self._state.snapshots_path, made)
+    self._take(made)
+    self._stream.tell_loop(self._status.count, "snapshots")
+snapshotting.Snapshots._make = _make
+"""
+
+
+def hung_archive(setup: Setup) -> None:
+    """An archive that hangs is told and counted, and delays no further snapshot."""
+    options = ["--snapshot-lines", "5", "--segment-bytes", "300", "--keep", "0"]
+    with setup.daemon(*options) as daemon:
+        daemon.options += ["--archive", str(daemon.folder / "archive")]
+        patch(daemon, HANGING)
+        daemon.start()
+
+        def goes_on() -> bool:
+            with daemon.client() as client:
+                require(all(client.ask(b"alpha show").startswith(b"alpha ") for _ in range(10)), "replies")
+            status = status_of(daemon)
+            return status["snapshots"] > 5 and status["snapshot_failures"] == 1
+
+        wait_for(goes_on, "snapshots are made, and it is counted", MEANWHILE_SECONDS)
+        require(f"{daemon.folder / 'archive'} hangs" in daemon.said().decode(), daemon.said())
+        daemon.stop()
+
+
 SHORT = [
     many_clients,
     torn_line,
@@ -629,6 +664,7 @@ SHORT += [
     rounds_of_another,
     shortest_times,
     masked_snapshots,
+    hung_archive,
 ]
 LONG = [read_only, backpressure, refused_memory]
 

@@ -6,6 +6,8 @@ import shutil
 import time
 from dataclasses import dataclass
 from pathlib import Path
+from queue import Empty, SimpleQueue
+from threading import Thread
 
 from .extent import Extent
 from .faults import Exit, Fault
@@ -13,6 +15,7 @@ from .files import PRIVATE, make_folder, replace_synced, sync_folder
 from .recovery import extent_path, numbers_of, read_file, read_header, segment_path
 
 DAY_SECONDS = 86_400
+LATE_SECONDS = 60.0  # for which segments may be on their way before that is told
 
 
 @dataclass(frozen=True, slots=True)
@@ -21,6 +24,37 @@ class Keeping:
 
     days: float | None = None  # None: all are kept
     archive: Path | None = None  # None: they are deleted
+
+
+class Removal:
+    """Segments are taken away by a thread of their own: an archive may hang, as on a host that is gone."""
+
+    def __init__(self, journal: Path, keeping: Keeping, needless: int) -> None:
+        self._began, self._is_told_late = time.monotonic(), False
+        self._ended: SimpleQueue[int | BaseException] = SimpleQueue()
+        Thread(target=self._run, args=(journal, keeping, needless), daemon=True).start()
+
+    def is_late(self) -> bool:
+        """Whether it takes too long; said once."""
+        is_late = not self._is_told_late and time.monotonic() - self._began > LATE_SECONDS
+        self._is_told_late = self._is_told_late or is_late
+        return is_late
+
+    def count(self) -> int | None:
+        """How many were taken away, None as long as it goes on; raises what has ended it."""
+        try:
+            ended = self._ended.get_nowait()
+        except Empty:
+            return None
+        if isinstance(ended, BaseException):
+            raise ended
+        return ended
+
+    def _run(self, journal: Path, keeping: Keeping, needless: int) -> None:
+        try:
+            self._ended.put(clear(journal, keeping, needless))
+        except BaseException as error:
+            self._ended.put(error)
 
 
 def clear(journal: Path, keeping: Keeping, needless: int) -> int:

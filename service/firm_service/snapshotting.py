@@ -1,7 +1,7 @@
 """Has snapshots made while the service runs, and a fresh firm go on from one before the input of the other is full.
 
-A thread of firmd's own, which waits for all that it asks for; a process makes the snapshots. What fails here is told
-and tried again: the service goes on without.
+A thread of firmd's own, which waits for all that it asks for but an archive; a process makes the snapshots. What fails
+here is told and tried again: the service goes on without.
 """
 
 from __future__ import annotations
@@ -19,7 +19,7 @@ from queue import Empty, SimpleQueue
 from threading import Thread
 from typing import TYPE_CHECKING, NamedTuple
 
-from .archive import Keeping, clear
+from .archive import LATE_SECONDS, Keeping, Removal
 from .faults import Exit, Fault, Faults, say
 from .firm_process import Firm
 from .files import require_room
@@ -103,6 +103,7 @@ class Snapshots:
         self._made = time.monotonic()  # when the last one was made, or firmd began
         self._sealed: int | None = None  # the last segment when a seal was asked for
         self._is_to_clear = False  # what is older than the last snapshots, once one was made
+        self._removal: Removal | None = None  # of segments, that is under way
         self._is_to_offer = False  # the last snapshot to other replicas, where it is time for that
         self._making, self._clearing, self._changing, self._offering = Retry(), Retry(), Retry(), Retry()
         self._wishes: SimpleQueue[Callable[[], None]] = SimpleQueue()
@@ -144,6 +145,9 @@ class Snapshots:
     def _fail(self, retry: Retry, error: str | Exception) -> None:
         """Tells what has failed, and has it tried again later."""
         retry.failed()
+        self._tell(error)
+
+    def _tell(self, error: str | Exception) -> None:
         self._stream.tell_loop(self._status.count, "snapshot_failures")
         if isinstance(error, str):
             self._stream.tell_loop(self._faults.count, "snapshot", error)
@@ -238,11 +242,12 @@ class Snapshots:
         self._stream.tell_loop(self._status.take_snapshot, snapshot.base.lines, snapshot.time / 1_000)
 
     def _clear(self) -> None:
-        """Removes older snapshots, once enough are whole, and the segments that none of these needs."""
-        if self._is_to_clear:
+        """Removes older snapshots, once enough are whole, and has the segments taken away that none of these needs."""
+        if self._removal is not None:
+            self._follow_removal(self._removal)
+        elif self._is_to_clear:
             self._clear_now()
             self._is_to_clear = False
-            self._clearing.done()
 
     def _clear_now(self) -> None:
         kept: list[int] = []
@@ -254,9 +259,24 @@ class Snapshots:
         else:
             return
         keep_alone(self._state.snapshots_path, kept)
-        count = clear(self._journal.folder, self._settings.keeping, min(kept))
+        if self._settings.keeping.days is not None:
+            self._removal = Removal(self._journal.folder, self._settings.keeping, min(kept))
+        else:
+            self._clearing.done()
+
+    def _follow_removal(self, removal: Removal) -> None:
+        archive = self._settings.keeping.archive
+        if removal.is_late():
+            self._tell(f"{archive or self._journal.folder} hangs: segments are on their way for {LATE_SECONDS:g} s")
+        try:
+            count = removal.count()
+        except BaseException:
+            self._removal, self._is_to_clear = None, True
+            raise
+        if count is not None:
+            self._removal = None
+            self._clearing.done()
         if count:
-            archive = self._settings.keeping.archive
             say(f"{count} segments of the journal are {f'in {archive}' if archive else 'deleted'}", INFO)
 
     def _offer(self) -> None:
