@@ -31,7 +31,7 @@ from harness.checks import Check, Suite, require, run_script, run_suites
 from harness.deployed import budgets
 from harness.program import ROOT
 from harness.small_streams import random_stream
-from hostile import PATIENT, with_http
+from hostile import PATIENT, patch, with_http
 
 STAND_IN = str(ROOT / "tests" / "stand_in_firm.py")
 SHOW = b"beta show"
@@ -40,6 +40,7 @@ SHOW = b"beta show"
 SLACK_SECONDS, TRIES = 0.05, 8
 MEMORY = "/dev/shm"
 SOON_SECONDS = 0.3
+TURNS_SECONDS = 0.7  # for which the longest turn of a loop is looked for
 LONGEST_SECONDS, ALL_SECONDS = 60, 300  # for one request, and for all that are measured together
 HANGING_SECONDS = 5  # of a firm, after which it is killed
 
@@ -247,6 +248,42 @@ def lines_of_nobody(setup: Setup) -> None:
         for text in floods[:2] if setup.is_quick else floods:
             beside(setup, daemon, Hog(daemon.any, text, 20))
         require(b"nobody" not in daemon.journal() and b"xxx" not in daemon.journal(), "they are kept")
+        daemon.stop()
+
+
+# Writes how much of the processor the longest turn of its loop has taken since SIGUSR1, in seconds.
+TURNS = """\
+import selectors, signal, time
+at, longest = [0.0], [1e9]
+def select(self, timeout=None, original=selectors.EpollSelector.select):
+    turn = time.thread_time() - at[0]
+    if turn > longest[0]:
+        longest[0] = turn
+        with open({path!r}, "w") as file:
+            file.write(str(turn))
+    found = original(self, timeout)
+    at[0] = time.thread_time()
+    return found
+selectors.EpollSelector.select = select
+signal.signal(signal.SIGUSR1, lambda *_: longest.__setitem__(0, 0.0))
+"""
+MOST_TURN_SECONDS = 0.010  # some times a turn's, for a slow host
+
+
+def longest_turns(setup: Setup) -> None:
+    """Lines that take long behind some that take nearly no time make no turn of firmd's loop long."""
+    texts = ["#\\n" * 8_192 + "alpha\\nx\\n" * 2_048, "#\\n" * 8_192 + "a\\nb\\n" * 4_096]
+    with setup.daemon(*PATIENT, firm=STAND_IN) as daemon:
+        path = daemon.folder / "longest"
+        patch(daemon, TURNS.format(path=str(path)))
+        daemon.start()
+        for text, connections in ((texts[0], 1), (texts[1], 1), (texts[1], 50)):
+            daemon.running().send_signal(signal.SIGUSR1)
+            with running(Hog(daemon.any, text, connections)):
+                time.sleep(TURNS_SECONDS)
+            seconds = float(path.read_text() or 0.0)
+            print(f"    the longest turn: {1e3 * seconds:.1f} ms", flush=True)
+            require(0 < seconds < MOST_TURN_SECONDS, f"a turn of {1e3 * seconds:.1f} ms")
         daemon.stop()
 
 
@@ -508,6 +545,7 @@ MEASURED = [
     pipelined_rounds,
     pipelined_questions,
     lines_of_nobody,
+    longest_turns,
     bytes_a_second,
 ]
 OTHERS = [

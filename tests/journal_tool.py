@@ -157,7 +157,7 @@ def shown_on_terminals(setup: Setup) -> None:
         with daemon.client() as client:
             require(client.ask(line) == b"alpha 1 no 2 bad-command", "it is kept")
         daemon.stop()
-        for option in ([], ["--senders"]):
+        for option in (list[str](), ["--senders"]):
             words = [*JOURNAL_TOOL, "print", *option, str(daemon.state)]
             require(subprocess.run(words, capture_output=True).stdout.endswith(line + b"\n"), "it is as it was sent")
             terminal, end = pty.openpty()

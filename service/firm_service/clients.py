@@ -23,8 +23,8 @@ from .budgets import Accounts
 from .faults import Faults, say
 from .lanes import Lanes, Share
 from .relief import Held
-from .rights import Part, Rights, Said
-from .turns import LEAST_BYTES, MOST_BYTES, Turns
+from .rights import Part, Rights, Said, few_lines, spoken
+from .turns import LEAST_BYTES, MOST_BYTES, TURN_SECONDS, Turns
 
 KEPT_BYTES = lines.MOST_BYTES + 2  # of a line: one as long is too long, with a CR at its end or without
 LINES_AHEAD = 8_192  # of a client without replies: it is not read further until fewer are
@@ -161,6 +161,7 @@ class Client(asyncio.BufferedProtocol):
         self._of_socket = clients.turns.socket(self.socket)
         self.expected = 0
         self._half = b""  # of a line
+        self._rest = b""  # lines that were read, and are to be taken in further turns
         self._lane = b""  # that has the lines that were taken last
         self._waiting = self._waiting_bytes = 0  # lines in that lane, and the bytes of all that wait
         self._later: deque[Share | Said] = deque()  # lines behind those, of other lanes or none
@@ -202,6 +203,7 @@ class Client(asyncio.BufferedProtocol):
             self._lingering.cancel()
         if self._waits_turn:  # so would its turn, which may be long in coming
             self._of_socket.waiting.remove(self)
+        self._leave(b"")
         if self in self._clients.connected:
             del self._clients.connected[self]
             self._of_socket.count -= 1
@@ -228,6 +230,14 @@ class Client(asyncio.BufferedProtocol):
 
     def take_turn(self, waits: bool) -> None:
         self._waits_turn = waits
+        if self._rest and not waits:
+            try:
+                self._go_on()
+            except Exception as error:  # it alone is lost, as where lines are taken when they are read
+                context = {"message": "lines can't be taken", "exception": error}
+                context |= {"protocol": self, "transport": self.transport}
+                return asyncio.get_running_loop().call_exception_handler(context)
+            self._close_at_end()
         self.choose_reading()
 
     def eof_received(self) -> bool:
@@ -267,8 +277,29 @@ class Client(asyncio.BufferedProtocol):
             self._close_at_end()
 
     def _take(self, text: bytes) -> None:
-        """Takes whole lines."""
-        for part in self.rights.parts(text):
+        """Takes whole lines, in further turns where they would take long."""
+        plain = self.rights.plain_parts(text) if not self._rest else None
+        if plain is not None:
+            self._take_parts(plain)
+        else:
+            self._leave(self._rest + spoken(text))
+            self._go_on()
+
+    def _go_on(self) -> None:
+        """Takes as many of the lines that are left as the socket's turn allows."""
+        turn = self._of_socket
+        while self._rest and turn.spent < TURN_SECONDS and not self._is_held():
+            began, some = time.monotonic(), few_lines(self._rest)
+            self._leave(self._rest[len(some) :])
+            self._take_parts(self.rights.parts(some))
+            turn.spent += time.monotonic() - began
+
+    def _leave(self, rest: bytes) -> None:
+        self._of_socket.rest += len(rest) - len(self._rest)
+        self._rest = rest
+
+    def _take_parts(self, parts: list[Part | Said]) -> None:
+        for part in parts:
             if isinstance(part, Said):
                 self._clients.tally.reply(self.socket, b"", part.reply, part.lines)
                 line: Share | Said = part
@@ -322,16 +353,22 @@ class Client(asyncio.BufferedProtocol):
         return b"".join(parts + lines[told - first :])
 
     def choose_reading(self) -> None:
-        waiting = self._asked - self._answered + self._waiting + len(self._notes) + len(self._later)
-        is_ahead = waiting > LINES_AHEAD or self._waiting_bytes > BYTES_AHEAD or self._left > HIGH_WATER
         is_stopped = self._is_stopped or self._has_ended or self._waits_turn
-        reads = not (is_stopped or is_ahead or self._clients.holds(self.socket, self._lane if self._waiting else b""))
+        reads = not is_stopped and not self._is_held()
+        if reads and self._rest:
+            return self._clients.turns.wait(self, self._of_socket)
         if reads != self._is_reading and not self.transport.is_closing():
             self._is_reading = reads
             if reads:
                 self.transport.resume_reading()
             else:
                 self.transport.pause_reading()
+
+    def _is_held(self) -> bool:
+        """Whether no further lines of it are taken until some are answered, or read by it."""
+        waiting = self._asked - self._answered + self._waiting + len(self._notes) + len(self._later)
+        is_ahead = waiting > LINES_AHEAD or self._waiting_bytes > BYTES_AHEAD or self._left > HIGH_WATER
+        return is_ahead or self._clients.holds(self.socket, self._lane if self._waiting else b"")
 
     def stop_reading(self) -> None:
         self._is_stopped = True
@@ -397,7 +434,8 @@ class Client(asyncio.BufferedProtocol):
             self.transport.write(self._unread.take())
 
     def _close_at_end(self) -> None:
-        if self._has_ended and self._asked == self._answered and not self._waiting and not self._later:
+        is_answered = self._asked == self._answered and not (self._waiting or self._later or self._rest)
+        if self._has_ended and is_answered:
             self._close()
 
     def _close(self) -> None:

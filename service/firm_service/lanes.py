@@ -25,6 +25,7 @@ OPERATORS = b"+"  # the lane of the operator's lines
 SHARE_LINES = 64  # at most, that clients put into a lane together
 # Lines of a lane under way to firm, beside one share: alone they keep firm busy, beside others they delay those little.
 LINES_ALONE, LINES_BESIDE = 1_024, 32
+AT_ONCE = 64  # shares that leave the lanes, or are refused, before all else goes on: about a millisecond's work
 BESIDE_SECONDS = 1.0  # that a line of another lane counts
 KEPT_LANES = 128  # though they have nothing, more than there can be tenants; others may have any name
 
@@ -139,6 +140,7 @@ class Lanes:
         self._rounds_under_way = 0
         self._last = b""  # the lane that was served last
         self._beside_until = 0.0  # by the clock of `now`
+        self._left = 0  # shares that may leave at this time
 
     @property
     def has_ready(self) -> bool:
@@ -157,8 +159,10 @@ class Lanes:
         self._queue(lane)
 
     def next(self, found: list[Share], now: float) -> None:
-        """Adds what is to go to firm now, in this order; rounds as late as they may, for the others' sake."""
-        while self._ready or self.has_ready:
+        """Adds what is to go to firm now, in this order; rounds as late as they may, for the others' sake. Where much is
+        ready, `has_ready` says that some of that is left."""
+        self._left = AT_ONCE
+        while self.has_ready and self._left > 0:
             if self._ready:
                 self._serve(self._ready.popleft(), found, now)
             else:
@@ -239,12 +243,14 @@ class Lanes:
             self._last = lane.name
         most = LINES_BESIDE if now < self._beside_until else LINES_ALONE
         is_at_round, goes_on = False, True
-        while lane.shares and lane.under_way < most and goes_on and not is_at_round:
+        while lane.shares and lane.under_way < most and goes_on and not is_at_round and self._left > 0:
             is_at_round = lane.shares[0].is_round
             goes_on = not is_at_round and self._give(lane, found, now)
         lane.is_queued = is_at_round  # not before: what is put into it meanwhile is served here
         if is_at_round:
             self._rounds.append(lane)
+        elif goes_on and lane.under_way < most:
+            self._queue(lane)
         self._end_idle(lane)
 
     def _begin_round(self, lane: Lane, found: list[Share], now: float) -> None:
@@ -257,6 +263,7 @@ class Lanes:
     def _give(self, lane: Lane, found: list[Share], now: float) -> bool:
         """Has the lane's first share leave it; whether the next one may be looked at."""
         share = lane.shares[0]
+        self._left -= 1
         if lane.name in self._held or lane.name == OPERATORS and self._waits_for_round(lane, share):
             return False
         verdict = self._judge.verdict(share, now)

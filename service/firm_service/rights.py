@@ -26,6 +26,8 @@ OTHER_TENANT = b"? other-tenant: this socket takes the lines of %b alone\n"
 # Lines without a reply: comments, and those without a word that are not too long. All that follow one another are found
 # at once, so that thousands of them keep no other client waiting for long.
 _SILENT = re.compile(rb"(?m)^(?:#[^\n]*+\n|[ \t]{0,%d}+\r?\n)+" % MOST_BYTES)
+FEW_LINES = 32  # that are looked at one by one before others may go on
+_FEW = re.compile(rb"(?:[^\n]*\n){1,%d}" % FEW_LINES)
 _SHARES = re.compile(rb"(?:[^\n]*\n){1,%d}" % SHARE_LINES)
 
 
@@ -67,18 +69,23 @@ class Rights:
 
     def parts(self, text: bytes) -> list[Part | Said]:
         """Whole lines, as far as they get replies, in their order."""
+        plain = self.plain_parts(text)
+        return list(self._looked_at(text)) if plain is None else plain
+
+    def plain_parts(self, text: bytes) -> list[Part | Said] | None:
+        """The same where it is seen at a glance that all are commands of one tenant; None where it is not."""
         count, lane = text.count(b"\n"), text[: text.find(b" ")]
-        if self._takes(lane) and is_plain(text, count, lane):
-            if count <= SHARE_LINES:
-                return [Part(lane, text, count)]
-            return [Part(lane, piece, piece.count(b"\n")) for piece in _SHARES.findall(text)]
-        return list(self._looked_at(text))
+        if not (self._takes(lane) and is_plain(text, count, lane)):
+            return None
+        if count <= SHARE_LINES:
+            return [Part(lane, text, count)]
+        return [Part(lane, piece, piece.count(b"\n")) for piece in _SHARES.findall(text)]
 
     def _takes(self, word: bytes) -> bool:
         return is_name(word) if self.tenant is None else word == self.tenant
 
     def _looked_at(self, text: bytes) -> Iterator[Part | Said]:
-        lines = _SILENT.sub(b"", text).split(b"\n")[:-1]
+        lines = spoken(text).split(b"\n")[:-1]
         numbers = iter(range(1, len(lines) + 1))
         judged = [self._judge(line, numbers) for line in lines]
         at = 0
@@ -104,6 +111,17 @@ class Rights:
         if not is_name(word):  # so no tenant has it
             return Judged(b"", UNKNOWN_TENANT, 0)
         return Judged(word, None, next(numbers) if is_round(line) else 0)
+
+
+def spoken(text: bytes) -> bytes:
+    """The lines that get replies."""
+    return _SILENT.sub(b"", text)
+
+
+def few_lines(text: bytes) -> bytes:
+    """The first of some lines: so few that they are soon looked at."""
+    found = _FEW.match(text)
+    return found[0] if found else text
 
 
 def is_plain(text: bytes, count: int, lane: bytes) -> bool:

@@ -287,6 +287,8 @@ class Stream:
                 self._under_way += self._given
                 self._given = []
             self._is_handing = False
+            if self.lanes.has_ready:
+                self._hand_over_soon()
         except MemoryError as error:
             self.on_shortage(error)
             self._loop.call_later(SHORTAGE_SECONDS, self._hand_over)

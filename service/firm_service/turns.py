@@ -3,7 +3,8 @@
 In each turn of the loop a socket's clients are read up to some bytes, comments and faulty lines among them: as many as
 take about a fifth of a millisecond. What more they have sent waits in the system, and further turns go round among
 those that were not read to their end. A turn is a time, not a size: comments and lines of nobody cost more for a byte
-than commands do.
+than commands do. As nobody knows that before, lines of several tenants, and of nobody, are taken some at a time: where
+those that were read take longer than a turn, the rest waits for a further one.
 """
 
 from __future__ import annotations
@@ -15,6 +16,7 @@ from typing import Protocol
 from .budgets import Account, Accounts
 
 LEAST_BYTES, MOST_BYTES = 128, 16_384  # of a socket, in a turn of the loop
+MOST_REST = 65_536  # of a socket, that were read and wait for their turns: few more are read then
 TURN_SECONDS = 0.0002  # that it should take at most
 
 
@@ -34,14 +36,16 @@ class SocketClients:
         self.name, self.account = name, account
         self.count = 0  # that are connected
         self.read = 0  # bytes in this turn
+        self.spent = 0.0  # seconds in this turn, for lines that take long
         self.most = 4_096  # bytes in a turn
         self.waiting: deque[Reader] = deque()
+        self.rest = 0  # bytes that were read and are to be taken in further turns
         self.is_slowed = False  # until it may take further bytes a second
 
     @property
     def may_read(self) -> int:
         """Bytes of one more client, which may be ready to be read in a turn that is used up."""
-        return self.most if self.read < self.most else LEAST_BYTES
+        return self.most if self.read < self.most and self.rest < MOST_REST else LEAST_BYTES
 
     def fit(self, size: int, seconds: float) -> None:
         """Has turns take about as long as they should, by what the last bytes took."""
@@ -80,6 +84,13 @@ class Turns:
             socket.waiting.append(reader)
             reader.take_turn(True)
 
+    def wait(self, reader: Reader, socket: SocketClients) -> None:
+        """Has a client go on in a further turn with what was read of it."""
+        reader.expected = socket.most
+        socket.waiting.append(reader)
+        reader.take_turn(True)
+        self._touch(socket)
+
     def _touch(self, socket: SocketClients) -> None:
         if not self._touched:
             self._loop.call_soon(self._begin)
@@ -89,7 +100,7 @@ class Turns:
         """Begins the loop's next turn."""
         touched, self._touched = self._touched, {}
         for socket in touched.values():
-            socket.read = 0
+            socket.read, socket.spent = 0, 0.0
             if socket.waiting:
                 self._go_on(socket)
 
@@ -103,7 +114,7 @@ class Turns:
             self._loop.call_later(socket.account.second.wait(), self._end_wait, socket)
             return
         expected = 0
-        while socket.waiting and expected < socket.most:
+        while socket.waiting and expected < socket.most and socket.spent < TURN_SECONDS:
             reader = socket.waiting.popleft()
             expected += reader.expected
             reader.take_turn(False)
