@@ -395,7 +395,7 @@ def closing_connections(setup: Setup) -> None:
 
 
 def asked_once(setup: Setup) -> None:
-    """Watchers are asked once for each tenant of a message, and not for each line: those of others cost next to none."""
+    """Watchers are asked once for each tenant of a message, not for each line: those of others cost next to none."""
     books, lines = Books(), [b"alpha show", b"beta show"] * 500
     books.start(ROSTER)
     shown = Shown(books, Status(0.0, 0, 0, 0, 0, 0, 0, 0), "")

@@ -50,7 +50,7 @@ def opened(path: Path) -> tuple[State, Journal]:
 
 
 def print_lines(options: argparse.Namespace) -> None:
-    """As firm gets them in a replay, or as they were sent. What reads them may be firm; a terminal is shown no line that
+    """As firm gets them in a replay, or as they were sent: it may read them again. A terminal is shown no line that
     could steer it."""
     state = StateFolder(options.state)
     found = found_now(options.state, None if options.senders or state.joined is None else state.base)

@@ -159,8 +159,8 @@ class Lanes:
         self._queue(lane)
 
     def next(self, found: list[Share], now: float) -> None:
-        """Adds what is to go to firm now, in this order; rounds as late as they may, for the others' sake. Where much is
-        ready, `has_ready` says that some of that is left."""
+        """Adds what is to go to firm now, in this order; rounds as late as they may, for the others' sake. Of much that
+        is ready some is left, as `has_ready` says."""
         self._left = AT_ONCE
         while self.has_ready and self._left > 0:
             if self._ready:

@@ -228,7 +228,7 @@ class Snapshots:
         words = [sys.executable, *maker_words(), str(os.getpid()), self._settings.log_format]
         words += [str(self._state.folder), str(sealed.segment), *self._settings.firm]
         null = subprocess.DEVNULL
-        # In a process group of its own, as firm is. The umask that firmd has while it makes a socket is not for folders.
+        # In a process group of its own, as firm is. firmd's umask is another while it makes a socket: none for folders.
         status = subprocess.run(words, stdin=null, stdout=null, process_group=0, umask=0o077).returncode
         if status:
             raise Unusable(f"no snapshot was made, as firm-snapshot ended with status {status}; it has told why")
