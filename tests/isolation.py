@@ -28,7 +28,7 @@ from firmd_disks import unread
 from firmd_kit import CHECKS_AT_A_TIME, FIRMD, REPLY_SECONDS, ROSTER, Client, Daemon, Gone, Setup, wait_for
 from harness import program
 from harness.checks import Check, Suite, require, run_script, run_suites
-from harness.deployed import budgets
+from harness.deployed import budgets, lanes
 from harness.program import ROOT
 from harness.small_streams import random_stream
 from hostile import PATIENT, patch, with_http
@@ -285,6 +285,32 @@ def longest_turns(setup: Setup) -> None:
             print(f"    the longest turn: {1e3 * seconds:.1f} ms", flush=True)
             require(0 < seconds < MOST_TURN_SECONDS, f"a turn of {1e3 * seconds:.1f} ms")
         daemon.stop()
+
+
+class Refusing:
+    """Refuses the lines of all but two tenants."""
+
+    def verdict(self, share: lanes.Share, now: float) -> lanes.Verdict:
+        return lanes.Verdict() if share.lane in (b"alpha", b"beta") else lanes.Verdict(b"! unknown-tenant\n")
+
+
+def lanes_of_nobody(setup: Setup) -> None:
+    """However many lines of nobody are ready, a tenant's round is begun at once, and another's line soon; all leave."""
+    del setup
+    told, found = list[bytes](), list[lanes.Share]()
+    all_lanes = lanes.Lanes(Refusing(), lambda share, reply: told.append(share.lane), lanes.Bounds(10**9, 2))
+    all_lanes.take(lanes.Share(None, b"alpha round\n", 1, b"alpha", is_round=True))
+    for name in [b"x", *(b"x%d" % number for number in range(1_000)), b"beta"]:
+        for _ in range(1_000 if name == b"x" else 1):
+            all_lanes.take(lanes.Share(None, name + b" show\n", 1, name))
+    all_lanes.next(found, 0.0)
+    require([share.text for share in found] == [b"alpha round\n"], found)
+    while all_lanes.has_ready:
+        before = len(told)
+        all_lanes.next(found, 0.0)
+        require(len(told) <= before + lanes.AT_ONCE, f"{len(told) - before} leave at a time")
+    require([share.text for share in found] == [b"alpha round\n", b"beta show\n"], found)
+    require(len(told) == 2_002 and told.index(b"beta") < 1_002 + lanes.OF_LANE, told.index(b"beta"))
 
 
 def bounded_stop(setup: Setup) -> None:
@@ -552,6 +578,7 @@ OTHERS = [
     own_replies,
     hung_firm,
     rounds_of_all,
+    lanes_of_nobody,
     bounded_stop,
     filled_journal,
     socket_budget,

@@ -25,7 +25,9 @@ OPERATORS = b"+"  # the lane of the operator's lines
 SHARE_LINES = 64  # at most, that clients put into a lane together
 # Lines of a lane under way to firm, beside one share: alone they keep firm busy, beside others they delay those little.
 LINES_ALONE, LINES_BESIDE = 1_024, 32
-AT_ONCE = 64  # shares that leave the lanes, or are refused, before all else goes on: about a millisecond's work
+# Shares that leave a lane, and all, or are refused, before all else goes on: some milliseconds' work, and more than the
+# sockets for all tenants, each of whose lines may have a lane, can put into lanes in a turn.
+OF_LANE, AT_ONCE = 64, 256
 BESIDE_SECONDS = 1.0  # that a line of another lane counts
 KEPT_LANES = 128  # though they have nothing, more than there can be tenants; others may have any name
 
@@ -144,7 +146,11 @@ class Lanes:
 
     @property
     def has_ready(self) -> bool:
-        return bool(self._ready) or bool(self._rounds) and self._rounds_under_way < self._bounds.rounds
+        return bool(self._ready) or self._may_begin
+
+    @property
+    def _may_begin(self) -> bool:
+        return bool(self._rounds) and self._rounds_under_way < self._bounds.rounds
 
     def take(self, share: Share) -> None:
         """Puts it at the end of its lane."""
@@ -167,6 +173,9 @@ class Lanes:
                 self._serve(self._ready.popleft(), found, now)
             else:
                 self._begin_round(self._rounds.popleft(), found, now)
+        self._left = AT_ONCE
+        while self._may_begin and self._left > 0:  # no flood of lines keeps rounds waiting
+            self._begin_round(self._rounds.popleft(), found, now)
 
     def answered(self, share: Share) -> None:
         """Takes in that all lines of the share have their replies."""
@@ -242,8 +251,8 @@ class Lanes:
             self._beside_until = now + BESIDE_SECONDS if self._last else 0.0
             self._last = lane.name
         most = LINES_BESIDE if now < self._beside_until else LINES_ALONE
-        is_at_round, goes_on = False, True
-        while lane.shares and lane.under_way < most and goes_on and not is_at_round and self._left > 0:
+        is_at_round, goes_on, least = False, True, max(0, self._left - OF_LANE)
+        while lane.shares and lane.under_way < most and goes_on and not is_at_round and self._left > least:
             is_at_round = lane.shares[0].is_round
             goes_on = not is_at_round and self._give(lane, found, now)
         lane.is_queued = is_at_round  # not before: what is put into it meanwhile is served here

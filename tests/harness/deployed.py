@@ -12,7 +12,7 @@ import firm_service.slurm.differences
 import firm_service.slurm.done
 import firm_service.slurm.said
 from firm_service import agent_events, agent_machines, agent_queue, archive, books, budgets, extent, feed, feeder
-from firm_service import kept_books, past, past_rounds, records
+from firm_service import kept_books, lanes, past, past_rounds, records
 from firm_service import roster, sizes, slurm, snapshots, states as service_states, supervisor
 from firm_service import trials, what_if, why, why_text
 from firm_service.agent_queue import NotAllowed, work_of
@@ -91,6 +91,7 @@ __all__ = [
     "found_now",
     "gets_reply",
     "kept_books",
+    "lanes",
     "kept_lines",
     "past",
     "past_rounds",
