@@ -25,6 +25,7 @@ from functools import partial
 from pathlib import Path
 
 import queue_access
+import queue_agents
 import queue_bounds
 import queue_gaps
 import queue_hostile
@@ -726,6 +727,7 @@ CHECKS: tuple[Callable[[Setup], None], ...] = (
         away,
     ),
     *(silence, mute, registrations, lost_claim, marks, kept_late, damage, full_disk, *queue_access.CHECKS),
+    *queue_agents.CHECKS,
     *queue_hostile.CHECKS,
     *queue_bounds.CHECKS,
     *queue_gaps.CHECKS,

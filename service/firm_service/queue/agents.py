@@ -15,6 +15,7 @@ from ..sight import ROOT
 from .core import Core, boot_time
 from .fields import Fields, Json, Refused, bad
 from .giving import Machines
+from .queries import Kept
 from .reports import Claim, Told, claim_of, machines_of, runs_of, told_of, tokens_of, work_of
 from .rows import Attempt, Name, Task
 from .states import End
@@ -80,10 +81,23 @@ class Agents:
     core: Core
     terms: Terms
     agents: dict[str, Agent] = field(default_factory=dict)
+    _former_over: float = 0.0  # when no longer lease of the queue before this one holds any more, by CLOCK_BOOTTIME
+    _is_former_kept: bool = False  # the database has that one still
     _unknown: dict[str, float] = field(default_factory=dict)  # until when attempts may run that their agents don't know
     _to_keep: set[str] = field(default_factory=set)  # tokens of which agents were told so, and perhaps have not done it
 
     # Memory
+
+    async def begin(self, kept: Kept) -> None:
+        """Takes in what the database says at a start, and has it keep a longer lease before that is given; raises
+        `NotWritten` where it can't."""
+        self.load(kept.agents)
+        former = kept.lease or (Terms().lease if kept.agents else 0.0)  # an older queue has kept none
+        if former > self.terms.lease:
+            self._former_over, self._is_former_kept = boot_time() + former, True
+        elif former < self.terms.lease:
+            self.core.store.keep_lease(self.terms.lease)
+            await self.core.store.settled()
 
     def load(self, kept: dict[str, tuple[str, dict[str, int]]]) -> None:
         """Takes in what the database says, and keeps what only memory knows."""
@@ -274,18 +288,26 @@ class Agents:
         """When nothing of what it has begun runs any more, if it stays silent; by CLOCK_BOOTTIME."""
         tasks = [self.core.rows.task(attempt.name) for attempt in self.attempts_of(agent)]
         grace = max((task.submission.spec.grace for task in tasks if task is not None), default=0.0)
-        return agent.answered + self.terms.lease + grace + self.terms.margin
+        return max(agent.answered + self.terms.lease, self._former_over) + grace + self.terms.margin
 
     async def expire_for_ever(self) -> None:
         """Gives up agents whose leases are over."""
         while True:
             await asyncio.sleep(LOOK_SECONDS)
+            self._forget_lease()
             self._lose_unknown()
             for agent in list(self.agents.values()):
                 is_over = boot_time() > self.over_at(agent) and not self.core.store.why_bad
                 if is_over and (not agent.is_lost or self.attempts_of(agent)):
                     with suppress(NotWritten):  # the rows are read anew then, and it is found again
                         self._lose(agent)
+
+    def _forget_lease(self) -> None:
+        """Keeps the present lease once no longer one holds any more: until then a further start must go by that."""
+        if self._is_former_kept and boot_time() > self._former_over:
+            with suppress(NotWritten):
+                self.core.store.keep_lease(self.terms.lease)
+                self._is_former_kept = False
 
     def _lose_unknown(self) -> None:
         """Takes for lost what its own agent does not know, once it can't run any more."""

@@ -31,7 +31,7 @@ from .forms import bytes_of
 from .front import MOST_CLIENTS, TOO_MANY, Front, encode
 from .giving import Giver, Giving
 from .requests import Requests
-from .store import Store
+from .store import NotWritten, Store
 from .users import Operators
 
 TRY_SECONDS = 1.0  # until the disk is tried again
@@ -91,7 +91,10 @@ class Queue:
         self._store.on_failure = self._failed.set
         try:
             kept = await self._core.load()
-            self._agents.load(kept.agents)
+            try:
+                await self._agents.begin(kept)
+            except NotWritten as error:
+                raise Fault(Exit.STATE, f"cannot use {error}") from error
             for sign in (signal.SIGTERM, signal.SIGINT):
                 asyncio.get_running_loop().add_signal_handler(sign, self._stopped.set)
             await self._serve()

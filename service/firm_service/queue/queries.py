@@ -33,6 +33,7 @@ class Kept:
     agents: dict[str, tuple[str, dict[str, int]]]  # id and machines with slots, by name
     marks: dict[str, str]  # of machines
     spent: dict[int, tuple[float, float]]  # bytes, and when, by user
+    lease: float | None  # the longest that agents may have; None: of an older queue, or a new database
 
 
 @dataclass(frozen=True, slots=True)
@@ -59,7 +60,9 @@ def load(connection: sqlite3.Connection) -> Kept:
         for name, agent_id, machines in fetched(connection, "SELECT name, id, machines FROM agent")
     }
     spent = {user: (size, at) for user, size, at in fetched(connection, "SELECT user, bytes, at FROM spent")}
-    return Kept(rows, agents, dict(fetched(connection, "SELECT machine, mark FROM mark")), spent)
+    marks = dict(fetched(connection, "SELECT machine, mark FROM mark"))
+    leases = [float(value) for (value,) in fetched(connection, "SELECT value FROM meta WHERE name = 'lease'")]
+    return Kept(rows, agents, marks, spent, leases[0] if leases else None)
 
 
 def submissions(

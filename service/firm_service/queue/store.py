@@ -233,6 +233,9 @@ class Store:
     def forget_agent(self, name: str) -> None:
         self._write("DELETE FROM agent WHERE name = ?", [(name,)])
 
+    def keep_lease(self, seconds: float) -> None:
+        self._write("INSERT OR REPLACE INTO meta VALUES ('lease', ?)", [(str(seconds),)])
+
     def mark(self, machine: str, mark: str | None) -> None:
         """Keeps that a machine is cordoned or drained, or is not any more."""
         self._write("DELETE FROM mark WHERE machine = ?", [(machine,)])
