@@ -428,11 +428,6 @@ def registrations(setup: Setup) -> None:
         client.refused("not-registered", "claim", token="a" * 8, task="1", line=1, state="s", machine="m1", run=1)
         client.refused("not-registered", "told", events=[])
         agent.kill()
-        register = {"agent": "a1", "id": agent.disk.id, "machines": {"m1": 3}, "runs": []}
-        # Until the queue has read the end of its connection, the agent is there.
-        case.until(lambda: client.try_ask("register", **register).get("error") != "agent-taken", "the agent is gone")
-        told = client.refused("other-slots", "register", **register)
-        require(told["slots"] == 2, told)
         for field, value in {"machines": {"M": 1}, "id": "", "runs": [{}], "agent": "A"}.items():
             client.refused("bad-field", "register", **{"agent": "a3", "id": "x", "machines": {}, field: value})
         case.agent("a1", agent.disk, m1=2)

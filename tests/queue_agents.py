@@ -1,14 +1,36 @@
-"""Checks of agents that register again at a queue with another lease."""
+"""Checks of agents that register again: with other slots, or at a queue with another lease."""
 
 from __future__ import annotations
 
 import time
 
 from harness.checks import require
-from queue_kit import FOREVER, Setup, claim_place
+from queue_kit import FOREVER, Client, Json, Setup, claim_place
 
 FORMER_SECONDS = 4.0  # the lease of a queue before another one with a shorter one
+SOON_SECONDS = 0.3  # in which something that must not happen would have happened
 KEPT_LEASE = "SELECT value FROM meta WHERE name = 'lease'"
+
+
+def other_slots(setup: Setup) -> None:
+    """An agent that is back with another number of slots keeps what runs; firm has the number once nothing does."""
+    with setup.case("--lease=300").start() as case, case.client() as client:
+        agent = case.agent("a1", m1=1, m2=1)
+        client.submit(*FOREVER, array=[1, 3])
+        case.until(lambda: len(case.world.running()) == 2, "two run")
+        agent.kill()
+        back = case.agent("a1", agent.disk, m1=2, m2=1)
+        case.until(lambda: machine(client, "m1")["reason"] == "it has 2 slots once nothing runs there", "it is told")
+        differences = client.ask("status")["differences"]
+        require("m1: it has 2 slots once nothing runs there" in differences, differences)
+        time.sleep(SOON_SECONDS)
+        row = machine(client, "m1")
+        require((row["state"], row["slots"], row["open"]) == ("up", 1, 1), row)
+        require(len(case.world.running()) == len(case.world.processes) == 2, case.world.processes)
+        require({refusal["error"] for refusal in back.refusals} <= {"agent-taken"}, back.refusals)
+        client.ask("cancel", tasks=["1_3", *(one.task for one in case.world.processes if one.machine == "m1")])
+        case.until(lambda: machine(client, "m1")["slots"] == 2, "firm has the number")
+        require(len(case.world.running()) == 1 and machine(client, "m1")["reason"] == "", case.world.processes)
 
 
 def lower_lease(setup: Setup) -> None:
@@ -34,4 +56,8 @@ def lower_lease(setup: Setup) -> None:
         require(case.rows(KEPT_LEASE) == [("7.0",)], "the longer one is kept before it is given")
 
 
-CHECKS = (lower_lease,)
+def machine(client: Client, name: str) -> Json:
+    return next(row for row in client.ask("machines") if row["machine"] == name)
+
+
+CHECKS = (other_slots, lower_lease)

@@ -147,7 +147,9 @@ class Agents:
                     wanted[machine] = slots
                 elif not loads[machine]:  # cordoned, or with runs that were kept only after the cordon was taken back
                     unwanted.add(machine)
-        return Machines(wanted, unwanted - wanted.keys())
+        book = self.core.firm.book  # other slots than there would drain a machine: they wait until nothing runs on it
+        busy = {name: slots for name, slots in book.machines.items() if loads[name]} if book is not None else {}
+        return Machines({name: busy.get(name, slots) for name, slots in wanted.items()}, unwanted - wanted.keys())
 
     # Registrations and leases
 
@@ -160,6 +162,8 @@ class Agents:
         self._require_single(session, name, agent_id)
         self._require_free(name, agent_id, machines)
         self.core.store.require_prompt()
+        before = self.agents.get(name)
+        is_news = before is None or before.session is not session or before.machines != machines
         agent = self._enter(name, agent_id, machines)
         present = {run.token for run in runs}
         over = self.over_at(agent)
@@ -171,12 +175,14 @@ class Agents:
         if agent.session is not None and agent.session is not session:
             agent.session.end()
         agent.session, agent.user = session, session.user.number
-        agent.is_known, agent.is_lost, agent.since = True, False, time.time()
+        agent.is_known, agent.is_lost = True, False
+        agent.since = time.time() if is_news else agent.since
         agent.runs = frozenset(present)
         self.core.firm.changed.set()
         await self.core.store.settled_soon()
-        told = f"{name}: registered with {', '.join(machines) or 'no machines'}, {len(runs)} runs"
-        tell(INFO, told, agent=name)
+        if is_news:
+            told = f"{name}: registered with {', '.join(machines) or 'no machines'}, {len(runs)} runs"
+            tell(INFO, told, agent=name)
         agent.answered = boot_time()
         ending = [run.token for run in runs if run.is_there and self._must_end(run.token)]
         keep = [attempt.token for attempt in self.attempts_of(agent) if self._is_to_keep(attempt)]
@@ -196,19 +202,15 @@ class Agents:
 
     def _require_free(self, name: str, agent_id: str, machines: dict[str, int]) -> None:
         """Raises `Refused` where another one has the name or a machine."""
-        known, book = self.agents.get(name), self.core.firm.book
+        known = self.agents.get(name)
         if known is not None and known.id != agent_id and self._has_hold(known, self.attempts_of(known)):
             left = max(0.0, self.over_at(known) - boot_time())
             raise Refused("agent-taken", f"another agent has the name {name}, for {left:.0f} s", seconds=left)
-        for machine, slots in machines.items():
+        for machine in machines:
             other = self.of_machine(machine)
             if other is not None and other.name != name and self._has_hold(other, self.open_on(machine)):
                 told = f"the agent {other.name} has the machine {machine}"
                 raise Refused("machine-taken", told, machine=machine, agent=other.name)
-            present = book.machines.get(machine) if book is not None else None
-            if present not in (None, slots) and self.open_on(machine):
-                told = f"firm has {machine} with {present} slots, and something runs there"
-                raise Refused("other-slots", told, machine=machine, slots=present)
 
     @staticmethod
     def _has_hold(agent: Agent, attempts: list[Attempt]) -> bool:
@@ -538,14 +540,15 @@ class Agents:
         state = self.state_of(agent)
         if state != "up":
             return "silent", f"the agent {agent.name} is {state} for {agent.silence:.0f} s"
-        return ("up", "") if is_there else ("adding", "firm does not have it yet")
+        if not is_there:
+            return "adding", "firm does not have it yet"
+        book, slots = self.core.firm.rows, agent.machines[machine]
+        is_same = book is None or book.machines[machine] == slots
+        return "up", "" if is_same else f"it has {slots} slots once nothing runs there"
 
     def differences(self) -> list[str]:
         """Where firm's rows and what agents say differ."""
-        found = []
-        for machine, (state, reason) in self.machine_states().items():
-            if state in ("no-agent", "silent", "adding"):
-                found.append(f"{machine}: {reason}")
+        found = [f"{machine}: {reason}" for machine, (_, reason) in self.machine_states().items() if reason]
         for agent in self.agents.values():
             late = time.time() - 2 * self.terms.beat
             for attempt in self.attempts_of(agent) if agent.runs is not None else []:

@@ -135,10 +135,11 @@ register, first: {"ask": "register", "agent": "a1", "id": ID, "machines": {"m1":
   lacks their rows; all others end or stay as firm's rows say. Open attempts of this id that are not among `runs` count
   as lost once the lease that they had, the longest grace and the margin are over. The same id again takes over from its
   older connection, once that is gone or silent. Machines that an agent no longer names are drained. A machine on an
-  agent's list, whose slots firm has otherwise, is drained and added anew if no run is open there, else `other-slots`.
+  agent's list, whose slots firm has otherwise, is drained and added anew once no run is open there.
   Errors: `agent-taken` (another id has this name and its lease is not over, with "seconds" until it is; or the same id
   has a connection that still beats, as an agent with a copy of the state has),
-  `machine-taken` (another live agent has it; with "machine", "agent"), `bad-field`.
+  `machine-taken` (another live agent has it; with "machine", "agent": register without it), `bad-field`. It may be
+  asked again on the same connection, as where a run that it named can't be asked for any more.
   The queue says `machine m SLOTS` to firm for each that is not there (unless it is cordoned or drained).
 
 beat, every "beat" seconds: {"ask": "beat", "runs": [T, ..]} (all open ones; may be left out)
