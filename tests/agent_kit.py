@@ -35,9 +35,10 @@ WAITS_FOR_GO = (
     "until [ -e $FIRM_TASK.go ]; do sleep 0.05; done; echo end >> $FIRM_TASK.log"
 )
 # Stands in for ssh: a host is a folder that is its home, and is down while `down` is there. Its shell reads `.bashrc`.
+# Whoever logs in, all is done by the user of the test.
 SSH = """#!/bin/sh
 while [ "$1" = -o ]; do shift 2; done
-host=$1; shift
+host=${{1#*@}}; shift
 echo "$host" >> {folder}/asked
 [ ! -e {folder}/$host/down ] || exit 255
 cd {folder}/$host || exit 255

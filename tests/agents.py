@@ -23,6 +23,7 @@ from functools import partial
 from pathlib import Path
 from types import SimpleNamespace
 
+import agent_places
 from agent_disks import failing_disk, full_disk, hung_disk
 from agent_kit import AGENT, LIMIT_SECONDS, SOON_SECONDS, WAITS_FOR_GO, Case, children, is_there
 from harness.checks import Check, Missed, Skipped, Suite, print_skipped, require, run_script, run_suites
@@ -553,7 +554,7 @@ def over_ssh() -> None:
         case.start_over_ssh()
         case.firmd.round("start a m1")
         running = case.until_told("running", "a")
-        require(running["host"] == "host" and running["output"].startswith(f"{case.folder}/host/"), running)
+        require(running["host"] == "worker@host" and running["output"].startswith(f"{case.folder}/host/"), running)
         time.sleep(LEASE_SECONDS + 2)
         require(case.processes().keys() == {"a"}, "it has ended though its agent is there")
         (case.folder / "host/down").touch()
@@ -752,6 +753,7 @@ def name_of(check: Check) -> str:
 def checks(is_quick: bool) -> dict[str, Check]:
     """Each check's name, and the check."""
     found: dict[str, Check] = {name_of(check): check for check in QUICK + ([] if is_quick else LONG)}
+    found |= agent_places.checks(is_quick)
     found["lease over"] = partial(lease_over, False)
     if not is_quick:
         found["lease over, deaf to SIGTERM"] = partial(lease_over, True)

@@ -11,6 +11,7 @@ import threading
 import time
 from collections.abc import Callable, Coroutine
 from dataclasses import dataclass, field
+from math import inf
 from pathlib import Path
 from typing import Any, TypeVar
 
@@ -37,6 +38,7 @@ class Attempt:
     agent: str
     events: list[Row] = field(default_factory=list)
     is_open: bool = True
+    over: float = inf  # when it is taken for lost, as its agent does not know it
 
 
 @dataclass
@@ -63,6 +65,7 @@ class QueueStandIn:
         self.is_full = False  # its disk
         self.is_hung = False  # the same: nothing is answered any more on the connections that are there
         self.registrations = self.unanswered = 0
+        self.runs: list[Row] = []  # of the last registration
         self.refuses: Callable[[Row], bool] = lambda event: False  # beside those that are no events, as a later queue
         self.says: dict[str, Any] = {}  # by request, in place of what is answered; fields of an object beside others
         self.loop = asyncio.new_event_loop()
@@ -120,6 +123,11 @@ class QueueStandIn:
                 for machine in agent.machines:
                     self.firmd.say(f"drain {machine}", "ok evicted 0")
 
+    def _lose_unknown(self) -> None:
+        """Takes for lost what its own agent does not know, once it can't run any more."""
+        for attempt in self.attempts.values():
+            attempt.is_open &= clock() < attempt.over
+
     async def _client(self, reader: asyncio.StreamReader, writer: asyncio.StreamWriter) -> None:
         self.writers.add(writer)
         name = ""
@@ -169,7 +177,8 @@ class QueueStandIn:
         for other, agent in self.agents.items():
             taken = sorted(agent.machines.keys() & request["machines"].keys())
             if other != name and taken:
-                return {"error": "machine-taken", "text": f"the agent {other} has the machine {taken[0]}"}
+                told = {"text": f"the agent {other} has the machine {taken[0]}", "machine": taken[0], "agent": other}
+                return {"error": "machine-taken", **told}
         for machine, slots in request["machines"].items():
             if machine not in self.firmd.books.tenants["alpha"].machines:
                 self.firmd.say(f"machine {machine} {slots}")
@@ -179,13 +188,17 @@ class QueueStandIn:
             attempt = self.attempts.get(run["token"])
             if run["state"] in ("starting", "running") and (attempt is None or not attempt.is_open):
                 ends.append(run["token"])
-        named = {run["token"] for run in request["runs"]}
+        self.runs = request["runs"]
+        named = {run["token"] for run in self.runs}
+        over = clock() + self.lease + self.grace + MARGIN_SECONDS
         for token, attempt in self.attempts.items():
-            attempt.is_open &= attempt.agent != name or token in named
+            if attempt.agent == name:
+                attempt.over = inf if token in named else min(attempt.over, over)
         return {"register": {"lease": self.lease, "beat": self.lease / 3, "end": ends, "keep": [], "state": None}}
 
     def _claim(self, request: Row, name: str) -> Row:
         task, token = request["task"], request["token"]
+        self._lose_unknown()
         if token not in self.attempts:
             if task not in self.work:
                 return {"void": "the queue has no such task"}
@@ -262,9 +275,14 @@ class Cluster(Case):
         host = self.folder / "host"
         host.mkdir(exist_ok=True)
         write_program(self.folder / "ssh", SSH.format(folder=self.folder))
-        (self.folder / "machines.toml").write_text('[machines.m1]\nslots = 4\nssh = "host"\n')
-        self.start_registered(machines=str(self.folder / "machines.toml"))
+        self.start_registered(machines=self.listed(m1="worker@host"))
         return host
+
+    def listed(self, **machines: str) -> str:
+        """A file of an agent's machines, each over ssh, or here where the destination is empty."""
+        rows = [f"[machines.{name}]\nslots = 4\n" + f"ssh = '{ssh}'\n" * bool(ssh) for name, ssh in machines.items()]
+        (self.folder / "machines.toml").write_text("".join(rows))
+        return str(self.folder / "machines.toml")
 
     def kill_agent(self, name: str) -> None:
         self.agents[name].kill()

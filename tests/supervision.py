@@ -449,7 +449,7 @@ def said_in_its_place() -> None:
         case.start_over_ssh()
         case.firmd.round("start a m1 start b m1")
         running = case.until_told("running", "a")
-        require(running["host"] == "host" and running["output"].startswith(f"{host}/"), running)
+        require(running["host"] == "worker@host" and running["output"].startswith(f"{host}/"), running)
         case.until_begun("a", "b")
         case.go("a", "b")
         for task in "ab":

@@ -13,15 +13,15 @@ import shlex
 import signal
 import sys
 from collections import Counter, defaultdict
-from dataclasses import dataclass
+from dataclasses import dataclass, replace
 from enum import IntEnum
 from pathlib import Path
 
 from . import timeline
 from .agent_machines import read_machines
 from .agent_queue import QueueSource
-from .agent_source import LONGEST_FIRMD_PAUSE, LONGEST_PAUSE, Source, TableSource
-from .agent_state import EVENTS, Event, Key, Run, State, StateError, Tally
+from .agent_source import LONGEST_FIRMD_PAUSE, LONGEST_LEASED_PAUSE, LONGEST_PAUSE, Source, TableSource
+from .agent_state import DROPPED, EVENTS, HERE, Event, Key, Run, State, StateError, Tally
 from .agent_table import Machine, Table, TableError, Work
 from .agent_words import OVER, SAY_GONE, Teller
 from .books import Book, Books, Task
@@ -36,6 +36,7 @@ PYTHON = ["-I", "-S", "-c"]
 # A run's name stands behind, for readers of a list of processes.
 IMPORT = "import sys; sys.path.insert(0, sys.argv[1]); import supervisor; supervisor.main()"
 SSH = ["ssh", "-o", "BatchMode=yes", "-o", "ConnectTimeout=15", "-o", "ServerAliveInterval=15"]
+SHORTEST_PAUSE = 1.0  # seconds until a run is asked for again
 BEGUN_AT_A_TIME = 8  # supervisors on each machine: sshd takes 10 connections that are not authenticated yet
 LONGEST_ANSWER = 1 << 26  # bytes of a line of the view
 EXITS = """\
@@ -77,6 +78,7 @@ class Agent:
         self.machines: dict[str, int] = {}  # as last recorded
         self.controls: dict[int, asyncio.StreamWriter] = {}  # of the supervisors, by run
         self.tellers: dict[int, Teller] = {}  # what tells of these runs
+        self.pauses: dict[int, float] = {}  # before the next try, of those that were asked for in vain
         self.gates: defaultdict[str, asyncio.Semaphore] = defaultdict(lambda: asyncio.Semaphore(BEGUN_AT_A_TIME))
         self.changed, self.stop = asyncio.Event(), asyncio.Event()
         self.told_unkept: set[str] = set()  # hosts
@@ -231,7 +233,10 @@ class Agent:
     def record_start(self, key: Key, task: Task) -> Run:
         """A new run of a task that firm has placed."""
         weight = self.book.jobs[task.job] if self.book else None
-        return self.state.start(key, {"job": task.job, "weight": weight, "machine": task.machine})
+        row: Event = {"job": task.job, "weight": weight, "machine": task.machine}
+        if (machine := self.source.machine(str(task.machine))) is not None:
+            row |= {"ssh": HERE} if machine.ssh is None else {"ssh": machine.ssh, "runs": machine.runs}
+        return self.state.start(key, row)
 
     def start(self, run: Run, work: Work) -> None:
         """Makes a start that is recorded."""
@@ -248,21 +253,54 @@ class Agent:
 
     async def drive(self, run: Run, work: Work | None) -> None:
         """Sees a run to its end through lost connections; with work it is begun first."""
-        pause = 1.0
-        while True:
-            machine = self.source.machine(run.machine)
-            if self.is_gone(run):
-                return self.ended(run, {"event": "lost"})
+        while not self.is_gone(run):
+            machine, why = self.machine_of(run), f"nothing is known of it until {run.machine} answers"
             outcome = await self.attend(run, machine, work) if machine is not None else None
-            if outcome is not None:
+            is_lacking = outcome is not None and outcome["event"] == "void" and run.has_run
+            if outcome is not None and not is_lacking:
                 return self.ended(run, outcome)
             work = None  # whether it was begun is found out first
             if self.is_gone(run):
                 continue
-            known = f": nothing is known of it until {run.machine} answers; tried again in {pause:g} s"
-            run.tell(known, WARNING)
-            await asyncio.sleep(pause)
-            pause = min(2 * pause, LONGEST_PAUSE)
+            if machine is None or is_lacking:
+                why = self.why_astray(run, is_lacking)
+                if self.source.leave():
+                    return self.drop(run, why)
+                why += f"; once it surely has ended, {run.machine} may be given up (gone)"
+            await self.wait(run, why)
+        self.ended(run, {"event": "lost"})
+
+    def machine_of(self, run: Run) -> Machine | None:
+        """Where a run is asked for: here, or over ssh while its machine is that host still. Another one would know
+        nothing of it, and so say that it was never begun."""
+        machine = self.source.machine(run.machine)
+        if run.host == HERE:
+            return Machine()
+        if machine is None or run.host is None:
+            return machine
+        return replace(machine, runs=run.runs or machine.runs) if machine.ssh == run.host else None
+
+    def why_astray(self, run: Run, is_lacking: bool) -> str:
+        """Why a run can't be asked for any more."""
+        if is_lacking:
+            return f"{run.machine} has no trace of it, though it has run there"
+        if run.host is None:
+            return f"there is no machine {run.machine} any more"
+        return f"it was begun on {run.host}, which {run.machine} is not any more"
+
+    def drop(self, run: Run, why: str) -> None:
+        """Leaves a run to its lease."""
+        self.state.record(DROPPED, run=run.number)
+        self.pauses.pop(run.number, None)
+        self.changed.set()
+        run.tell(f": {why}; it is left to its lease", WARNING)
+
+    async def wait(self, run: Run, why: str) -> None:
+        """Waits until a run is asked for again; for longer each time, until it is found."""
+        pause = self.pauses.get(run.number, SHORTEST_PAUSE)
+        run.tell(f": {why}; tried again in {pause:g} s", WARNING)
+        await asyncio.sleep(pause)
+        self.pauses[run.number] = min(2 * pause, LONGEST_LEASED_PAUSE if self.source.is_leased else LONGEST_PAUSE)
 
     async def attend(self, run: Run, machine: Machine, work: Work | None) -> Event | None:
         """Follows a run on its machine; how it ended, or None where that can't be known now."""
@@ -297,6 +335,7 @@ class Agent:
         """Takes in an event of a supervisor; how the run ended, where it says so."""
         match event:
             case {"event": "running", "pid": pid}:
+                self.pauses.pop(run.number, None)
                 self.state.record("running", run=run.number, pid=pid, **self.place(run, event))
                 run.tell(f" {'still runs' if is_old else 'runs'}, process {pid}")
                 if event.get("unkept") is not None:
@@ -312,7 +351,8 @@ class Agent:
     def host(self, run: Run) -> str | None:
         """Where a run is, as ssh takes it; None: here."""
         machine = self.source.machine(run.machine)
-        return machine.ssh if machine is not None else None
+        known = machine.ssh if machine is not None else None
+        return known if run.host is None else run.host or None
 
     def place(self, run: Run, event: Event) -> Event:
         """Where the output of a leased run is, as its supervisor says it."""
@@ -351,6 +391,7 @@ class Agent:
     def ended(self, run: Run, outcome: Event) -> None:
         """Takes in how a run ended."""
         self.state.record(run=run.number, **outcome)
+        self.pauses.pop(run.number, None)
         self.changed.set()
         if outcome["event"] == "void":
             return run.tell(" was never begun", WARNING)

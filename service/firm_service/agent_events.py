@@ -11,7 +11,7 @@ from itertools import islice
 from pathlib import Path
 
 from .agent_file import Aside, Work
-from .agent_state import ENDS, Event, Key, Run
+from .agent_state import DROPPED, ENDS, Event, Key, Run
 from .agent_words import checked_event
 from .logs import WARNING
 from .queue import reports
@@ -19,7 +19,7 @@ from .queue.fields import Refused
 
 CURSOR = "told"  # a file with the history's name, and how many of its events are acknowledged
 MOST_AT_A_TIME, MOST_EVENT_BYTES = 500, 1 << 22  # of events in a request
-TOLD = ENDS | {"running"}
+TOLD = ENDS - {DROPPED} | {"running"}
 
 
 def status_of_shell(status: int) -> int:
@@ -39,7 +39,6 @@ class Events:
         self._aside = Aside()  # the disk may hang
         self.untold: deque[tuple[int, Event, Run]] = deque()
         self.are_there = asyncio.Event()
-        self.began: set[int] = set()  # open runs that are known to run
 
     def heard(self, event: Event, run: Run | None) -> None:
         self._count += 1
@@ -48,7 +47,6 @@ class Events:
             self._name = event["name"]
         if run is None or kind not in TOLD:
             return
-        (self.began.add if kind == "running" else self.began.discard)(run.number)
         if self._cursor[0] != self._name or self._cursor[1] < self._count:
             self.untold.append((self._count, told_of(event, run), run))
             self.are_there.set()
@@ -93,9 +91,9 @@ class Events:
         draft.write_text(json.dumps({"name": name, "count": count}))
         draft.replace(self._path)
 
-    def runs(self) -> list[Run]:
-        """Those of which something is not acknowledged."""
-        return list({run.number: run for _, _, run in self.untold}.values())
+    def ended(self) -> list[Run]:
+        """Runs of which the end is not acknowledged."""
+        return [run for _, event, run in self.untold if event["event"] in ENDS]
 
     def has_end_of(self, key: Key) -> bool:
         """Whether an end of a task's run is not acknowledged."""

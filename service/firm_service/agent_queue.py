@@ -103,6 +103,7 @@ class QueueSource:
         self.events, self.lease = Events(folder), Lease()
         self._tenant: asyncio.Future[str] | None = None
         self._link: Link | None = None  # while the agent is registered
+        self._is_stale = asyncio.Event()  # the queue was told of a run that is not there any more
         self._news = asyncio.Event()  # of claims; another one after each
         self._claiming: set[int] = set()  # runs
         self._asking = asyncio.Semaphore(MOST_CLAIMS)
@@ -116,9 +117,7 @@ class QueueSource:
         return any(machine.ssh is None for machine in self.machines.rows.values())
 
     def machine(self, name: str) -> Machine | None:
-        """One that is no longer among them has runs of an earlier start, here if all are."""
-        is_only_here = all(machine.ssh is None for machine in self.machines.rows.values())
-        return self.machines.rows.get(name) or (Machine() if is_only_here else None)
+        return self.machines.rows.get(name)
 
     async def tenant(self) -> str:
         if self._tenant is None:
@@ -177,11 +176,13 @@ class QueueSource:
         async with asyncio.TaskGroup() as group:
             group.create_task(self._beat(link, beat, group))
             group.create_task(self._tell_events(link))
+            group.create_task(self._register_again(link))
 
     async def _register(self, link: Link) -> float:
         """Tries until the queue takes the agent; the seconds between two beats."""
         while True:
             asked = clock()
+            self._is_stale.clear()
             history = self.agent.history
             rows: dict[str, object] = {"id": history.name, "machines": self.machines.slots, "runs": self._runs()}
             try:
@@ -191,11 +192,12 @@ class QueueSource:
                 self._tell_once(f"the queue does not take this agent: {refusal}")
             await asyncio.sleep(REGISTER_SECONDS)
         ending = said.all_tokens("end")  # what is to end may run elsewhere: where it is not known, nothing has a lease
-        self._told = ""
-        tell(INFO, f"registered as {self.name} with {', '.join(self.machines.slots)}")
+        if link is not self._link:
+            self._told = ""
+            self._beats.clear()
+            tell(INFO, f"registered as {self.name} with {', '.join(self.machines.slots)}")
         self._extend(asked, said.seconds("lease"), frozenset(ending))
         self._link = link
-        self._beats.clear()
         self._end(ending)
         self._keep(said.tokens("keep"))
         self._wake()
@@ -203,14 +205,19 @@ class QueueSource:
         beat = said.seconds("beat")
         return REGISTER_SECONDS if beat is None else max(SHORTEST_PAUSE, beat)
 
+    async def _register_again(self, link: Link) -> None:
+        """Tells of runs that are dropped."""
+        while True:
+            await self._is_stale.wait()
+            await self._register(link)
+
     def _runs(self) -> list[Event]:
         """The runs that are open, and those whose end is not acknowledged."""
         rows = []
         for run in self.agent.history.runs.values():
-            state = "running" if run.number in self.events.began else "starting"
+            state = "running" if run.has_run else "starting"
             rows.append(self._row(run, "claiming" if run.number in self._claiming else state))
-        ended = [run for run in self.events.runs() if run.number not in self.agent.history.runs]
-        return rows + [self._row(run, "ended") for run in ended]
+        return rows + [self._row(run, "ended") for run in self.events.ended()]
 
     @staticmethod
     def _row(run: Run, state: str) -> Event:
@@ -414,6 +421,11 @@ class QueueSource:
     def is_ending(self, run: Run) -> None:
         if run.number in self._claiming:
             self._wake()
+
+    def leave(self) -> bool:
+        """The queue takes a run for lost once its lease is over, if the agent does not name it any more."""
+        self._is_stale.set()
+        return True
 
     def follows(self) -> None:
         self._wake()

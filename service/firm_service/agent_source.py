@@ -18,6 +18,7 @@ if TYPE_CHECKING:
 
 TABLE_SECONDS = 1.0  # between two looks at the table
 LONGEST_PAUSE = 60.0  # seconds between two tries
+LONGEST_LEASED_PAUSE = 5.0  # where the run ends meanwhile unless its lease goes on
 LONGEST_FIRMD_PAUSE = 2.0
 
 
@@ -56,6 +57,9 @@ class Source(Protocol):
 
     def is_ending(self, run: Run) -> None:
         """The end of a run was asked for."""
+
+    def leave(self) -> bool:
+        """A run can't be asked for any more; whether it ends by itself, and nothing is begun of it until then."""
 
     def forget(self, keys: set[Key]) -> None:
         """Firm has no other tasks than these any more."""
@@ -209,6 +213,9 @@ class TableSource:
 
     def is_ending(self, run: Run) -> None:
         pass
+
+    def leave(self) -> bool:
+        return False
 
     def forget(self, keys: set[Key]) -> None:
         known: tuple[dict[Key, Any], ...] = (self.finishing, self.due, self.held)

@@ -26,7 +26,9 @@ from .logs import INFO, WARNING, tell
 
 EVENTS = "events.jsonl"
 OPEN = "open"  # a folder with the start of each run that is open, for where the events are put back or moved away
-ENDS = frozenset({"ended", "lost", "void"})  # events that end a run
+DROPPED = "dropped"  # the event of a run that can't be asked for any more, and is left to its lease
+ENDS = frozenset({"ended", "lost", "void", DROPPED})  # events that end a run
+HERE = ""  # the host that is this one
 TOKEN_BYTES = 16  # so many that no two of the runs of all times are the same
 FIRST = frozenset({"state", "start", "keep"})  # events on which something rests that a restart would not find out
 
@@ -56,6 +58,9 @@ class Run:
     machine: str
     folder: str | None = None  # below the machine's runs; None: as an older agent named it
     token: str | None = None  # that no other run has, one of an older history neither
+    host: str | None = None  # as ssh takes it; None: an older agent has not recorded it
+    runs: str | None = None  # the folder of runs there
+    has_run: bool = False  # its supervisor has said so
     ends: str | None = None  # why its end is asked for
     is_kept: bool = False  # though firm will have no row of it
 
@@ -99,12 +104,16 @@ class History:
         elif kind == "start":
             self.last_run = event["run"]
             key = Key(event["task"], event["line"], event.get("state", ""))
-            more = (event.get("folder"), event.get("token"))
+            more = (event.get("folder"), event.get("token"), event.get("ssh"), event.get("runs"))
             self.runs[self.last_run] = Run(self.last_run, key, event["job"], event["machine"], *more)
         elif kind == "end":
             self.runs[event["run"]].ends = event["why"]
         elif kind == "keep":
             self.runs[event["run"]].is_kept = True
+        elif kind == "running" and (run := self.runs.get(event["run"])) is not None:
+            run.has_run = True
+            if run.host is None and "host" in event:
+                run.host = event["host"] or HERE
         elif kind in ENDS:
             tally = self.tallies.setdefault(self.runs.pop(event["run"]).key, Tally())
             tally.lost += kind == "lost"

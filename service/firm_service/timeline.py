@@ -8,7 +8,7 @@ from dataclasses import dataclass, field
 from html import escape
 from pathlib import Path
 
-from .agent_state import EVENTS, Event, StateError, events_of
+from .agent_state import DROPPED, EVENTS, Event, StateError, events_of
 from .logs import ERROR, tell
 
 WIDTH, LEFT, RIGHT, TOP = 1180.0, 96.0, 24.0, 76.0
@@ -103,7 +103,7 @@ class Chart:
                 runs[number].end = event["why"]
             elif event["event"] == "void":
                 del runs[number]
-            elif event["event"] in ("ended", "lost"):
+            elif event["event"] in ("ended", "lost", DROPPED):
                 bar = runs[number]
                 bar.ended = time
                 if not event.get("asked"):
