@@ -155,6 +155,26 @@ def lost_connections(kills: int, lease: float) -> None:
         require(case.processes().keys() == {"a"} and case.text("a.log") == "begin m1\n", "it has ended")
 
 
+def others_machine(lease: float, seconds: float) -> None:
+    """A machine that another agent has is left out, told once; what runs on the agent's other machines goes on."""
+    with Cluster("b", lease=lease) as case:
+        case.start_registered("a2", "m1=4")
+        case.start_registered("a1", "m2=4")
+        case.firmd.round("start b m2")
+        case.until_told("running", "b")
+        case.until_begun("b")
+        first = min(case.processes()["b"])
+        case.kill_agent("a1")
+        case.start_agent("a1", "m1=4,m2=4")
+        left_out = "m1 is left out until it is free: machine-taken: the agent a2 has the machine m1"
+        case.until(lambda: left_out in case.told(), "it is told")
+        case.until(lambda: case.queue.agents["a1"].machines == {"m2": 4}, "it is registered with m2")
+        case.until(lambda: "b on m2 (run 1) still runs" in case.told(), "its run goes on")
+        time.sleep(seconds)
+        require(is_there(first) and case.text("b.log") == "begin m2\n", case.told())
+        require(case.told().count(left_out) == 1, case.told())
+
+
 def checks(is_quick: bool) -> dict[str, Check]:
     """Each check's name, and the check."""
     found: dict[str, Check] = {
@@ -162,6 +182,7 @@ def checks(is_quick: bool) -> dict[str, Check]:
         "no trace": no_trace,
         "other host in the table": other_host_in_the_table,
         "lost connections": partial(lost_connections, 3, LONG_SECONDS),
+        "others machine": partial(others_machine, LONG_SECONDS, SOON_SECONDS),
     }
     found["not asked for, begun by an older agent"] = partial(not_asked_for, LISTS["this host alone"], True)
     for name, machines in LISTS.items():
@@ -170,4 +191,5 @@ def checks(is_quick: bool) -> dict[str, Check]:
             found[f"begun elsewhere, {name}"] = partial(begun_elsewhere, machines)
     if not is_quick:
         found["lost connections, short lease"] = partial(lost_connections, 8, LEASE_SECONDS)
+        found["others machine, short lease"] = partial(others_machine, 2 * LEASE_SECONDS, 4 * LEASE_SECONDS)
     return found

@@ -165,7 +165,7 @@ def two_for_one_machine() -> None:
     with Cluster("a", lease=4) as case:
         case.start_registered()
         case.start_agent("a2")
-        taken = "the queue does not take this agent: machine-taken: the agent a1 has the machine m1"
+        taken = "m1 is left out until it is free: machine-taken: the agent a1 has the machine m1"
         case.until(lambda: taken in case.told(), "it is told")
         case.firmd.round("start a m1")
         case.until_begun("a")
@@ -174,7 +174,7 @@ def two_for_one_machine() -> None:
         case.kill_agent("a1")
         case.until_silent("a1")
         require(not case.processes(), "it runs though its lease is over")
-        case.until(lambda: "a2" in case.queue.agents, "the second is registered")
+        case.until(lambda: case.queue.agents["a2"].machines == {"m1": 4}, "the second has the machine")
         case.firmd.round("start a m1")
         case.until(lambda: case.text("a.log").count("begin") == 2, "it begins again")
         require(case.told().count(taken) == 1, case.told())

@@ -6,6 +6,7 @@ import asyncio
 import os
 from collections import deque
 from collections.abc import Coroutine, Sequence
+from contextlib import suppress
 from pathlib import Path
 from typing import TYPE_CHECKING, Any
 
@@ -27,6 +28,7 @@ if TYPE_CHECKING:
 
 SHORTEST_PAUSE, LONGEST_PAUSE = 0.1, 2.0  # seconds between two tries to reach the queue
 REGISTER_SECONDS = 2.0  # between two tries to register, and to ask for what was refused
+TAKEN_SECONDS = 10.0  # between two tries to have a machine that another agent has
 DONE_SECONDS = 2.0  # for which firm may still have a task that has done its work
 ROOM_SECONDS = 1.0  # between two looks whether the disk has room again
 MOST_CLAIMS = 128  # that wait for answers: behind too many the queue would hear no beat
@@ -103,6 +105,8 @@ class QueueSource:
         self.events, self.lease = Events(folder), Lease()
         self._tenant: asyncio.Future[str] | None = None
         self._link: Link | None = None  # while the agent is registered
+        self._own: dict[str, int] = {}  # the machines with which it is
+        self._taken: set[str] = set()  # those that another agent has
         self._is_stale = asyncio.Event()  # the queue was told of a run that is not there any more
         self._news = asyncio.Event()  # of claims; another one after each
         self._claiming: set[int] = set()  # runs
@@ -179,25 +183,31 @@ class QueueSource:
             group.create_task(self._register_again(link))
 
     async def _register(self, link: Link) -> float:
-        """Tries until the queue takes the agent; the seconds between two beats."""
+        """Tries until the queue takes the agent, without machines that others have; the seconds between two beats."""
+        taken: dict[str, str] = {}  # machines, and what the queue says of them
         while True:
             asked = clock()
             self._is_stale.clear()
-            history = self.agent.history
-            rows: dict[str, object] = {"id": history.name, "machines": self.machines.slots, "runs": self._runs()}
+            machines = {name: slots for name, slots in self.machines.slots.items() if name not in taken}
+            rows: dict[str, object] = {"id": self.agent.history.name, "machines": machines, "runs": self._runs()}
             try:
                 said = self._said("register", await link.ask("register", agent=self.name, **rows))
                 break
             except Refusal as refusal:
+                machine = str(refusal.answer.get("machine"))
+                if refusal.name == "machine-taken" and machine in machines:
+                    taken[machine] = str(refusal)
+                    continue
                 self._tell_once(f"the queue does not take this agent: {refusal}")
             await asyncio.sleep(REGISTER_SECONDS)
         ending = said.all_tokens("end")  # what is to end may run elsewhere: where it is not known, nothing has a lease
-        if link is not self._link:
+        is_new = link is not self._link
+        if is_new:
             self._told = ""
             self._beats.clear()
-            tell(INFO, f"registered as {self.name} with {', '.join(self.machines.slots)}")
+        self._tell_machines(machines, taken, is_new)
         self._extend(asked, said.seconds("lease"), frozenset(ending))
-        self._link = link
+        self._link, self._own, self._taken = link, machines, set(taken)
         self._end(ending)
         self._keep(said.tokens("keep"))
         self._wake()
@@ -205,10 +215,18 @@ class QueueSource:
         beat = said.seconds("beat")
         return REGISTER_SECONDS if beat is None else max(SHORTEST_PAUSE, beat)
 
+    def _tell_machines(self, machines: dict[str, int], taken: dict[str, str], is_new: bool) -> None:
+        if is_new or machines != self._own:
+            tell(INFO, f"registered as {self.name} with {', '.join(machines) or 'no machines'}")
+        for machine in taken.keys() - self._taken:
+            tell(WARNING, f"{machine} is left out until it is free: {taken[machine]}", machine=machine)
+
     async def _register_again(self, link: Link) -> None:
-        """Tells of runs that are dropped."""
+        """Tells of runs that are dropped, and tries from time to time to have what others had."""
         while True:
-            await self._is_stale.wait()
+            with suppress(TimeoutError):
+                async with asyncio.timeout(TAKEN_SECONDS if self._taken else None):
+                    await self._is_stale.wait()
             await self._register(link)
 
     def _runs(self) -> list[Event]:
@@ -352,7 +370,7 @@ class QueueSource:
     # Runs
 
     def try_start(self, key: Key, task: Task) -> bool:
-        if task.machine not in self.machines.rows or self._link is None or not self.lease.holds:
+        if task.machine not in self._own or self._link is None or not self.lease.holds:
             return False
         if self._refused.get(key) == task.machine or self.agent.state.waits or self.events.has_end_of(key):
             return False
