@@ -11,7 +11,8 @@ from functools import partial
 from pathlib import Path
 
 from agent_kit import SOON_SECONDS, SSH, WAITS_FOR_GO, Case, command, connections_to, is_there
-from harness.checks import Check, require
+from harness.checks import Check, Skipped, require
+from harness.deployed import TableError, agent_machines
 from harness.files import write_program
 from queue_stand_in import LONG_SECONDS, Cluster
 
@@ -175,6 +176,28 @@ def others_machine(lease: float, seconds: float) -> None:
         require(case.told().count(left_out) == 1, case.told())
 
 
+def logins() -> None:
+    """An agent of root takes no machine over ssh whose destination names no login, or root's."""
+    if os.getuid() != 0:
+        raise Skipped("it needs root")
+    taken, refused = ["worker@host", "ssh://worker@host:22"], ["host", "root@host", "ssh://root@host", "ssh://host"]
+    refused += ["ssh://r%6fot@host", "ssh://root;x@host", "Root@host", "x@root@host", "@host"]
+    with Cluster() as case:
+        require(not [ssh for ssh in taken if not is_taken(case, ssh)], "a login is refused")
+        require(not [ssh for ssh in refused if is_taken(case, ssh)], "taken")
+        case.start_agent(machines=case.listed(m1="", m2="host"))
+        require(case.agents["a1"].wait(LONG_SECONDS) == 3, "the agent's status")
+        told = "machines.m2: ssh is 'host'; an agent of root needs a login there that is not root's, as user@host"
+        require(told in case.told(), case.told())
+
+
+def is_taken(case: Cluster, ssh: str) -> bool:
+    try:
+        return "m1" in agent_machines.read_machines(case.listed(m1=ssh)).rows
+    except TableError:
+        return False
+
+
 def checks(is_quick: bool) -> dict[str, Check]:
     """Each check's name, and the check."""
     found: dict[str, Check] = {
@@ -183,6 +206,7 @@ def checks(is_quick: bool) -> dict[str, Check]:
         "other host in the table": other_host_in_the_table,
         "lost connections": partial(lost_connections, 3, LONG_SECONDS),
         "others machine": partial(others_machine, LONG_SECONDS, SOON_SECONDS),
+        "logins": logins,
     }
     found["not asked for, begun by an older agent"] = partial(not_asked_for, LISTS["this host alone"], True)
     for name, machines in LISTS.items():

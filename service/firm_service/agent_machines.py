@@ -2,6 +2,8 @@
 
 from __future__ import annotations
 
+import os
+import re
 import tomllib
 from dataclasses import dataclass
 from pathlib import Path
@@ -10,6 +12,7 @@ from .agent_table import MACHINE_KEYS, Machine, TableError, checked, machine_of,
 from .lines import is_name
 
 SLOTS = range(1, 65)  # as firm has them
+LOGIN = re.compile(r"(?:ssh://)?([a-z0-9_][a-z0-9_.-]*)@[^@]+", re.ASCII | re.IGNORECASE)  # one that is named
 
 
 @dataclass(frozen=True)
@@ -22,7 +25,16 @@ class Machines:
     def add(self, name: str, machine: Machine, slots: int) -> None:
         if slots not in SLOTS:
             raise TableError(f"machines.{name}: slots is {slots!r}; it must be {SLOTS[0]} to {SLOTS[-1]}")
+        if machine.ssh is not None and os.geteuid() == 0 and login_of(machine.ssh) in (None, "root"):
+            told = "an agent of root needs a login there that is not root's, as user@host: tasks of all users run as it"
+            raise TableError(f"machines.{name}: ssh is {machine.ssh!r}; {told}")
         self.rows[name], self.slots[name] = machine, slots
+
+
+def login_of(destination: str) -> str | None:
+    """As whom ssh is to log in; None where only its own settings say so."""
+    found = LOGIN.fullmatch(destination)
+    return found[1].lower() if found is not None else None
 
 
 def read_machines(text: str) -> Machines:
