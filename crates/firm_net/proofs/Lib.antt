@@ -12,4 +12,4 @@ pub mod Clears
 pub mod Facts
 pub mod Edits
 pub mod Results
-pub mod Cursors
+pub mod Walks

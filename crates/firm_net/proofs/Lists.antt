@@ -1,10 +1,8 @@
 -- Lists of arcs: what they contain, and a list without an arc.
-use Rattle.std.proofs.Common.{◌≡◌, ◌≢◌, ℕ, zero, suc, ◌+◌, ◌==◌, ◌⊎◌, inl, inr, true, false, not, List, [], ◌∷◌, ◌++◌}
-use Rattle.std.proofs.Common.{length, Contains, refl, sym, ap, ap₂, ◌∙◌, subst, arith, eq-eqb, ne_eqb}
-use Rattle.std.proofs.lemmas.List.Elements.{Contains-append_right}
-use Rattle.std.proofs.lemmas.Bool.{cases_eq, and_from, and_left, and_right}
+use Rattle.std.proofs.Common.{◌≡◌, ◌≢◌, zero, suc, ◌+◌, ◌⊎◌, inl, inr, not, List, [], ◌∷◌}
+use Rattle.std.proofs.Common.{length, Contains, refl, sym, ap, ◌∙◌, subst, arith}
 use Rattle.firm_net.specs.declared.row.ArcId.{ArcId}
-use Rattle.firm_net.specs.Net.{EachOnce, same_arc, without_arc, first_of, next_in}
+use Rattle.firm_net.specs.Net.{EachOnce, same_arc, without_arc}
 use Rattle.firm_net.specs.Laws.{same_arc_or_not, same_arc_self, same_arc_other}
 use Rattle.std.proofs.lemmas.Bool.{cond-true, cond-false}
 
@@ -123,19 +121,4 @@ length-without a (c ∷ rest) once h =
                   length-without a rest once.1 later,
                 )
           ]
-    ]
-
--- the arc behind one that stands once in a list
-pub next_in-append : (a : ArcId) (before rest : List ArcId) → EachOnce (before ++ a ∷ rest)
-    → next_in a (before ++ a ∷ rest) ≡ first_of rest
-next_in-append a [] rest once = cond-true (same_arc a a) (first_of rest) (next_in a rest) (same_arc_self a)
-next_in-append a (b ∷ before) rest once =
-    elim (same_arc_or_not a b) [
-      | inl same ↦
-          absurd (once.0 (subst (λ (c : ArcId). Contains (before ++ a ∷ rest) c) same
-          (Contains-append_right before (a ∷ rest) a (contains-here a rest))))
-      | inr other ↦
-          cond-false (same_arc a b) (first_of (before ++ a ∷ rest)) (next_in a (before ++ a ∷ rest))
-          (same_arc_other a b other)
-          ∙ next_in-append a before rest once.1
     ]

@@ -1,6 +1,6 @@
 -- What a contract sees of a `Net`: a map of nodes, each with its lists of arcs, and a map of arcs.
-use Rattle.std.specs.Prelude.{◌≡◌, ◌≢◌, ℕ, ◌+◌, ◌-◌, ◌<◌, ◌≤◌, ◌==◌, ◌&&◌, Bool, not, List, [], ◌∷◌, ◌++◌, filter}
-use Rattle.std.specs.Prelude.{Contains, Option, Some, None, IsSome, if◌then◌else◌}
+use Rattle.std.specs.Prelude.{◌≡◌, ◌≢◌, ℕ, ◌+◌, ◌-◌, ◌<◌, ◌≤◌, ◌==◌, ◌&&◌, Bool, not, List, [], ◌∷◌, filter}
+use Rattle.std.specs.Prelude.{Contains, Option, Some, None, IsSome}
 use Rattle.firm_arena.specs.Arena.{Arena, find, capacity_of, len_of, vacant, with_put, without, IsBoundedMap}
 pub use Rattle.firm_arena.specs.Arena.{changed_at, changed_all, slot_changed}
 use Rattle.firm_net.specs.Row.{Row, IsRow}
@@ -218,38 +218,6 @@ SameOtherRows old new a = (b : ArcId) → b ≢ a → row_at new b ≡ row_at ol
 -- every other node has the lists that it had
 abbrev pub SameOtherNodes : Net → Net → NodeId → Type 0
 SameOtherNodes old new n = (m : NodeId) → m ≢ n → lists_at new m ≡ lists_at old m
-
--- the first arc of a list
-abbrev pub first_of : List ArcId → Option ArcId
-first_of [] = None
-first_of (a ∷ _) = Some a
-
--- the arc that stands behind this one in a list
-abbrev pub next_in : ArcId → List ArcId → Option ArcId
-next_in a [] = None
-next_in a (b ∷ rest) = if same_arc a b then first_of rest else next_in a rest
-
--- the arc behind this one in the list of its end; none where the arc is not there
-abbrev pub behind : Side → Net → ArcId → Option Row → Option ArcId
-behind side net a None = None
-behind side net a (Some row) = next_in a (arcs_on side net (end_of side row))
-
-abbrev pub next_on : Side → Net → ArcId → Option ArcId
-next_on side net a = behind side net a (row_at net a)
-
--- the arc behind this one out of the same tail
-abbrev pub next_out : Net → ArcId → Option ArcId
-next_out = next_on Out
-
--- the arc behind this one into the same head
-abbrev pub next_into : Net → ArcId → Option ArcId
-next_into = next_on In
-
--- wherever the arc stands in the list of its end, `next` is the first arc of what follows it there
-abbrev pub Follows : Side → Net → ArcId → Option ArcId → Type 0
-Follows side net a next =
-    (row : Row) (before rest : List ArcId) → row_at net a ≡ Some row
-    → arcs_on side net (end_of side row) ≡ before ++ a ∷ rest → next ≡ first_of rest
 
 -- the arcs of a list, each with its row
 abbrev pub with_its_row : Net → ArcId → Option Row → List (ArcId × Row) → List (ArcId × Row)

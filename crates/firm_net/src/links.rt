@@ -5,7 +5,7 @@ ghost use Rattle.std.specs.Option.{IsSomeAnd};
 ghost use Rattle.firm_arena.specs.Arena.{find, vacant, changed_at, changed_all};
 ghost use Rattle.firm_net.specs.inner.Links.{neighbours_of, list_of, with_neighbours, with_next, with_previous};
 ghost use Rattle.firm_net.specs.inner.Links.{with_arc_list, empty_node, at_option, list_from, list_past, first_past};
-ghost use Rattle.firm_net.specs.inner.Links.{links_from, links_past, loose_link, arc_at, with_link_row, cleared_link};
+ghost use Rattle.firm_net.specs.inner.Links.{links_from, links_past, loose_link, with_link_row, cleared_link};
 
 use crate::row::{ArcId, ArcRow, NodeId};
 use firm_arena::Arena;
@@ -344,14 +344,6 @@ fn first_past(around: Neighbours, first: Place) -> Place
         None => around.next,
         Some(_) => first,
     }
-}
-
-/// The arc at a place, where one is named and there.
-pub fn arc_at(links: &Arena<Link>, place: Place) -> Option<ArcId>
-    ensures { result ≡ arc_at links.now place }
-{
-    let id = links.id_at(place.get()?)?;
-    Some(ArcId { id })
 }
 
 /// Gives an arc that is there another row.

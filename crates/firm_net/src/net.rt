@@ -6,14 +6,13 @@ ghost use Rattle.firm_arena.specs.Arena.{IsVacant, IsFull, capacity_of};
 ghost use Rattle.firm_net.specs.Row.{Row, IsRow};
 ghost use Rattle.firm_net.specs.Net.{IsNet, IsNode, IsArc, row_at, lists_at, out_list, in_list, place_of, added_of};
 ghost use Rattle.firm_net.specs.Net.{node_count, arc_count, CountsAre, empty_net, with_node, without_node, with_arc};
-ghost use Rattle.firm_net.specs.Net.{without_row, with_row, with_head, without_flow, with_numbers, with_unit, first_of};
-ghost use Rattle.firm_net.specs.Net.{next_on, next_out, next_into, arcs_on, rows_of, SameOtherRows, SameOtherNodes};
-ghost use Rattle.firm_net.specs.Net.{AreInRange, HasOtherTail, CanPush, Follows};
+ghost use Rattle.firm_net.specs.Net.{without_row, with_row, with_head, without_flow, with_numbers, with_unit, arcs_on};
+ghost use Rattle.firm_net.specs.Net.{rows_of, SameOtherRows, SameOtherNodes};
+ghost use Rattle.firm_net.specs.Net.{AreInRange, HasOtherTail, CanPush};
 ghost use Rattle.firm_net.specs.Edits.{IsEdit, SameNodes, span_of};
-ghost use Rattle.firm_net.specs.declared.links.Side.TheVariants.{Out, In};
 
 use crate::links::{
-    ArcList, Link, Node, Side, arc_at, clear_rows, link_at_front, set_row, two_arenas, unlink,
+    ArcList, Link, Node, Side, clear_rows, link_at_front, set_row, two_arenas, unlink,
 };
 use crate::row::{ArcId, ArcRow, NodeId, Way};
 use crate::walk::Arcs;
@@ -427,40 +426,6 @@ impl Net {
         self.walk(Side::In, node)
     }
 
-    /// The first arc out of a node; `None` where it has none or is not there.
-    pub fn out_first(&self, node: NodeId) -> Option<ArcId>
-        ensures first { result ≡ first_of (out_list self.now node) }
-        ensures net { IsNet self.now }
-    {
-        self.first(Side::Out, node)
-    }
-
-    /// The arc behind this one in the walk out of its tail; `None` where it is the last or is not there.
-    pub fn out_after(&self, arc: ArcId) -> Option<ArcId>
-        ensures next { result ≡ next_out self.now arc }
-        ensures behind { Follows Out self.now arc result }
-        ensures net { IsNet self.now }
-    {
-        self.after(Side::Out, arc)
-    }
-
-    /// The first arc into a node; `None` where it has none or is not there.
-    pub fn in_first(&self, node: NodeId) -> Option<ArcId>
-        ensures first { result ≡ first_of (in_list self.now node) }
-        ensures net { IsNet self.now }
-    {
-        self.first(Side::In, node)
-    }
-
-    /// The arc behind this one in the walk into its head; `None` where it is the last or is not there.
-    pub fn in_after(&self, arc: ArcId) -> Option<ArcId>
-        ensures next { result ≡ next_into self.now arc }
-        ensures behind { Follows In self.now arc result }
-        ensures net { IsNet self.now }
-    {
-        self.after(Side::In, arc)
-    }
-
     /// The walk over one list of a node.
     fn walk(&self, side: Side, node: NodeId) -> Arcs<'_>
         ensures arcs { result ≡ rows_of self.now (arcs_on side self.now node) }
@@ -471,28 +436,5 @@ impl Net {
             return Arcs::new(&self.links, side, ArcList::new());
         };
         Arcs::new(&self.links, side, lists.list(side))
-    }
-
-    /// The first arc of one list of a node.
-    fn first(&self, side: Side, node: NodeId) -> Option<ArcId>
-        ensures first { result ≡ first_of (arcs_on side self.now node) }
-        ensures net { IsNet self.now }
-    {
-        let Some(lists) = self.nodes.get(node.id).copied() else {
-            return None;
-        };
-        arc_at(&self.links, lists.list(side).first)
-    }
-
-    /// The arc behind one in its list on one side.
-    fn after(&self, side: Side, arc: ArcId) -> Option<ArcId>
-        ensures next { result ≡ next_on side self.now arc }
-        ensures behind { Follows side self.now arc result }
-        ensures net { IsNet self.now }
-    {
-        let Some(link) = self.links.get(arc.id).copied() else {
-            return None;
-        };
-        arc_at(&self.links, link.neighbours(side).next)
     }
 }

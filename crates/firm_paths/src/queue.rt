@@ -51,21 +51,6 @@ impl Queue {
         set_key(&mut self.keys, self.places, place, key);
     }
 
-    /// The key of a place.
-    pub fn key(&self, place: usize) -> u64
-        requires { place < length self.now }
-        ensures { result ≡ slice_index self.now place }
-    {
-        self.keys[self.places + place]
-    }
-
-    /// Makes every place absent.
-    pub fn clear(&mut self)
-        ensures { self.new ≡ replicate (length self.old) 18446744073709551615 }
-    {
-        self.keys.fill(ABSENT);
-    }
-
     /// The place of the least key, the preferred one if no other has a lower; `None` where every place is absent.
     pub fn least(&self, preferred: usize) -> Option<usize>
         ensures { MatchOption result

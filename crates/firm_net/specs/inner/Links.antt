@@ -1,7 +1,6 @@
 -- How a net's lists run through its arcs. No public clause cites this module.
 use Rattle.std.specs.Prelude.{◌≡◌, ℕ, zero, suc, ◌+◌, ◌-◌, ◌<◌, ◌≤◌, List, [], ◌∷◌, length, Option, Some, None}
-use Rattle.std.specs.Prelude.{option_map}
-use Rattle.firm_arena.specs.Arena.{Arena, find, held_at, id_under, changed_at, changed_all, slot_changed}
+use Rattle.firm_arena.specs.Arena.{Arena, find, held_at, changed_at, changed_all, slot_changed}
 use Rattle.firm_net.specs.Row.{Row}
 use Rattle.firm_net.specs.Net.{Lists, side_list, end_of}
 use Rattle.firm_net.specs.declared.row.NodeId.{NodeId}
@@ -80,11 +79,6 @@ first_past (Some _) next first = first
 
 abbrev pub list_past : Neighbours → ArcList → ArcList
 list_past around list = record { first = first_past around.previous around.next list.first; count = list.count - 1 }
-
--- the arc at a place, where one is named and there
-abbrev pub arc_at : Arena Link → Option ℕ → Option ArcId
-arc_at links None = None
-arc_at links (Some place) = option_map (λ id. record { id = id }) (id_under links place)
 
 -- the links, once the arc at this place is linked before the first of its list
 abbrev pub links_from : Side → ℕ → Option ℕ → Arena Link → Arena Link

@@ -6,7 +6,7 @@ use Rattle.firm_net.specs.Net.{Net, IsNet, rows_of, arcs_on}
 use Rattle.firm_net.specs.inner.Links.{walk_rows}
 use Rattle.firm_net.specs.declared.row.ArcId.{ArcId}
 use Rattle.firm_net.specs.declared.links.ArcList.{ArcList}
-use Rattle.firm_net.proofs.Cursors.{walk-is, walk-none, walk-short}
+use Rattle.firm_net.proofs.Walks.{walk-is, walk-none, walk-short}
 use Rattle.firm_net.proofs.net.Net.walk.Goals as goal
 
 arcs : (c : goal.After-new-2)
