@@ -23,12 +23,13 @@ from contextlib import AbstractContextManager, ExitStack, contextmanager, suppre
 from dataclasses import dataclass
 from functools import partial
 from pathlib import Path
+from unittest.mock import Mock
 
 from firmd_disks import unread
 from firmd_kit import CHECKS_AT_A_TIME, FIRMD, REPLY_SECONDS, ROSTER, Client, Daemon, Gone, Setup, wait_for
 from harness import program
 from harness.checks import Check, Suite, require, run_script, run_suites
-from harness.deployed import budgets, lanes
+from harness.deployed import Books, Shown, Status, budgets, lanes
 from harness.program import ROOT
 from harness.small_streams import random_stream
 from hostile import PATIENT, patch, with_http
@@ -313,6 +314,19 @@ def lanes_of_nobody(setup: Setup) -> None:
     require(len(told) == 2_002 and told.index(b"beta") < 1_002 + lanes.OF_LANE, told.index(b"beta"))
 
 
+def asked_once(setup: Setup) -> None:
+    """Readers that watch are asked once for a tenant of a message, not for each line: those of others cost little."""
+    del setup
+    books, lines = Books(), [b"alpha show", b"beta show"] * 500
+    books.start(ROSTER)
+    shown = Shown(books, Status(0.0, 0, 0, 0, 0, 0, 0, 0), "")
+    watchers = [Mock(**{"wants.side_effect": lambda tenant: tenant == "beta"}) for _ in range(64)]
+    shown.watchers += watchers
+    shown.replied_all(lines, [b"%b 1 ok" % line.split()[0] for line in lines], None)
+    require(all(watcher.wants.call_count == 2 for watcher in watchers), watchers[0].wants.call_count)
+    require(all(watcher.tell.call_args.args[0].count(b"beta show") == 500 for watcher in watchers), "its lines")
+
+
 def bounded_stop(setup: Setup) -> None:
     """A stop answers the lines that left their queues, and does not wait for all rounds that a client has sent."""
     with load(setup, ROUND_SECONDS="0.05") as daemon, Client(daemon.folder / "alpha") as client:
@@ -579,6 +593,7 @@ OTHERS = [
     hung_firm,
     rounds_of_all,
     lanes_of_nobody,
+    asked_once,
     bounded_stop,
     filled_journal,
     socket_budget,

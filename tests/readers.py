@@ -30,7 +30,6 @@ from dataclasses import dataclass, field
 from functools import partial
 from pathlib import Path
 from typing import Any
-from unittest.mock import Mock
 
 import firmd_kit
 from firmd_kit import REPLY_SECONDS, ROWS, Client, Daemon, Gone, Setup, wait_for
@@ -392,18 +391,6 @@ def closing_connections(setup: Setup) -> None:
         for reader in readers[: MOST_OF_USER // 2]:
             reader.close()
         wait_for(lambda: "status" in ask(daemon, {"ask": "status"}), "there is room again")
-
-
-def asked_once(setup: Setup) -> None:
-    """Watchers are asked once for each tenant of a message, not for each line: those of others cost next to none."""
-    books, lines = Books(), [b"alpha show", b"beta show"] * 500
-    books.start(ROSTER)
-    shown = Shown(books, Status(0.0, 0, 0, 0, 0, 0, 0, 0), "")
-    watchers = [Mock(**{"wants.side_effect": lambda tenant: tenant == "beta"}) for _ in range(WATCHERS)]
-    shown.watchers += watchers
-    shown.replied_all(lines, [b"%b 1 ok" % line.split()[0] for line in lines], None)
-    require(all(watcher.wants.call_count == 2 for watcher in watchers), watchers[0].wants.call_count)
-    require(all(watcher.tell.call_args.args[0].count(b"beta show") == 500 for watcher in watchers), "its lines")
 
 
 # The process.
@@ -769,7 +756,6 @@ CHECKS: list[Callable[[Setup], None]] = [
     bounded_memory,
     slow_connections,
     closing_connections,
-    asked_once,
     another_viewer,
     told_by_feed,
     whole_messages,

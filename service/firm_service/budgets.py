@@ -1,4 +1,8 @@
-"""What the lines of a tenant, and those of a socket, may take of the service: bytes a second, and of the journal."""
+"""What the lines of a tenant, and those of a socket, may take of the service: bytes a second, and of the journal.
+
+Lines past the bytes a second wait, since that soon ends; those past the bytes a day are refused. The budget refills
+evenly, so a tenant past it can still send a little.
+"""
 
 from __future__ import annotations
 

@@ -1,7 +1,8 @@
 """Keeps a viewer running, the process that answers readers, and tells it what happens.
 
-firmd never waits for it. A viewer that takes too little is told no more lines until it has taken the rest, and then all
-rows anew; one that dies, or gives no sign of life, is followed by another.
+firmd never waits for it, since readers would then slow writers down, and keeps no more for it than a bound. A viewer
+that takes too little is told no more lines until it has taken the rest, and then all rows anew; one that dies, or gives
+no sign of life, is followed by another.
 """
 
 from __future__ import annotations

@@ -1,4 +1,5 @@
-//! Tasks that wait for the same reason.
+//! Tasks that wait for the same reason: two crowds at most, those that each machine would cost more and those that one
+//! would cost as much, so that a checker recounts them from the rows alone.
 
 use crate::choices::Other;
 use crate::market::Market;

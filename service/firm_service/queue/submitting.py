@@ -13,7 +13,7 @@ from functools import partial
 from pathlib import Path
 from typing import Any
 
-from ..command_line import NO_SERVICE, NOT_THERE, USAGE, Failure, add_queue
+from ..command_line import NO_SERVICE, NOT_THERE, USAGE, Failure, add_queue, in_pipe
 from . import forms
 from .client import PATIENCE, NotThere, Queue, Refused, Submission, Submitted
 
@@ -222,7 +222,10 @@ def ids(found: Iterable[Submitted]) -> Iterator[str]:
 
 
 def main() -> int:
-    signal.signal(signal.SIGPIPE, signal.SIG_DFL)  # as other programs of a pipe
+    return in_pipe(run)
+
+
+def run() -> int:
     options = parser().parse_args()
     try:
         print("\n".join(ids(submit(options))))
