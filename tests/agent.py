@@ -634,12 +634,12 @@ def faulty_starts() -> None:
     tables = {
         "tenant = 1": "tenant is 1; it must be str",
         "tenant = ''": "tenant must be the name",
-        "tenant = 'alpha": "no TOML",
+        "tenant = 'alpha": "not valid TOML",
         "grace = -1": "grace is -1; it must be 0 or more",
         "grace = true": "grace is True",
         "jobs = 3": "jobs is 3",
         "[tasks]\na = 3": "tasks.a is 3",
-        "[tasks.A]": "'A' is no name",
+        "[tasks.A]": "'A' is not a name",
         "[machines.m1]\nssh = '-oProxy'": "ssh is '-oProxy'",
         "[tasks.a]\nretries = 1.5": "retries is 1.5; it must be int",
     }
@@ -652,7 +652,7 @@ def faulty_starts() -> None:
         case.table("", {})
         (case.folder / "state").mkdir()
         for text, words in {
-            "no event\n": "line 1 is no event",
+            "no event\n": "line 1 is not an event",
             '{"event": "end", "run": 7}\n': "line 1 doesn't follow",
         }.items():
             (case.folder / "state/events.jsonl").write_text(text)

@@ -458,7 +458,7 @@ def no_work() -> None:
         case.firmd.round("start a m1 start b m1")
         told = case.until_told("ended", "a")
         require(
-            (told["status"], told["fault"]) == (126, "the queue gives what is no work: env: names with values"), told
+            (told["status"], told["fault"]) == (126, "the queue gives what is not work: env: names with values"), told
         )
         require(case.until_told("ended", "b")["status"] == 0, case.told())
 
@@ -605,7 +605,7 @@ def faulty_command_lines() -> None:
     with Cluster() as case:
         for machines, words in {
             "m1": "No such file",
-            "m1=x": "'m1=x' is no machine with its slots, as m1=4",
+            "m1=x": "'m1=x' is not a machine with its slots, as m1=4",
             "m1=1,m1=2": "m1 is there twice",
             "m1=0": "machines.m1: slots is 0; it must be 1 to 64",
         }.items():

@@ -658,14 +658,14 @@ def faulty_tables() -> None:
         (GOOD.replace("bind =", "bond =") + TENANTS, "the table lacks bind"),
         ("more = 1\n" + GOOD + TENANTS, "the table has more, which means nothing here"),
         (GOOD + TENANTS.replace('["two"]', '["three"]'), "tenants.beta: there is no shard 'three'"),
-        (GOOD + TENANTS.replace("beta", "Beta"), "tenants.Beta is no name"),
-        (GOOD + TENANTS.replace("beta", "none"), "tenants.none is no name"),
-        (GOOD.replace("shards.two", "shards.none") + TENANTS, "shards.none is no name of a shard"),
+        (GOOD + TENANTS.replace("beta", "Beta"), "tenants.Beta is not a tenant's name"),
+        (GOOD + TENANTS.replace("beta", "none"), "tenants.none is not a tenant's name"),
+        (GOOD.replace("shards.two", "shards.none") + TENANTS, "shards.none is not a shard's name"),
         (GOOD + '[tenants]\nalpha = ["one"]\n', "the shard two has no tenant"),
         (GOOD + TENANTS + many, "66 tenants begin at the shard one, and it has at most 64"),
         (GOOD.replace("{tenant}", "x") + TENANTS, "shards.one.sockets has no {tenant}"),
         (GOOD.replace("10.0.0.1:7444", "10.0.0.1") + TENANTS, "shards.one.replicas.a is not HOST:PORT"),
-        (GOOD.replace("/etc/firm/tls/door.pem", "a b") + TENANTS, "certificate is no text without blanks"),
+        (GOOD.replace("/etc/firm/tls/door.pem", "a b") + TENANTS, "certificate has blanks, quotes"),
         (GOOD + "[tenants\n", "line"),
     ):
         with tempfile.NamedTemporaryFile("w", suffix=".toml") as file:

@@ -371,7 +371,7 @@ TENANT  JOB  WEIGHT  RUNNING  WAITING
 beta    low       2        0        1
 """
 STATUS = """\
-firmd runs for 1:0[0-9]:[0-9][0-9], firm is process [0-9]+
+firmd has run for 1:0[0-9]:[0-9][0-9], firm is process [0-9]+
 clients 3, unread replies 17 bytes
 lines 15, 2 of them replayed at the start
 journal 2,500 of 10,000 bytes, 25.0%

@@ -128,7 +128,7 @@ def priorities(setup: Setup) -> None:
         daemon.refuses(3)
         require(daemon.said().startswith(b"firmd: cannot read the roster "), daemon.said())
         run_in_journal([*JOURNAL_TOOL, "print", "nothing"], errors)
-        require(daemon.said().startswith(b"<3>firm-journal: nothing is no state"), daemon.said())
+        require(daemon.said().startswith(b"<3>firm-journal: nothing is not a state"), daemon.said())
         (daemon.folder / "agent.toml").write_text("")
         words = ["--view", "v", "--socket", "s", "--state", "agent-state", "--table", "agent.toml"]
         run_in_journal([*AGENT, "run", *words], errors)
@@ -148,7 +148,7 @@ def records(setup: Setup) -> None:
         require(stopping["message"] == "stopping: what was taken is answered", stopping)
         errors = daemon.folder / "errors"
         for words, message in (
-            ([*JOURNAL_TOOL, "print", "nothing"], "nothing is no state"),
+            ([*JOURNAL_TOOL, "print", "nothing"], "nothing is not a state"),
             ([*AGENT, "run", "--view=v", "--socket=s", "--state=a", "--table=none"], "none: [Errno 2] No such file"),
         ):
             with open(errors, "wb") as file:

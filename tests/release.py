@@ -187,7 +187,7 @@ def refused(place: launcher.Place) -> None:
         require(not (place.top / "out/release").exists(), "a folder is left")
         return done.stderr
 
-    require("is no checkout" in refusal(), refusal())
+    require("is not a checkout" in refusal(), refusal())
     for words in (["init", "-q"], ["add", "-A"], ["commit", "-q", "-m", "one"]):
         subprocess.run([*git, *words], cwd=place.top, check=True)
     require("not proved: firm_arena, " in refusal(), refusal())

@@ -436,7 +436,7 @@ def secrets() -> None:
         options.etcd_password = None
         require(not list(warnings_of(options)), "no password")
         password.write_bytes(b"firm:\xff\n")
-        refused(Access((), None, password).login, Denied, "is no text in UTF-8")
+        refused(Access((), None, password).login, Denied, "is not text in UTF-8")
 
 
 def names() -> None:
@@ -551,7 +551,7 @@ def versions() -> None:
     for answer, words in (
         ((200, {"etcdcluster": "3.3.0"}), "is etcd 3.3.0: 3.4, or a later one"),
         ((200, {"etcdcluster": "4.0.0"}), "is etcd 4.0.0"),
-        ((200, {"hello": "you"}), "is no etcd"),
+        ((200, {"hello": "you"}), "is not etcd"),
         ((404, {}), "status 404"),
     ):
         with answering({"/version": answer}) as etcd:

@@ -134,7 +134,7 @@ NEWS: list[tuple[str, Book, list[reading.Node], list[reading.Job], dict[str, Any
     ("a job of a known account", book_of("", "2:-"), [], [job("1"), job("2")], {}, ["task light 1"]),
     ("a weight", book_of(), [], [job(account="heavy")], {}, ["job heavy 1000", "task heavy 1"]),
     ("a weight of a QOS", book_of(), [], [job(qos="heavy")], {"weigh": "qos"}, ["job heavy 1000", "task heavy 1"]),
-    ("an account that is no name", book_of(), [], [job(account="Ab_c")], {}, ["job ab-c-8e73 10",
+    ("an account that is not a name", book_of(), [], [job(account="Ab_c")], {}, ["job ab-c-8e73 10",
      "task ab-c-8e73 1"]),
     ("no account", book_of(), [], [job(account="")], {"default": 7}, ["job default 7", "task default 1"]),
     ("heavy jobs first", book_of("", "7:- heavy/8:-"), [], [job("1"), job("2", account="heavy"), job("7"),

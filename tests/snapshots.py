@@ -712,7 +712,7 @@ def restores(setup: Options) -> None:
         shutil.rmtree(other.state)
         other.refuses(3, "state fault 4 number in line ")
         other.restored = Path("/dev/zero")
-        other.refuses(3, "has more than 41,943,040 bytes, so it is no state")
+        other.refuses(3, "has more than 41,943,040 bytes, so it is not a state")
     moves(setup)
 
 

@@ -136,9 +136,9 @@ def files(found: Cluster) -> None:
     cases = [
         (cycle, 1, "dependency-cycle"),
         ('{"command": ["true"]}\n\n{"command": ["true"], "near": ["M1"]}\n', 1, ":3: "),
-        ('{"command": ["true"]}\n{"command": ["true"], "nice": 5}\n', 2, ":2: 'nice' is no field"),
+        ('{"command": ["true"]}\n{"command": ["true"], "nice": 5}\n', 2, ":2: 'nice' is not a field"),
         ('{"command": "true"}\n', 2, ":1: command: a list of words"),
-        ('{"command": ["true"], "time": "soon"}\n', 2, ":1: 'soon' is no time"),
+        ('{"command": ["true"], "time": "soon"}\n', 2, ":1: 'soon' is not a time"),
         ("[]\n", 2, ":1: a submission is an object"),
         ("{\n", 2, ":1: "),
         ("\n", 2, "no submission"),
@@ -156,13 +156,13 @@ def files(found: Cluster) -> None:
 def words_are_judged(found: Cluster) -> None:
     """What is wrong on a command line is named, with status 2 by the program and 1 by the queue."""
     cases: list[tuple[list[str], int, str]] = [
-        (["--time", "soon", "--", "true"], 2, "'soon' is no time"),
+        (["--time", "soon", "--", "true"], 2, "'soon' is not a time"),
         (["--time", "0", "--", "true"], 1, "time: "),
         (["--weight", "0", "--", "true"], 1, "weight: "),
-        (["--weight", "heavy", "--", "true"], 2, "'heavy' is no whole number"),
+        (["--weight", "heavy", "--", "true"], 2, "'heavy' is not a whole number"),
         (["--array", "5-1", "--", "true"], 2, "ends before it begins"),
         (["--array", "0-9999999", "--", "true"], 1, "array-too-large"),
-        (["--memory", "much", "--", "true"], 2, "'much' is no size"),
+        (["--memory", "much", "--", "true"], 2, "'much' is not a size"),
         (["--env", "NOT_THERE", "--", "true"], 2, "not in the environment"),
         (["--job", "Web", "--", "true"], 1, "bad-field"),
         (["--after", "99999", "--", "true"], 1, "no-such-task"),
@@ -261,7 +261,7 @@ def tables(found: Cluster) -> None:
     require(set(found.json("top")) == {"machines", "tasks", "status"}, "top as JSON")
     state = str(found.daemon.state)
     require(found.firmctl("machines", "--state", state).startswith("TENANT "), "firmd's machines")
-    require("firmd runs for" in found.firmctl("status", "--state", state), "firmd's status")
+    require("firmd has run for" in found.firmctl("status", "--state", state), "firmd's status")
     found.firmctl("cancel", "shown")
 
 

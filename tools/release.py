@@ -103,7 +103,7 @@ def version() -> Version:
         changed = said("git", "status", "--porcelain")
         commit, date, day, author = said(*LAST_COMMIT).rstrip("\n").split(" ", 3)
     except subprocess.CalledProcessError:
-        raise Refused(f"{ROOT} is no checkout of a commit") from None
+        raise Refused(f"{ROOT} is not a checkout of a commit") from None
     if changed:
         raise Refused(f"files differ from the commit's:\n{changed.rstrip()}")
     number = tomllib.loads((ROOT / "pyproject.toml").read_text())["project"]["version"]

@@ -20,7 +20,7 @@ class Address:
         """HOST:PORT, [HOST]:PORT or PORT alone, on the loopback then; raises `ValueError`."""
         found = re.fullmatch(r"(?:(?P<host>[^:\[\]]*):|\[(?P<six>[0-9a-fA-F:.]+)\]:)?(?P<port>[0-9]{1,5})", text)
         if found is None or int(found["port"]) > 65535:
-            raise ValueError(f"{text!r} is no address: write HOST:PORT, or PORT for the loopback")
+            raise ValueError(f"{text!r} is not an address: write HOST:PORT, or PORT for the loopback")
         return cls(found["six"] or found["host"] or LOOPBACK, int(found["port"]))
 
     def is_named(self, host: str) -> bool:

@@ -490,5 +490,5 @@ def main() -> int:
     if given.name is None or given.machines is None or given.socket is not None:
         one.error("--queue needs --name and --machines, and takes no --socket")
     if not is_name(given.name.encode()):
-        one.error(f"--name {given.name!r} is no name; names have 1 to 16 of a to z, 0 to 9 and -")
+        one.error(f"--name {given.name!r} is not a name; names have 1 to 16 of a to z, 0 to 9 and -")
     return run_by_queue(options, given.queue, given.name, given.machines)

@@ -32,7 +32,7 @@ def object_of(line: bytes) -> Event:
     except RecursionError:
         raise ValueError("a line that is too deep") from None
     if not isinstance(found, dict):
-        raise ValueError(f"a line that is no object: {short(line.decode(errors='replace').strip())}")
+        raise ValueError(f"a line that is not an object: {short(line.decode(errors='replace').strip())}")
     return found
 
 

@@ -47,7 +47,7 @@ def listed(text: str) -> Machines:
     for word in text.split(","):
         name, _, slots = word.partition("=")
         if not is_name(name.encode()) or not slots.isdecimal():
-            raise TableError(f"{word!r} is no machine with its slots, as m1=4")
+            raise TableError(f"{word!r} is not a machine with its slots, as m1=4")
         if name in found.slots:
             raise TableError(f"{name} is there twice")
         found.add(name, Machine(), int(slots))
@@ -58,7 +58,7 @@ def read_file(path: Path) -> Machines:
     try:
         table = checked("the file", tomllib.loads(path.read_text()), {"machines": (dict,)})
     except ValueError as error:
-        raise TableError(f"no TOML: {error}") from None
+        raise TableError(f"not valid TOML: {error}") from None
     found = Machines({}, {})
     for name, row in sections(table, "machines", {**MACHINE_KEYS, "slots": (int,)}).items():
         if "slots" not in row:

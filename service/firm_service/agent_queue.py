@@ -55,7 +55,7 @@ def work_of(answer: Any, owner: int, is_here: bool) -> Work:
         bounds = {name: value for name, value in found.items() if value is not None}
         return Work(command_of(fields), 0, 0.0, grace, directory, environment_of(fields), bounds)
     except Refused as refusal:
-        raise NotAllowed(f"the queue gives what is no work: {short(str(refusal))}") from None
+        raise NotAllowed(f"the queue gives what is not work: {short(str(refusal))}") from None
 
 
 def user_of(fields: Fields, owner: int) -> int | None:

@@ -129,7 +129,7 @@ def events_of(text: bytes) -> Iterator[Event]:
         try:
             yield {**json.loads(line)}
         except (ValueError, TypeError):
-            raise StateError(f"{EVENTS}: line {number} is no event") from None
+            raise StateError(f"{EVENTS}: line {number} is not an event") from None
 
 
 class Entry(NamedTuple):

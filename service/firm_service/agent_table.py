@@ -66,7 +66,7 @@ def read_toml(path: Path, keys: Keys) -> Section:
     try:
         return checked("the table", tomllib.loads(path.read_text()), keys)
     except ValueError as error:
-        raise TableError(f"no TOML: {error}") from None
+        raise TableError(f"not valid TOML: {error}") from None
 
 
 def sections(table: Section, name: str, keys: Keys) -> dict[str, Section]:
@@ -74,7 +74,7 @@ def sections(table: Section, name: str, keys: Keys) -> dict[str, Section]:
     found = table.get(name, {})
     for key in found:
         if not is_name(key.encode()):
-            raise TableError(f"{name}: {key!r} is no name; names have 1 to 16 of a to z, 0 to 9 and -")
+            raise TableError(f"{name}: {key!r} is not a name; names have 1 to 16 of a to z, 0 to 9 and -")
     return {key: checked(f"{name}.{key}", section, keys) for key, section in found.items()}
 
 

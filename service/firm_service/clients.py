@@ -176,7 +176,7 @@ class Client(asyncio.BufferedProtocol):
 
     def connection_made(self, transport: asyncio.BaseTransport) -> None:
         if not isinstance(transport, asyncio.Transport):
-            raise TypeError(f"{transport!r} is no stream")
+            raise TypeError(f"{transport!r} is not a stream")
         self.transport = transport
         try:
             self._begin()

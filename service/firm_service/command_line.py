@@ -99,5 +99,5 @@ def whole(low: int, high: int) -> Callable[[str], int]:
 def _whole(low: int, high: int, text: str) -> int:
     number = int(text) if text.isascii() and text.isdigit() else -1
     if not low <= number <= high:
-        raise argparse.ArgumentTypeError(f"{text!r} is no whole number from {low:,} to {high:,}")
+        raise argparse.ArgumentTypeError(f"{text!r} is not a whole number from {low:,} to {high:,}")
     return number

@@ -41,7 +41,7 @@ def number(low: float, high: float, text: str) -> int:
 def duration(text: str) -> float:
     value = float(text)
     if not 0 <= value < 10**9:
-        raise argparse.ArgumentTypeError(f"{text} is no time")
+        raise argparse.ArgumentTypeError(f"{text} is not a time")
     return value
 
 

@@ -67,7 +67,7 @@ def status_text(answer: Row) -> str:
     part = status["journal_bytes"] / status["journal_limit"]
     warning = "; no fresh firm goes on yet: see 'Snapshots' in docs/OPERATING.md" if part > WARNED_SHARE else ""
     return (
-        f"firmd runs for {tables.duration(time.time() - status['started'])}, firm is process {status['firm_process']}\n"
+        f"firmd has run for {tables.duration(time.time() - status['started'])}, firm is process {status['firm_process']}\n"
         f"clients {status['clients']}, unread replies {status['unread_replies']:,} bytes\n"
         f"lines {status['lines']:,}, {status['replayed_lines']:,} of them replayed at the start\n"
         f"journal {status['journal_bytes']:,} of {status['journal_limit']:,} bytes, {part:.1%}{warning}\n"
@@ -145,7 +145,7 @@ def move(options: argparse.Namespace) -> None:
 
 def tenant_name(text: str) -> str:
     if not is_name(text.encode()):
-        raise argparse.ArgumentTypeError(f"{text!r} is no name: 1 to 16 of a-z, 0-9 and -")
+        raise argparse.ArgumentTypeError(f"{text!r} is not a name: 1 to 16 of a-z, 0-9 and -")
     return text
 
 

@@ -46,7 +46,7 @@ def found_now(folder: Path, base: Base | None = None) -> Found:
     Without a base it is all that is there: what was archived or deleted is missing.
     """
     if not (folder / JOURNAL).is_dir():
-        raise Fault(Exit.STATE, f"{folder} is no state of firmd, or was never served")
+        raise Fault(Exit.STATE, f"{folder} is not a state of firmd, or was never served")
     tries = 0
     while True:
         before, tries = reached_now(folder), tries + 1

@@ -480,7 +480,7 @@ def by_name(rows: list[TenantRows]) -> list[TenantRows]:
 
 def named(tenant: str, move: str) -> Held:
     if not is_name(tenant.encode()):
-        raise Refused("bad-request", f"{tenant!r} is no name of a tenant")
+        raise Refused("bad-request", f"{tenant!r} is not a tenant's name")
     if _MOVE.fullmatch(move) is None:
-        raise Refused("bad-request", f"{move!r} is no name of a move")
+        raise Refused("bad-request", f"{move!r} is not a move's name")
     return Held(tenant, move)

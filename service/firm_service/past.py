@@ -69,7 +69,7 @@ def before(folder: Path, tenant: str, number: int) -> Row:
     text = fold(start.opening, lines_until(found, tenant, asked.number), Part(tenants=(tenant,)))
     (rows,) = tenants_of(text)
     if rows.commands != number - 1:
-        raise Refused("no-such-round", f"line {asked.number} is no command {number} of {tenant}")
+        raise Refused("no-such-round", f"line {asked.number} is not command {number} of {tenant}")
     time = asked.time / 1_000 if asked.time else None
     alone = text_of(book_of(text.decode("ascii")))  # the places of others, and their admissions, are not told
     return {"tenant": tenant, "line": asked.number - 1, "time": time, "text": alone}
@@ -117,7 +117,7 @@ def command(found: Found, tenant: str, behind: int, count: int, number: int) -> 
                 return line
             break
         nearest = count if is_asked else nearest
-    what = "is no round" if count == number else "was not given"
+    what = "is not a round" if count == number else "was not given"
     rest = f"; the last round before that is {nearest}" if nearest else ""
     raise Refused("no-such-round", f"command {number} of {tenant} {what}{rest}")
 

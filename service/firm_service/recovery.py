@@ -189,7 +189,7 @@ def numbers_of(folder: Path) -> list[int]:
     paths = sorted(folder.glob("*.lines"))
     for path in paths:
         if not re.fullmatch(r"[0-9]+", path.stem) or path != segment_path(folder, int(path.stem)):
-            raise Fault(Exit.JOURNAL, f"{path} is no segment of the journal, by its name; move it away")
+            raise Fault(Exit.JOURNAL, f"{path} is not a segment of the journal, by its name; move it away")
     found = sorted(int(path.stem) for path in paths)
     if found and found != list(range(found[0], found[-1] + 1)):
         damaged(f"{folder}: segments are missing: those there are {found}")
@@ -339,7 +339,7 @@ def old_blocks(path: Path, size: int) -> list[tuple[int, Block, str]]:
             end, lines, digest, replies = line.decode().split()
             block = Block(size + start, size + int(end), int(lines), replies)
         except ValueError as error:
-            raise Fault(Exit.JOURNAL, f"{kept}:{place}: this is no record of a block; {RESTORE}") from error
+            raise Fault(Exit.JOURNAL, f"{kept}:{place}: this is not a record of a block; {RESTORE}") from error
         if int(end) <= start:
             damaged(f"{kept}:{place}: it ends before the one before it")
         found.append((count, block, digest))
@@ -356,7 +356,7 @@ def old_refusals(path: Path, segments: list[Segment], lines: int) -> dict[int, i
             segment, below = map(int, line.split())
             number = segments[range(1, len(segments) + 1).index(segment)].lines + below + 1
         except ValueError as error:
-            raise Fault(Exit.JOURNAL, f"{path}:{place}: these are no segment and line; {RESTORE}") from error
+            raise Fault(Exit.JOURNAL, f"{path}:{place}: these are not a segment and a line; {RESTORE}") from error
         if below < 0 or number > ends[segment - 1]:
             damaged(f"{path}:{place}: the segment {segment} has not as many lines")
         found[number] = 0

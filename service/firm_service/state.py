@@ -102,7 +102,7 @@ class StateFolder:
         except OSError as error:
             raise Fault(Exit.STATE, f"cannot read {self.id_path}: {reason(error)}") from error
         if re.fullmatch(r"[0-9a-z-]{1,40}", name) is None:
-            raise Fault(Exit.JOURNAL, f"{self.id_path}: this is no id of a state; {RESTORE}")
+            raise Fault(Exit.JOURNAL, f"{self.id_path}: this is not an id of a state; {RESTORE}")
         return name
 
 
@@ -226,5 +226,5 @@ def read(opening: Opening) -> bytes:
     except OSError as error:
         raise Fault(Exit.ROSTER, f"cannot read the {what} {opening.path}: {reason(error)}") from error
     if len(text) > MOST_BYTES:
-        raise Fault(Exit.ROSTER, f"{opening.path} has more than {MOST_BYTES:,} bytes, so it is no {what}")
+        raise Fault(Exit.ROSTER, f"{opening.path} has more than {MOST_BYTES:,} bytes, so it is not a {what}")
     return text

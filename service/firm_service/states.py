@@ -214,7 +214,7 @@ def tenants_of(text: bytes) -> list[TenantRows]:
     """The tenants of a state that firm_state wrote, in the order of their places; raises `ValueError` for any other."""
     rows = text.decode("ascii").split("\n")
     if not text.startswith(VERSION) or len(rows) < 3 or rows[-2:] != [f"rows {len(rows) - 3}", ""]:
-        raise ValueError("this is no whole state of a version that is known here")
+        raise ValueError("this is not a whole state of a version that is known here")
     found: list[TenantRows] = []
     for row in rows[1:-2]:  # a start of firmd waits for this: a microsecond a row
         words = row.split(" ")
@@ -246,4 +246,4 @@ def add_row(tenant: TenantRows, kind: str, words: list[str]) -> None:
     elif kind == "costs":
         tenant.costs = [int(word) for word in words]
     else:
-        raise ValueError(f"this is no row of a state: {kind}")
+        raise ValueError(f"this is not a row of a state: {kind}")

@@ -335,7 +335,7 @@ class Connection:
         except Refused as refusal:
             await self._write(refused(refusal))
         except (ValueError, RecursionError) as error:
-            await self._write(refused(Refused("bad-request", f"no JSON: {error}")))
+            await self._write(refused(Refused("bad-request", f"not valid JSON: {error}")))
 
     async def _answer(self, request: Json) -> None:
         """Writes an answer in parts, each once the one before it is read; lines that it watches come behind it."""

@@ -181,7 +181,7 @@ class Gate(asyncio.Protocol):
 
     def connection_made(self, transport: asyncio.BaseTransport) -> None:
         if not isinstance(transport, asyncio.Transport):
-            raise TypeError(f"{transport!r} is no stream")
+            raise TypeError(f"{transport!r} is not a stream")
         self.transport, self.owner = transport, self._gates.site.owner(transport)
         self._gates.begin(self._handler, self)
         self._handler.connection_made(transport)

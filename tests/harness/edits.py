@@ -113,7 +113,7 @@ def read_edit(file: Path) -> Edit:
 def read_file(crate: Path, path: str) -> str:
     inside = Path(path)
     if inside.is_absolute() or ".." in inside.parts or inside.parts[0] not in PARTS:
-        raise BadEdit(f"{path} is no file below src/, specs/ or proofs/")
+        raise BadEdit(f"{path} is not a file below src/, specs/ or proofs/")
     try:
         return (crate / path).read_text()
     except OSError:

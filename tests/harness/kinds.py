@@ -218,7 +218,7 @@ def read_size(text: str) -> tuple[int, int]:
     try:
         tasks, machines = map(int, text.split("x"))
     except ValueError:
-        raise argparse.ArgumentTypeError(f"{text} is no size, as 100x20 is: tasks x machines") from None
+        raise argparse.ArgumentTypeError(f"{text} is not a size, as 100x20 is: tasks x machines") from None
     return tasks, machines
 
 

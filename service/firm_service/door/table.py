@@ -100,7 +100,7 @@ def read_table(path: Path, found: dict[str, Any]) -> Table:
 def read_shard(name: str, row: object) -> Shard:
     where = f"shards.{name}"
     if not is_name(name.encode()) or name == NOWHERE:
-        raise TableError(f"{where} is no name of a shard: 1 to 16 of a-z, 0-9 and -, and not {NOWHERE}")
+        raise TableError(f"{where} is not a shard's name: 1 to 16 of a-z, 0-9 and -, and not {NOWHERE}")
     found = rows(row, where)
     require_keys(found, {"certificate", "sockets", "replicas"}, {"operator", "state"}, where)
     sockets = text(found["sockets"], f"{where}.sockets")
@@ -120,9 +120,9 @@ def read_shard(name: str, row: object) -> Shard:
 def read_tenant(name: str, row: object, shards: dict[str, Shard]) -> list[str]:
     where = f"tenants.{name}"
     if not is_name(name.encode()) or name == NOWHERE:
-        raise TableError(f"{where} is no name of a tenant here: 1 to 16 of a-z, 0-9 and -, and not {NOWHERE}")
+        raise TableError(f"{where} is not a tenant's name here: 1 to 16 of a-z, 0-9 and -, and not {NOWHERE}")
     if not isinstance(row, list) or not row or len(set(map(str, row))) < len(row):
-        raise TableError(f"{where} is no list of different shards")
+        raise TableError(f"{where} is not a list of different shards")
     for shard in row:
         if shard not in shards:
             raise TableError(f"{where}: there is no shard {shard!r}")
@@ -137,7 +137,7 @@ def rows(found: object, where: str) -> dict[str, Any]:
 
 def text(found: object, where: str) -> str:
     if not isinstance(found, str) or not re.fullmatch(r"[!-~]+", found) or any(mark in found for mark in "\"'\\#$"):
-        raise TableError(f"{where} is no text without blanks, quotes, $, # and backslashes")
+        raise TableError(f"{where} has blanks, quotes, $, # or backslashes")
     return found
 
 

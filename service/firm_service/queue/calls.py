@@ -104,7 +104,7 @@ def answer_of(line: bytes) -> Json:
 
 
 def no_queue(line: bytes) -> NotThere:
-    return NotThere(f"what answers is no firm-queue; it says {line[:40]!r}")
+    return NotThere(f"what answers is not firm-queue; it says {line[:40]!r}")
 
 
 class Patience:

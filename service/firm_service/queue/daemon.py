@@ -217,7 +217,7 @@ def size(text: str) -> int:
 
 def tenant(text: str) -> str:
     if not is_name(text.encode()):
-        raise argparse.ArgumentTypeError(f"{text!r} is no name of a tenant")
+        raise argparse.ArgumentTypeError(f"{text!r} is not a tenant's name")
     return text
 
 

@@ -80,7 +80,7 @@ class Fields:
     def name(self, field: str) -> str | None:
         value = self.get(field)
         if value is not None and (not isinstance(value, str) or NAME.fullmatch(value) is None):
-            raise bad(field, f"{value!r} is no name; names have 1 to 16 of a to z, 0 to 9 and -")
+            raise bad(field, f"{value!r} is not a name; names have 1 to 16 of a to z, 0 to 9 and -")
         return value
 
     def whole(self, field: str, low: int, high: int) -> int | None:
@@ -116,7 +116,7 @@ class Fields:
     def path(self, field: str, most: int = MOST_PATH) -> str | None:
         value = self.text(field, most)
         if value is not None and not value.startswith("/"):
-            raise bad(field, f"{value!r} is no absolute path")
+            raise bad(field, f"{value!r} is not an absolute path")
         return value
 
 
@@ -128,7 +128,7 @@ def checked_text(field: str, value: Any, most: int) -> str:
     try:
         value.encode()
     except UnicodeEncodeError:
-        raise bad(field, "it is no Unicode") from None
+        raise bad(field, "it is not Unicode") from None
     return value
 
 
@@ -171,7 +171,7 @@ def spec_of(fields: Fields) -> Spec:
     near = tuple(dict.fromkeys(fields.texts("near", MOST_NEAR)))
     for machine in near:
         if NAME.fullmatch(machine) is None:
-            raise bad("near", f"{machine!r} is no name; names have 1 to 16 of a to z, 0 to 9 and -")
+            raise bad("near", f"{machine!r} is not a name; names have 1 to 16 of a to z, 0 to 9 and -")
     grace, retries = fields.number("grace", MOST_GRACE), fields.whole("retries", 0, MOST_RETRIES)
     return Spec(
         command,
@@ -195,7 +195,7 @@ def environment_of(fields: Fields) -> dict[str, str]:
         raise bad("env", f"at most {MOST_NAMES:,} names with values")
     for name, text in value.items():
         if VARIABLE.fullmatch(name) is None:
-            raise bad("env", f"{name!r} is no name of a variable")
+            raise bad("env", f"{name!r} is not a variable's name")
         checked_text("env", text, MOST_LETTERS)
     if sum(len(name) + len(text) for name, text in value.items()) > MOST_LETTERS:
         raise bad("env", f"more than {MOST_LETTERS:,} letters")

@@ -25,7 +25,7 @@ def seconds_of(text: str) -> float:
         return sum(float(number) * SECONDS[unit] for number, unit in _PART.findall(text))
     clock = _CLOCK.fullmatch(text)
     if clock is None:
-        raise ValueError(f"{text!r} is no time; write 90, 90s, 30m, 2h, 1d, 1:30:00 or 1-12:00:00")
+        raise ValueError(f"{text!r} is not a time; write 90, 90s, 30m, 2h, 1d, 1:30:00 or 1-12:00:00")
     days, *rest = clock.groups()
     parts = [int(part) for part in rest if part is not None]
     if any(part > 59 for part in parts[1:]):
@@ -37,13 +37,13 @@ def seconds_of(text: str) -> float:
 
 def whole_of(text: str) -> int:
     if re.fullmatch(r"\d+", text.strip(), re.ASCII) is None:
-        raise ValueError(f"{text!r} is no whole number")
+        raise ValueError(f"{text!r} is not a whole number")
     return int(text)
 
 
 def number_of(text: str) -> float:
     if re.fullmatch(r"\d+(?:\.\d+)?", text.strip(), re.ASCII) is None:
-        raise ValueError(f"{text!r} is no number")
+        raise ValueError(f"{text!r} is not a number")
     return float(text)
 
 
@@ -51,7 +51,7 @@ def bytes_of(text: str) -> int:
     """2G, 512M, 1.5T or bytes; K is 1,024."""
     size = _SIZE.fullmatch(text.strip())
     if size is None:
-        raise ValueError(f"{text!r} is no size; write 512M, 2G or bytes")
+        raise ValueError(f"{text!r} is not a size; write 512M, 2G or bytes")
     return int(float(size[1]) * 1_024 ** UNITS[size[2].upper()])
 
 
@@ -59,7 +59,7 @@ def array_of(text: str) -> tuple[int, int]:
     """1-500, or a single index."""
     array = _ARRAY.fullmatch(text.strip())
     if array is None:
-        raise ValueError(f"{text!r} is no array; write 1-500")
+        raise ValueError(f"{text!r} is not an array; write 1-500")
     first, last = int(array[1]), int(array[2] or array[1])
     if last < first:
         raise ValueError(f"{text!r} ends before it begins")
@@ -83,7 +83,7 @@ def instant_of(text: str, now: float | None = None) -> float:
             pass
     elif _PARTS.fullmatch(text):
         return (moment - timedelta(seconds=seconds_of(text))).timestamp()
-    raise ValueError(f"{text!r} is no moment; write 2026-11-26, 2026-11-26T09:00, 09:00 or 2h (ago)")
+    raise ValueError(f"{text!r} is not a moment; write 2026-11-26, 2026-11-26T09:00, 09:00 or 2h (ago)")
 
 
 def names_of(text: str) -> tuple[str, ...]:

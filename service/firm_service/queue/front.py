@@ -126,7 +126,7 @@ def request_of(line: bytes) -> Json:
     try:
         given = json.loads(line)
     except (ValueError, RecursionError) as error:
-        raise Refused("bad-request", f"no JSON: {error}") from None
+        raise Refused("bad-request", f"not valid JSON: {error}") from None
     if not isinstance(given, dict):
         raise Refused("bad-request", "a request is an object")
     return given

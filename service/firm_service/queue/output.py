@@ -42,7 +42,7 @@ class Output:
     def refusal(self, error: OSError) -> Refused:
         """Says of what is another's as little as of what is not there."""
         if isinstance(error, HIDDEN):
-            return Refused("no-output", f"{self.path} is no file of the task's user that the queue can read")
+            return Refused("no-output", f"{self.path} is not a file of the task's user that the queue can read")
         return Refused("no-output", f"{self.path}: {reason(error)}")
 
 

@@ -49,7 +49,7 @@ class Told:
 
 def token_of(field: str, value: Any) -> str:
     if not isinstance(value, str) or TOKEN.fullmatch(value) is None:
-        raise bad(field, f"{value!r} is no token; it has 8 to 64 of 0 to 9 and a to f")
+        raise bad(field, f"{value!r} is not a token; it has 8 to 64 of 0 to 9 and a to f")
     return value
 
 
@@ -66,7 +66,7 @@ def machines_of(given: Json) -> dict[str, int]:
         raise bad("machines", "machines with their slots")
     for machine, slots in value.items():
         if NAME.fullmatch(machine) is None:
-            raise bad("machines", f"{machine!r} is no name; names have 1 to 16 of a to z, 0 to 9 and -")
+            raise bad("machines", f"{machine!r} is not a name; names have 1 to 16 of a to z, 0 to 9 and -")
         if type(slots) is not int or not 1 <= slots <= MOST_SLOTS:
             raise bad("machines", f"{machine} has {slots!r} slots; it may have 1 to {MOST_SLOTS}")
     return dict(value)
@@ -81,7 +81,7 @@ def runs_of(given: Json) -> list[Run]:
     found = []
     for run in value:
         if not isinstance(run, dict) or run.get("state") not in RUN_STATES:
-            raise bad("runs", f"{run!r} is no run with a state of {', '.join(RUN_STATES)}")
+            raise bad("runs", f"{run!r} is not a run with a state of {', '.join(RUN_STATES)}")
         found.append(Run(token_of("runs", run.get("token")), run["state"] in ("starting", "running")))
     return found
 
@@ -105,7 +105,7 @@ def told_of(given: Json) -> list[Told]:
 
 def event_of(given: Any) -> Told:
     if not isinstance(given, dict):
-        raise bad("events", f"{given!r} is no event")
+        raise bad("events", f"{given!r} is not an event")
     token, kind = token_of("events", given.get("token")), given.get("event")
     fields = Fields(given, list(given))
     seconds = seconds_of(given.get("seconds"))

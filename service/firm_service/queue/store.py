@@ -371,7 +371,7 @@ class Store:
     def _look_at(self, connection: sqlite3.Connection) -> None:
         """Raises `Fault` where the database is not one that this program can go on with."""
         if one(connection, "PRAGMA application_id") != APPLICATION:
-            raise Fault(Exit.JOURNAL, f"{self.path} is no database of firm-queue's")
+            raise Fault(Exit.JOURNAL, f"{self.path} is not a database of firm-queue's")
         version = one(connection, "PRAGMA user_version")
         if version not in (*UPGRADES, VERSION):
             raise Fault(Exit.JOURNAL, f"{self.path} is of version {version}; this firm-queue reads {VERSION} at most")

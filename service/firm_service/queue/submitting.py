@@ -153,7 +153,7 @@ def of_line(line: str, folder: str) -> dict[str, Any]:
         raise ValueError("a submission is an object")
     unknown = [name for name in row if name not in KNOWN]
     if unknown:
-        raise ValueError(f"{unknown[0]!r} is no field; there are {', '.join(sorted(KNOWN))}")
+        raise ValueError(f"{unknown[0]!r} is not a field; there are {', '.join(sorted(KNOWN))}")
     if not isinstance(row.get("command"), list):
         raise ValueError("command: a list of words is needed")
     values = {name: of_form(name, value) for name, value in row.items()}

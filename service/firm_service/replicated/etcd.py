@@ -78,7 +78,7 @@ class Access:
         except OSError as error:
             raise Denied(f"cannot read {self.password_file}: {error.strerror}") from error
         except ValueError as error:
-            raise Denied(f"{self.password_file} is no text in UTF-8") from error
+            raise Denied(f"{self.password_file} is not text in UTF-8") from error
         if not colon:
             raise Denied(f"{self.password_file} has no line USER:PASSWORD")
         return {"name": name, "password": password}
@@ -235,7 +235,7 @@ class Etcd:
                 raise Unsure(f"{self.member} has not found the other members yet")
             numbers = tuple(map(int, version.split(".")[:2]))
         except (ValueError, KeyError, TypeError):
-            raise Unfit(f"{self.member} is no etcd: asked for its version it says {text[:60]!r}") from None
+            raise Unfit(f"{self.member} is not etcd: asked for its version it says {text[:60]!r}") from None
         if numbers[0] != LEAST_VERSION[0] or numbers < LEAST_VERSION:
             raise Unfit(f"{self.member} is etcd {version}: 3.4, or a later one of version 3, is needed")
 

@@ -29,13 +29,13 @@ def members(text: str) -> tuple[Member, ...]:
 
 def replica_name(text: str) -> str:
     if not is_name(text.encode()):
-        raise argparse.ArgumentTypeError(f"{text!r} is no name: 1 to 16 of a-z, 0-9 and -")
+        raise argparse.ArgumentTypeError(f"{text!r} is not a name: 1 to 16 of a-z, 0-9 and -")
     return text
 
 
 def prefix(text: str) -> str:
     if not text.isascii() or not text.isprintable() or not text.strip("/") or " " in text:
-        raise argparse.ArgumentTypeError(f"{text!r} is no prefix of keys")
+        raise argparse.ArgumentTypeError(f"{text!r} is not a prefix of keys")
     return text.rstrip("/")
 
 

@@ -135,7 +135,7 @@ class Side:
             elif verb != "round" or " " in reply.outcome.removeprefix("ok round cost "):
                 self._tell(f"{line}: {reply.outcome}")
         if told:
-            self._tell("firm is told: " + ", ".join(f"{count} {verb}" for verb, count in told.items()))
+            self._tell("sent to firm: " + ", ".join(f"{count} {verb}" for verb, count in told.items()))
 
     def _refused(self, line: str, reply: Reply) -> None:
         self.counts.refused[reply.outcome] += 1

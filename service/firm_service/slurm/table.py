@@ -97,7 +97,7 @@ def partition_of(name: str, row: object) -> Partition:
     where = f"partitions.{name}"
     section = checked(where, row, PARTITION_KEYS)
     if PARTITION.fullmatch(name) is None:
-        raise TableError(f"partitions: {name!r} is no name of a partition")
+        raise TableError(f"partitions: {name!r} is not a partition's name")
     tenant = section.get("tenant", name)
     if not is_name(tenant.encode()):
         raise TableError(f"{where}: tenant is {tenant!r}; names have 1 to 16 of a to z, 0 to 9 and -")
