@@ -36,10 +36,10 @@ def add_questions(verbs: Verbs) -> None:
     told = "in a past round, by the number of its reply; otherwise in a round now"
     command.add_argument("--round", type=whole(1, RANGES["life"][1]), metavar="N", help=told)
     command.add_argument("--reasons", action="store_true", help="print firm_explain's lines too (docs/EXPLAIN.md)")
-    command = verbs.add("what-if", what_if, "what a tenant's lines and a round behind them would do; does nothing")
+    command = verbs.add("what-if", what_if, "what a tenant's lines and a round after them would do; changes nothing")
     command.add_argument("file", metavar="FILE", help="with the lines; - for standard input")
     command.add_argument("tenant", nargs="?", metavar="TENANT", help="whose lines they are, if not those of the first")
-    command = verbs.add("plan", plan, "what a drain of a machine and a round behind it would do; does nothing")
+    command = verbs.add("plan", plan, "what a drain of a machine and a round after it would do; changes nothing")
     command.add_argument("what", choices=["drain"])
     command.add_argument("machine", metavar="MACHINE")
     command.add_argument("tenant", nargs="?", metavar="TENANT", help="where several have a machine of that name")
