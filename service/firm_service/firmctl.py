@@ -64,10 +64,10 @@ def rows(columns: Sequence[Column], key: str) -> Callable[[argparse.Namespace], 
 
 def status_text(answer: Row) -> str:
     status: dict[str, Any] = answer["status"]
-    part = status["journal_bytes"] / status["journal_limit"]
+    part, age = status["journal_bytes"] / status["journal_limit"], time.time() - status["started"]
     warning = "; no fresh firm goes on yet: see 'Snapshots' in docs/OPERATING.md" if part > WARNED_SHARE else ""
     return (
-        f"firmd has run for {tables.duration(time.time() - status['started'])}, firm is process {status['firm_process']}\n"
+        f"firmd has run for {tables.duration(age)}, firm is process {status['firm_process']}\n"
         f"clients {status['clients']}, unread replies {status['unread_replies']:,} bytes\n"
         f"lines {status['lines']:,}, {status['replayed_lines']:,} of them replayed at the start\n"
         f"journal {status['journal_bytes']:,} of {status['journal_limit']:,} bytes, {part:.1%}{warning}\n"
