@@ -143,7 +143,7 @@ class Late(NamedTuple):
     """A write without an outcome yet."""
 
     work: Work
-    count: int  # of the first entries that wait, which it writes
+    entries: int  # how many of the first that wait it writes
 
 
 class State:
@@ -265,7 +265,7 @@ class State:
         except OSError:
             pass  # it is written anew
         else:
-            del self._unwritten[: self._late.count]
+            del self._unwritten[: self._late.entries]
         self._late = None
 
     def _write(self, entries: Sequence[Entry], stays: bool = True) -> None:
