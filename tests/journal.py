@@ -434,7 +434,7 @@ def old_damage(setup: Setup) -> None:
         second.write_bytes(text)
         kept = first.with_suffix(".blocks").read_bytes()
         first.with_suffix(".blocks").write_bytes(b"no record\n")
-        daemon.refuses(5, "00000001.blocks:1", "no record")
+        daemon.refuses(5, "00000001.blocks:1", "not a record")
         first.with_suffix(".blocks").write_bytes(kept)
         (journal / "refused").write_bytes(b"9 9\n")
         daemon.refuses(5, "refused:1")

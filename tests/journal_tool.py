@@ -101,7 +101,7 @@ def printed_damage(setup: Setup) -> None:
         last.write_bytes(texts[last] + texts[last][-40:-2])  # an end that was torn
         require(printed("--senders", daemon.state)[1].count("\n") == daemon.journal().count(b"\n") - 1, "all lines")
         status, _, told = printed(daemon.folder / "none")
-        require(status == 4 and "no state" in told, told)
+        require(status == 4 and "not a state" in told, told)
         last.write_bytes(texts[last])
         daemon.start()
         words: list[str | Path] = [sys.executable, SERVICE / "firmctl", "--state", daemon.state]

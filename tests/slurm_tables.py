@@ -233,7 +233,7 @@ FAULTY_TABLES = {
     "weigh is 'user'": "view = 'v'\n[partitions.a]\nsocket = 's'\nweigh = 'user'",
     "x is 0": "view = 'v'\n[partitions.a]\nsocket = 's'\n[partitions.a.weights]\nx = 0",
     "slots is 65": "view = 'v'\n[partitions.a]\nsocket = 's'\nslots = 65",
-    "no TOML": "view",
+    "not valid TOML": "view",
 }
 
 

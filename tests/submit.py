@@ -176,7 +176,7 @@ def words_are_judged(found: Cluster) -> None:
     other = found.run("firm-submit", "--queue", "/nonexistent", "--patience", "0.1", "--", "true")
     require(other.status == 3 and b"no queue answers at /nonexistent" in other.faults, other)
     foreign = found.run("firm-submit", "--queue", str(found.daemon.any), "--", "true")
-    require(foreign.status == 3 and b"is no firm-queue; it says b'! unknown-tenant" in foreign.faults, foreign)
+    require(foreign.status == 3 and b"is not firm-queue; it says b'! unknown-tenant" in foreign.faults, foreign)
     for words, status in [(["ps", "--queue", "/nonexistent"], 3), (["logs", "99999"], 1), (["cancel"], 2)]:
         require(found.run("firmctl", *words).status == status, words)
     keyed = [found.run("firm-submit", "--dir", "/", "--key", "mine", "--", "true") for _ in range(2)]
