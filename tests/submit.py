@@ -390,6 +390,36 @@ def lost_answers(found: Cluster) -> None:
     found.firmctl("cancel", "robbed")
 
 
+@contextmanager
+def deaf(path: Path) -> Iterator[None]:
+    """A socket whose connections take no request, and soon end."""
+    listening = socket.socket(socket.AF_UNIX)
+    listening.bind(str(path))
+    listening.listen()
+
+    def serve() -> None:
+        with suppress(OSError):  # it is closed
+            while True:
+                with listening.accept()[0] as caller:
+                    caller.shutdown(socket.SHUT_RD)
+                    time.sleep(0.05)
+
+    thread = threading.Thread(target=serve, daemon=True)
+    thread.start()
+    try:
+        yield
+    finally:
+        listening.close()
+
+
+def a_queue_that_leaves(found: Cluster) -> None:
+    """A queue that takes no request is told with status 3, and no signal ends firm-submit without a word."""
+    path = found.folder / "deaf"
+    with deaf(path):
+        done = found.run("firm-submit", "--queue", str(path), "--patience", "1", "--", "true")
+    require(done.status == 3 and f"no queue answers at {path}".encode() in done.faults, done)
+
+
 def kills(built: str, count: int) -> None:
     """The queue is killed again and again while clients submit and wait: nothing is lost or doubled."""
     with cluster(built) as found:
@@ -421,7 +451,7 @@ def help_names_the_statuses() -> None:
 
 
 SHARED = [statuses_of_waits, arrays, files, words_are_judged, logs, changes, history, tables, quick_ps, clients]
-SHARED += [client_of_the_page, asynchronous_client, lost_answers]
+SHARED += [client_of_the_page, asynchronous_client, lost_answers, a_queue_that_leaves]
 
 
 def checks(built: str, found: Cluster, is_quick: bool) -> dict[str, Check]:
