@@ -10,13 +10,14 @@ use prog.Atomic.{either}
 use Rattle.atomic_table.specs.Table.{step, keeps, Allows, Enters, Arrives}
 use Rattle.atomic_table.proofs.Lists.{at_set, at_snoc, at_last, at_longer, set_again, set_else}
 use Rattle.firm_bell.specs.declared.rule.Stage.{Stage}
-use Rattle.firm_bell.specs.declared.rule.Stage.TheVariants.{Awake, Putting, Announced, Resting, Shutting, Ended}
+use Rattle.firm_bell.specs.declared.rule.Stage.TheVariants.{Awake, Putting, Announced, Resting, Ended}
 use Rattle.firm_bell.specs.declared.rule.BellSight.{BellSight}
-use Rattle.firm_bell.specs.Bell.{BellWords, laid, everyone, sight, newcomer, puts, in_rest, rests, seats, Each, Any}
+use Rattle.firm_bell.specs.Bell.{BellWords, laid, everyone, IsShut, sight, newcomer, puts, in_rest, rests, seats}
+use Rattle.firm_bell.specs.Bell.{Each, Any}
 use Rattle.firm_bell.specs.Bell.{IsHeard, none_rests, wake_comes, wake_is_owed, call_is_owed, IsKept, BellState}
 use Rattle.firm_bell.specs.Bell.{KeepsRule}
-use Rattle.firm_bell.specs.Steps.{Hand, Found, at_stage, free, owing, comes, expects, looks_for_rest}
-use Rattle.firm_bell.specs.Steps.{looks_for_round, discharges, rings, shuts, reads_stop, announces, lies_down}
+use Rattle.firm_bell.specs.Steps.{Hand, Found, at_stage, free, owing, knowing, comes, expects, looks_for_rest}
+use Rattle.firm_bell.specs.Steps.{looks_for_round, discharges, rings, shuts, learns_shut, announces, lies_down}
 use Rattle.firm_bell.specs.Steps.{wakes_up, ends_rest, takes, ends}
 
 module _ (kind : Stage → ℕ) where
@@ -49,7 +50,6 @@ resting_less Awake = omega arith
 resting_less Putting = omega arith
 resting_less Announced = omega arith
 resting_less Resting = omega arith
-resting_less Shutting = omega arith
 resting_less Ended = omega arith
 
 here : (views : List BellSight) (id : ℕ) (v x : BellSight) → get_elem? views id ≡ some v
@@ -86,63 +86,62 @@ module _ (views : List BellSight) (id : ℕ) (v x : BellSight) (at : get_elem? v
 
   -- what a step owes, of the words w and u before and after it
   pub record Turns (w u : BellWords) : Type 0 where
-    pub stop : u.stop ≡ w.stop
     pub counted : w.resting + in_rest x.stage ≡ u.resting + in_rest v.stage
     pub heard : seats puts (set views id x) < u.waiting → IsHeard u.owes u.wakes (set views id x)
     pub few : u.wakes ≤ everyone
     pub enough : w.wakes ≡ everyone → u.wakes ≡ everyone
-    pub shut : v.stage ≡ Shutting → u.wakes ≡ everyone
-    pub knew : x.knows_shut ≡ true → w.stop ≢ 0
-    pub ended : x.stage ≡ Ended → (w.stop ≢ 0) × (u.waiting ≡ 0)
+    pub only : u.wakes ≡ everyone → w.wakes ≡ everyone
+    pub knows : v.knows_shut ≡ true → x.knows_shut ≡ true
+    pub knew : x.knows_shut ≡ true → IsShut w
+    pub ended : x.stage ≡ Ended → IsShut w × (u.waiting ≡ 0)
     pub late : v.is_late ≡ true → x.is_late ≡ true
-    pub closing : x.is_late ≡ true → w.stop ≢ 0
-    pub first : w.stop ≢ 0 → w.waiting ≡ 0 → (u.waiting ≡ 0) ⊎ (x.is_late ≡ true)
+    pub came : x.is_late ≡ true → IsShut w
+    pub first : IsShut w → w.waiting ≡ 0 → (u.waiting ≡ 0) ⊎ (x.is_late ≡ true)
 
   kept : (w u : BellWords) → IsKept w views → Turns w u → IsKept u (set views id x)
   kept w u k t =
-      let closed : w.stop ≢ 0 → u.stop ≢ 0 = λ n e. n (sym t.stop ∙ e) in
       let Late : BellSight → Type 0 = λ (y : BellSight). y.is_late ≡ true in
+      let Knows : BellSight → Type 0 = λ (y : BellSight). y.knows_shut ≡ true in
       record {
         heard = t.heard;
-        shut = λ n. ⊎_elim (λ e. inl (t.enough e))
-            (λ any. ⊎_elim (λ e. inl (t.shut e)) (λ h. inr h) (any_moved (λ (y : BellSight). y.stage ≡ Shutting) any))
-            (k.shut (λ e. n (t.stop ∙ e)));
+        shut = λ e. any_set Knows t.knows (k.shut (t.only e));
         ended = each_set
-            (λ (y : BellSight). y.stage ≡ Ended → (u.stop ≢ 0) × ((u.waiting ≡ 0) ⊎ Any Late (set views id x)))
-            (λ e. (closed (t.ended e).0, inl (t.ended e).1))
+            (λ (y : BellSight). y.stage ≡ Ended → IsShut u × ((u.waiting ≡ 0) ⊎ Any Late (set views id x)))
+            (λ e. (t.enough (t.ended e).0, inl (t.ended e).1))
             (λ j y is e.
             let old = k.ended j y is e in (
-              closed old.0,
+              t.enough old.0,
               ⊎_elim (λ zero_is. ⊎_elim (λ e. inl e) (λ l. inr (any_here Late l)) (t.first old.0 zero_is))
                   (λ any. inr (any_set Late t.late any)) old.1,
             ));
-        knew = each_set (λ (y : BellSight). y.knows_shut ≡ true → u.stop ≢ 0) (λ e. closed (t.knew e))
-            (λ j y is e. closed (k.knew j y is e));
-        late = each_set (λ (y : BellSight). y.is_late ≡ true → u.stop ≢ 0) (λ e. closed (t.closing e))
-            (λ j y is e. closed (k.late j y is e));
+        knew = each_set (λ (y : BellSight). y.knows_shut ≡ true → IsShut u) (λ e. t.enough (t.knew e))
+            (λ j y is e. t.enough (k.knew j y is e));
+        late = each_set (λ (y : BellSight). y.is_late ≡ true → IsShut u) (λ e. t.enough (t.came e))
+            (λ j y is e. t.enough (k.late j y is e));
         counted = (let turn = seats_set in_rest views id v x at in
             let before = k.counted in let now = t.counted in omega arith);
         few = t.few;
       }
 
-  -- the same where neither the rounds nor the stop word change and no worker ends
-  plain : (w u : BellWords) → IsKept w views → u.stop ≡ w.stop → u.waiting ≡ w.waiting
+  -- the same where the rounds do not change and no worker ends
+  plain : (w u : BellWords) → IsKept w views → u.waiting ≡ w.waiting
       → w.resting + in_rest x.stage ≡ u.resting + in_rest v.stage
       → (seats puts (set views id x) < u.waiting → IsHeard u.owes u.wakes (set views id x))
-      → u.wakes ≤ everyone → (w.wakes ≡ everyone → u.wakes ≡ everyone) → (v.stage ≡ Shutting → u.wakes ≡ everyone)
-      → (x.knows_shut ≡ true → w.stop ≢ 0) → x.stage ≢ Ended → x.is_late ≡ v.is_late → IsKept u (set views id x)
-  plain w u k stop waiting counted heard few enough shut knew lives late =
+      → u.wakes ≤ everyone → (w.wakes ≡ everyone → u.wakes ≡ everyone) → (u.wakes ≡ everyone → w.wakes ≡ everyone)
+      → (v.knows_shut ≡ true → x.knows_shut ≡ true) → (x.knows_shut ≡ true → IsShut w) → x.stage ≢ Ended
+      → x.is_late ≡ v.is_late → IsKept u (set views id x)
+  plain w u k waiting counted heard few enough only knows knew lives late =
       kept w u k (record {
-        stop = stop;
         counted = counted;
         heard = heard;
         few = few;
         enough = enough;
-        shut = shut;
+        only = only;
+        knows = knows;
         knew = knew;
         ended = λ e. absurd (lives e);
         late = λ e. late ∙ e;
-        closing = λ e. k.late id v at (sym late ∙ e);
+        came = λ e. k.late id v at (sym late ∙ e);
         first = λ n zero_is. inl (waiting ∙ zero_is);
       })
 
@@ -167,34 +166,31 @@ module _ (views : List BellSight) (x : BellSight) where
   heard_snoc owes wakes awake (wake_is_owed is) = wake_is_owed is
   heard_snoc owes wakes awake (call_is_owed any) = call_is_owed (any_snoc (λ (u : BellSight). u.owes_call ≡ true) any)
 
-  -- a seat comes that neither puts nor rests nor is late; the words for a wake that is owed and for the shut hall may
-  -- change
-  joined : (w : BellWords) (owes stop : ℕ) → IsKept w views → puts x.stage ≡ 0 → in_rest x.stage ≡ 0
-      → (IsHeard w.owes w.wakes views → IsHeard owes w.wakes (views ++ x ∷ []))
-      → (w.stop ≢ 0 → stop ≢ 0) → (stop ≢ 0 → (w.stop ≢ 0) ⊎ (x.stage ≡ Shutting))
-      → (x.knows_shut ≡ true → stop ≢ 0) → (x.stage ≢ Ended) → x.is_late ≡ false
+  -- a seat comes that neither puts nor rests nor is late; whether a wake is owed and how many are left may change
+  joined : (w : BellWords) (owes wakes : ℕ) → IsKept w views → puts x.stage ≡ 0 → in_rest x.stage ≡ 0
+      → (IsHeard w.owes w.wakes views → IsHeard owes wakes (views ++ x ∷ []))
+      → wakes ≤ everyone → (IsShut w → wakes ≡ everyone) → (wakes ≡ everyone → IsShut w ⊎ (x.knows_shut ≡ true))
+      → (x.knows_shut ≡ true → wakes ≡ everyone) → (x.stage ≢ Ended) → x.is_late ≡ false
       → IsKept
-      (record { waiting = w.waiting; owes = owes; stop = stop; resting = w.resting; wakes = w.wakes }) (views ++ x ∷ [])
-  joined w owes stop k zero_is up heard stays closes knows lives early =
+      (record { waiting = w.waiting; owes = owes; resting = w.resting; wakes = wakes }) (views ++ x ∷ [])
+  joined w owes wakes k zero_is up heard few stays only knows lives early =
       let Late : BellSight → Type 0 = λ (y : BellSight). y.is_late ≡ true in
-      let Shuts : BellSight → Type 0 = λ (y : BellSight). y.stage ≡ Shutting in
+      let Knows : BellSight → Type 0 = λ (y : BellSight). y.knows_shut ≡ true in
       record {
         heard = λ more. heard (k.heard (subst (λ (n : ℕ). n < w.waiting) (seats_snoc puts zero_is) more));
-        shut = λ n. ⊎_elim
-            (λ m. ⊎_elim (λ e. inl e) (λ any. inr (any_snoc Shuts any)) (k.shut m))
-            (λ s. inr (any_last Shuts s)) (closes n);
+        shut = λ e. ⊎_elim (λ before. any_snoc Knows (k.shut before)) (λ now. any_last Knows now) (only e);
         ended = each_snoc
-            (λ (y : BellSight). y.stage ≡ Ended → (stop ≢ 0) × ((w.waiting ≡ 0) ⊎ Any Late (views ++ x ∷ [])))
+            (λ (y : BellSight). y.stage ≡ Ended → (wakes ≡ everyone) × ((w.waiting ≡ 0) ⊎ Any Late (views ++ x ∷ [])))
             (λ e. absurd (lives e))
             (λ j y is e.
             let old = k.ended j y is e in
             (stays old.0, ⊎_elim (λ zero_is. inl zero_is) (λ any. inr (any_snoc Late any)) old.1));
-        knew = each_snoc (λ (y : BellSight). y.knows_shut ≡ true → stop ≢ 0) knows
+        knew = each_snoc (λ (y : BellSight). y.knows_shut ≡ true → wakes ≡ everyone) knows
             (λ j y is e. stays (k.knew j y is e));
-        late = each_snoc (λ (y : BellSight). y.is_late ≡ true → stop ≢ 0)
+        late = each_snoc (λ (y : BellSight). y.is_late ≡ true → wakes ≡ everyone)
             (λ e. let no : false ≡ true = sym early ∙ e in cc) (λ j y is e. stays (k.late j y is e));
         counted = seats_snoc in_rest up ∙ k.counted;
-        few = k.few;
+        few = few;
       }
 
 -- A step at a word: what it owes is a step of the words that the rule names.
@@ -245,23 +241,16 @@ module _
       )
 
 abbrev with_waiting : ℕ → BellWords → BellWords
-with_waiting n w = record { waiting = n; owes = w.owes; stop = w.stop; resting = w.resting; wakes = w.wakes }
+with_waiting n w = record { waiting = n; owes = w.owes; resting = w.resting; wakes = w.wakes }
 
 abbrev with_owes : ℕ → BellWords → BellWords
-with_owes n w = record { waiting = w.waiting; owes = n; stop = w.stop; resting = w.resting; wakes = w.wakes }
-
-abbrev with_stop : ℕ → BellWords → BellWords
-with_stop n w = record { waiting = w.waiting; owes = w.owes; stop = n; resting = w.resting; wakes = w.wakes }
+with_owes n w = record { waiting = w.waiting; owes = n; resting = w.resting; wakes = w.wakes }
 
 abbrev with_resting : ℕ → BellWords → BellWords
-with_resting n w = record { waiting = w.waiting; owes = w.owes; stop = w.stop; resting = n; wakes = w.wakes }
+with_resting n w = record { waiting = w.waiting; owes = w.owes; resting = n; wakes = w.wakes }
 
 abbrev with_wakes : ℕ → BellWords → BellWords
-with_wakes n w = record { waiting = w.waiting; owes = w.owes; stop = w.stop; resting = w.resting; wakes = n }
-
-not_shutting : {G : Type 0} (v : BellSight) (stage : Stage) → stage ≢ Shutting → v.stage ≡ stage
-    → v.stage ≡ Shutting → G
-not_shutting v stage other is e = absurd (other (sym is ∙ e))
+with_wakes n w = record { waiting = w.waiting; owes = w.owes; resting = w.resting; wakes = n }
 
 same : (w : BellWords) (views : List BellSight) (id : ℕ) (v : BellSight) → IsKept w views → get_elem? views id ≡ some v
     → IsKept w (set views id v)
@@ -273,22 +262,22 @@ alone Is x p (suc j) v e = absurd (some-ne-none v (sym e))
 
 -- a bell that is new, with the seat of the thread that made it
 pub opens : KeepsRule (record {
-  words = laid (record { waiting = 0; owes = 0; stop = 0; resting = 0; wakes = 0 });
+  words = laid (record { waiting = 0; owes = 0; resting = 0; wakes = 0 });
   homes = [];
   views = newcomer ∷ [];
 })
 opens = (
-  record { waiting = 0; owes = 0; stop = 0; resting = 0; wakes = 0 },
+  record { waiting = 0; owes = 0; resting = 0; wakes = 0 },
   refl,
   record {
     heard = λ more. absurd (omega arith);
-    shut = λ n. absurd (n refl);
+    shut = λ e. absurd (omega (arith, e));
     ended = alone
         (λ (y : BellSight). y.stage ≡ Ended
-        → (0 ≢ 0) × ((0 ≡ 0) ⊎ Any (λ (u : BellSight). u.is_late ≡ true) (newcomer ∷ [])))
+        → (0 ≡ everyone) × ((0 ≡ 0) ⊎ Any (λ (u : BellSight). u.is_late ≡ true) (newcomer ∷ [])))
         newcomer (λ (e : Awake ≡ Ended). cc);
-    knew = alone (λ (y : BellSight). y.knows_shut ≡ true → 0 ≢ 0) newcomer (λ (e : false ≡ true). cc);
-    late = alone (λ (y : BellSight). y.is_late ≡ true → 0 ≢ 0) newcomer (λ (e : false ≡ true). cc);
+    knew = alone (λ (y : BellSight). y.knows_shut ≡ true → 0 ≡ everyone) newcomer (λ (e : false ≡ true). cc);
+    late = alone (λ (y : BellSight). y.is_late ≡ true → 0 ≡ everyone) newcomer (λ (e : false ≡ true). cc);
     counted = refl;
     few = omega arith;
   },
@@ -302,9 +291,9 @@ comes_in slots s k _ _ =
       (
         w,
         k.1,
-        joined s.views newcomer w w.owes w.stop k.2 refl refl
+        joined s.views newcomer w w.owes w.wakes k.2 refl refl
             (λ h. heard_snoc s.views newcomer w.owes w.wakes refl h)
-            (λ n. n) (λ n. inl n) (λ (e : false ≡ true). cc) (λ (e : Awake ≡ Ended). cc) refl,
+            k.2.few (λ e. e) (λ e. inl e) (λ (e : false ≡ true). cc) (λ (e : Awake ≡ Ended). cc) refl,
       ),
       refl,
     )
@@ -316,64 +305,63 @@ rings_in slots =
     dite (ℕ_discrete w.owes 0)
     (λ zero_is. (
       newcomer,
-      joined views newcomer w 0 w.stop k refl refl
+      joined views newcomer w 0 w.wakes k refl refl
           (λ h. subst (λ (o : ℕ). IsHeard o w.wakes (views ++ newcomer ∷ [])) zero_is
           (heard_snoc views newcomer w.owes w.wakes refl h))
-          (λ n. n) (λ n. inl n) (λ (e : false ≡ true). cc) (λ (e : Awake ≡ Ended). cc) refl,
+          k.few (λ e. e) (λ e. inl e) (λ (e : false ≡ true). cc) (λ (e : Awake ≡ Ended). cc) refl,
       ((λ _. refl), λ n. absurd (n zero_is)),
     ))
     (λ owed. (
       owing Awake newcomer,
-      joined views (owing Awake newcomer) w 0 w.stop k refl refl
+      joined views (owing Awake newcomer) w 0 w.wakes k refl refl
           (λ h. call_is_owed
           (any_last views (owing Awake newcomer) (λ (u : BellSight). u.owes_call ≡ true) refl))
-          (λ n. n) (λ n. inl n) (λ (e : false ≡ true). cc) (λ (e : Awake ≡ Ended). cc) refl,
+          k.few (λ e. e) (λ e. inl e) (λ (e : false ≡ true). cc) (λ (e : Awake ≡ Ended). cc) refl,
       ((λ e. absurd (owed e)), λ _. refl),
     )))
 
-pub shuts_in : (slots : ℕ) → Arrives KeepsRule slots 16 (λ _. 1) (shuts (step slots 16 1 0 none) (newcomer, []))
+pub shuts_in : (slots : ℕ)
+    → Arrives KeepsRule slots 24 (λ _. 65536) (shuts (step slots 24 65536 0 none) (newcomer, []))
 shuts_in slots =
-    let x = at_stage Shutting newcomer in
-    entering 16 (λ w. w.stop) with_stop (λ w. refl) (λ n w. refl) slots 1
-    (shuts (step slots 16 1 0 none) (newcomer, []))
+    let x = knowing newcomer in
+    entering 24 (λ w. w.wakes) with_wakes (λ w. refl) (λ n w. refl) slots 65536
+    (shuts (step slots 24 65536 0 none) (newcomer, []))
     (λ w views k. (
       x,
-      joined views x w w.owes 1 k refl refl (λ h. heard_snoc views x w.owes w.wakes refl h)
-          (λ n e. absurd (omega (arith, e))) (λ n. inr refl) (λ (e : false ≡ true). cc) (λ (e : Shutting ≡ Ended). cc)
-          refl,
+      joined views x w w.owes 65536 k refl refl (λ _. wake_comes (λ e. absurd (omega (arith, e))))
+          (omega arith) (λ _. refl) (λ _. inr refl) (λ _. refl) (λ (e : Awake ≡ Ended). cc) refl,
       refl,
     ))
 
--- a seat that stands at a stage, which is not that of a caller that shuts the hall
+-- a seat that stands at a stage
 module _ (w : BellWords) (views : List BellSight) (id : ℕ) (v : BellSight) (k : IsKept w views)
     (at : get_elem? views id ≡ some v) where
   -- where no round waits, any view keeps the rule that has announced a rest or not as before, and knows no more
-  quiet : (x : BellSight) → w.waiting ≡ 0 → in_rest x.stage ≡ in_rest v.stage → v.stage ≢ Shutting
-      → (x.knows_shut ≡ true → v.knows_shut ≡ true) → (x.stage ≡ Ended → v.knows_shut ≡ true)
-      → x.is_late ≡ v.is_late → IsKept w (set views id x)
-  quiet x zero_is up calm knows ends_so late =
+  quiet : (x : BellSight) → w.waiting ≡ 0 → in_rest x.stage ≡ in_rest v.stage → x.knows_shut ≡ v.knows_shut
+      → (x.stage ≡ Ended → v.knows_shut ≡ true) → x.is_late ≡ v.is_late → IsKept w (set views id x)
+  quiet x zero_is up knows ends_so late =
       kept views id v x at w w k (record {
-        stop = refl;
         counted = omega arith;
         heard = λ more. absurd (omega (arith, more, zero_is));
         few = k.few;
         enough = λ e. e;
-        shut = λ e. absurd (calm e);
-        knew = λ e. k.knew id v at (knows e);
+        only = λ e. e;
+        knows = λ e. knows ∙ e;
+        knew = λ e. k.knew id v at (sym knows ∙ e);
         ended = λ e. (k.knew id v at (ends_so e), zero_is);
         late = λ e. late ∙ e;
-        closing = λ e. k.late id v at (sym late ∙ e);
+        came = λ e. k.late id v at (sym late ∙ e);
         first = λ n e. inl e;
       })
 
   -- a call is no longer owed, or is owed from now on, by a seat that does not rest
-  turns : (x : BellSight) (u : BellWords) → u.stop ≡ w.stop → u.waiting ≡ w.waiting → u.resting ≡ w.resting
+  turns : (x : BellSight) (u : BellWords) → u.waiting ≡ w.waiting → u.resting ≡ w.resting
       → in_rest v.stage ≡ 0 → in_rest x.stage ≡ 0 → x.stage ≢ Ended → x.knows_shut ≡ v.knows_shut
       → x.is_late ≡ v.is_late → u.wakes ≤ everyone → (w.wakes ≡ everyone → u.wakes ≡ everyone)
-      → (v.stage ≡ Shutting → u.wakes ≡ everyone)
+      → (u.wakes ≡ everyone → w.wakes ≡ everyone)
       → IsHeard u.owes u.wakes (set views id x) → IsKept u (set views id x)
-  turns x u stop waiting resting up down lives knew late few enough shut heard =
-      plain views id v x at w u k stop waiting (omega arith) (λ _. heard) few enough shut
+  turns x u waiting resting up down lives knew late few enough only heard =
+      plain views id v x at w u k waiting (omega arith) (λ _. heard) few enough only (λ e. knew ∙ e)
       (λ e. k.knew id v at (sym knew ∙ e)) lives late
 
   none_left : (x : BellSight) → w.resting ≡ 0 → rests x.stage ≡ 0 → seats rests (set views id x) ≡ 0
@@ -382,45 +370,44 @@ module _ (w : BellWords) (views : List BellSight) (id : ℕ) (v : BellSight) (k 
       let less = seats_less in_rest rests resting_less views in
       let all = k.counted in omega arith
 
-  rest_seen : in_rest v.stage ≡ 0 → v.stage ≢ Shutting
+  rest_seen : in_rest v.stage ≡ 0
       → (x : BellSight) × IsKept w (set views id x)
       × Found w.resting 0 (x ≡ free Awake v) (x ≡ owing Awake v)
-  rest_seen up calm =
+  rest_seen up =
       dite (ℕ_discrete w.resting 0)
       (λ zero_is. (
         free Awake v,
-        turns (free Awake v) w refl refl refl up refl (λ (e : Awake ≡ Ended). cc) refl refl k.few (λ e. e)
-            (λ e. absurd (calm e)) (none_rests (none_left (free Awake v) zero_is refl)),
+        turns (free Awake v) w refl refl up refl (λ (e : Awake ≡ Ended). cc) refl refl k.few (λ e. e) (λ e. e)
+            (none_rests (none_left (free Awake v) zero_is refl)),
         ((λ _. refl), λ n. absurd (n zero_is)),
       ))
       (λ more. (
         owing Awake v,
-        turns (owing Awake v) w refl refl refl up refl (λ (e : Awake ≡ Ended). cc) refl refl k.few (λ e. e)
-            (λ e. absurd (calm e))
+        turns (owing Awake v) w refl refl up refl (λ (e : Awake ≡ Ended). cc) refl refl k.few (λ e. e) (λ e. e)
             (call_is_owed (any_here views id v (owing Awake v) at (λ (u : BellSight). u.owes_call ≡ true) refl)),
         ((λ e. absurd (more e)), λ _. refl),
       ))
 
-  counted_late : (late : Bool) → v.stage ≡ Awake → (v.is_late ≡ true → late ≡ true) → (w.stop ≢ 0 → late ≡ true)
-      → (late ≡ true → w.stop ≢ 0) → IsKept (with_waiting ((w.waiting + 1) % 2 ^ 64) w)
+  counted_late : (late : Bool) → v.stage ≡ Awake → (v.is_late ≡ true → late ≡ true) → (IsShut w → late ≡ true)
+      → (late ≡ true → IsShut w) → IsKept (with_waiting ((w.waiting + 1) % 2 ^ 64) w)
       (set views id (sight Putting v.owes_call v.knows_shut late))
-  counted_late late is keep closed closing =
+  counted_late late is keep closed came =
       let x = sight Putting v.owes_call v.knows_shut late in
       let u = with_waiting ((w.waiting + 1) % 2 ^ 64) w in
       let up : in_rest v.stage ≡ 0 = ap in_rest is in
       let off : puts v.stage ≡ 0 = ap puts is in
       let turn = seats_set puts views id v x at in
       kept views id v x at w u k (record {
-        stop = refl;
         counted = omega arith;
         heard = λ more. heard_set views id v x at w.owes w.wakes (omega arith) (λ o. o) (k.heard (omega (arith, more)));
         few = k.few;
         enough = λ e. e;
-        shut = not_shutting v Awake (λ (e : Awake ≡ Shutting). cc) is;
+        only = λ e. e;
+        knows = λ e. e;
         knew = λ e. k.knew id v at e;
         ended = λ (e : Putting ≡ Ended). cc;
         late = keep;
-        closing = closing;
+        came = came;
         first = λ n e. inr (closed n);
       })
 
@@ -428,36 +415,36 @@ module _ (w : BellWords) (views : List BellSight) (id : ℕ) (v : BellSight) (k 
       → (x : BellSight) × IsKept (with_waiting ((w.waiting + 1) % 2 ^ 64) w) (set views id x)
       × (x ≡ sight Putting v.owes_call v.knows_shut x.is_late)
   counts is =
-      dite (ℕ_discrete w.stop 0)
-      (λ open_is. (
-        sight Putting v.owes_call v.knows_shut v.is_late,
-        counted_late v.is_late is (λ e. e) (λ n. absurd (n open_is)) (λ e. k.late id v at e),
-        refl,
-      ))
+      dite (ℕ_discrete w.wakes everyone)
       (λ closed. (
         sight Putting v.owes_call v.knows_shut true,
         counted_late true is (λ _. refl) (λ _. refl) (λ _. closed),
         refl,
       ))
+      (λ open_is. (
+        sight Putting v.owes_call v.knows_shut v.is_late,
+        counted_late v.is_late is (λ e. e) (λ e. absurd (open_is e)) (λ e. k.late id v at e),
+        refl,
+      ))
 
   none_was_counted : (late : Bool) → v.stage ≡ Awake → (v.is_late ≡ true → late ≡ true)
-      → (w.stop ≢ 0 → late ≡ true) → (late ≡ true → w.stop ≢ 0)
+      → (IsShut w → late ≡ true) → (late ≡ true → IsShut w)
       → IsKept (with_waiting ((w.waiting + (2 ^ 64 - 1)) % 2 ^ 64) w)
       (set views id (sight Awake true v.knows_shut late))
-  none_was_counted late is keep closed closing =
+  none_was_counted late is keep closed came =
       let x = sight Awake true v.knows_shut late in
       let up : in_rest v.stage ≡ 0 = ap in_rest is in
       kept views id v x at w (with_waiting ((w.waiting + (2 ^ 64 - 1)) % 2 ^ 64) w) k (record {
-        stop = refl;
         counted = omega arith;
         heard = λ _. call_is_owed (any_here views id v x at (λ (y : BellSight). y.owes_call ≡ true) refl);
         few = k.few;
         enough = λ e. e;
-        shut = not_shutting v Awake (λ (e : Awake ≡ Shutting). cc) is;
+        only = λ e. e;
+        knows = λ e. e;
         knew = λ e. k.knew id v at e;
         ended = λ (e : Awake ≡ Ended). cc;
         late = keep;
-        closing = closing;
+        came = came;
         first = λ n e. inr (closed n);
       })
 
@@ -466,7 +453,6 @@ module _ (w : BellWords) (views : List BellSight) (id : ℕ) (v : BellSight) (k 
   one_was_counted is small more =
       let n : ℕ = w.waiting in
       kept views id v v at w (with_waiting ((w.waiting + (2 ^ 64 - 1)) % 2 ^ 64) w) k (record {
-        stop = refl;
         counted = refl;
         heard = λ less.
             let turn = seats_set puts views id v v at in
@@ -474,11 +460,12 @@ module _ (w : BellWords) (views : List BellSight) (id : ℕ) (v : BellSight) (k 
             heard_set views id v v at w.owes w.wakes (omega arith) (λ o. o) (k.heard (omega (arith, less)));
         few = k.few;
         enough = λ e. e;
-        shut = not_shutting v Awake (λ (e : Awake ≡ Shutting). cc) is;
+        only = λ e. e;
+        knows = λ e. e;
         knew = λ e. k.knew id v at e;
         ended = λ e. let no : Awake ≡ Ended = sym is ∙ e in cc;
         late = λ e. e;
-        closing = λ e. k.late id v at e;
+        came = λ e. k.late id v at e;
         first = λ _ zero_is. absurd (more zero_is);
       })
 
@@ -488,38 +475,36 @@ module _ (w : BellWords) (views : List BellSight) (id : ℕ) (v : BellSight) (k 
   taken is small =
       dite (ℕ_discrete w.waiting 0)
       (λ zero_is.
-      dite (ℕ_discrete w.stop 0)
-      (λ open_is. (
-        sight Awake true v.knows_shut v.is_late,
-        none_was_counted v.is_late is (λ e. e) (λ n. absurd (n open_is)) (λ e. k.late id v at e),
-        ((λ _. refl), λ m. absurd (m zero_is)),
-      ))
+      dite (ℕ_discrete w.wakes everyone)
       (λ closed. (
         sight Awake true v.knows_shut true,
         none_was_counted true is (λ _. refl) (λ _. refl) (λ _. closed),
         ((λ _. refl), λ m. absurd (m zero_is)),
+      ))
+      (λ open_is. (
+        sight Awake true v.knows_shut v.is_late,
+        none_was_counted v.is_late is (λ e. e) (λ e. absurd (open_is e)) (λ e. k.late id v at e),
+        ((λ _. refl), λ m. absurd (m zero_is)),
       )))
       (λ more. (v, one_was_counted is small more, ((λ e. absurd (more e)), λ _. refl)))
 
-  stop_seen : v.stage ≡ Awake
-      → (x : BellSight) × IsKept w (set views id x)
-      × Found w.stop 0 (x ≡ v) (x ≡ sight Awake v.owes_call true v.is_late)
-  stop_seen is =
+  shut_seen : v.stage ≡ Awake
+      → (x : BellSight) × IsKept w (set views id x) × Found w.wakes everyone (x ≡ knowing v) (x ≡ v)
+  shut_seen is =
       let up : in_rest v.stage ≡ 0 = ap in_rest is in
       let off : puts v.stage ≡ 0 = ap puts is in
-      dite (ℕ_discrete w.stop 0)
-      (λ zero_is. (v, same w views id v k at, ((λ _. refl), λ n. absurd (n zero_is))))
+      dite (ℕ_discrete w.wakes everyone)
       (λ closed.
-      let x = sight Awake v.owes_call true v.is_late in
+      let x = knowing v in
       let turn = seats_set puts views id v x at in (
         x,
-        plain views id v x at w w k refl refl (omega arith)
+        plain views id v x at w w k refl (omega arith)
             (λ more. heard_set views id v x at w.owes w.wakes (omega arith) (λ o. o)
             (k.heard (omega (arith, more))))
-            k.few (λ e. e) (not_shutting v Awake (λ (e : Awake ≡ Shutting). cc) is) (λ _. closed)
-            (λ (e : Awake ≡ Ended). cc) refl,
-        ((λ e. absurd (closed e)), λ _. refl),
+            k.few (λ e. e) (λ e. e) (λ _. refl) (λ _. closed) (λ (e : Awake ≡ Ended). cc) refl,
+        ((λ _. refl), λ n. absurd (n closed)),
       ))
+      (λ open_is. (v, same w views id v k at, ((λ e. absurd (open_is e)), λ _. refl)))
 
   announced_in : (new : ℕ) → v.stage ≡ Awake → new ≡ w.resting + 1
       → IsKept (with_resting new w) (set views id (at_stage Announced v))
@@ -528,10 +513,9 @@ module _ (w : BellWords) (views : List BellSight) (id : ℕ) (v : BellSight) (k 
       let up : in_rest v.stage ≡ 0 = ap in_rest is in
       let off : puts v.stage ≡ 0 = ap puts is in
       let turn = seats_set puts views id v x at in
-      plain views id v x at w (with_resting new w) k refl refl (omega arith)
+      plain views id v x at w (with_resting new w) k refl (omega arith)
       (λ more. heard_set views id v x at w.owes w.wakes (omega arith) (λ o. o) (k.heard (omega (arith, more))))
-      k.few (λ e. e) (not_shutting v Awake (λ (e : Awake ≡ Shutting). cc) is) (λ e. k.knew id v at e)
-      (λ (e : Announced ≡ Ended). cc) refl
+      k.few (λ e. e) (λ e. e) (λ e. e) (λ e. k.knew id v at e) (λ (e : Announced ≡ Ended). cc) refl
 
   rest_ended : v.stage ≡ Announced → w.resting < 18446744073709551616
       → IsKept (with_resting ((w.resting + (2 ^ 64 - 1)) % 2 ^ 64) w) (set views id (at_stage Awake v))
@@ -545,35 +529,33 @@ module _ (w : BellWords) (views : List BellSight) (id : ℕ) (v : BellSight) (k 
       let all = k.counted in
       let some_rest : 1 ≤ n = omega (arith, one, all, up) in
       let fewer : (n + 18446744073709551615) % 18446744073709551616 ≡ n - 1 = omega (arith, some_rest, small) in
-      plain views id v x at w (with_resting ((w.resting + (2 ^ 64 - 1)) % 2 ^ 64) w) k refl refl
+      plain views id v x at w (with_resting ((w.resting + (2 ^ 64 - 1)) % 2 ^ 64) w) k refl
       (omega (arith, fewer, some_rest, up))
       (λ more. heard_set views id v x at w.owes w.wakes (omega arith) (λ o. o) (k.heard (omega (arith, more))))
-      k.few (λ e. e) (not_shutting v Announced (λ (e : Announced ≡ Shutting). cc) is) (λ e. k.knew id v at e)
-      (λ (e : Awake ≡ Ended). cc) refl
+      k.few (λ e. e) (λ e. e) (λ e. e) (λ e. k.knew id v at e) (λ (e : Awake ≡ Ended). cc) refl
 
   woken : (left : ℕ) → v.stage ≡ Resting → left ≤ everyone → (w.wakes ≡ everyone → left ≡ everyone)
-      → IsKept (with_wakes left w) (set views id (owing Announced v))
-  woken left is few enough =
+      → (left ≡ everyone → w.wakes ≡ everyone) → IsKept (with_wakes left w) (set views id (owing Announced v))
+  woken left is few enough only =
       let x = owing Announced v in
       let up : in_rest v.stage ≡ 1 = ap in_rest is in
-      plain views id v x at w (with_wakes left w) k refl refl (omega arith)
+      plain views id v x at w (with_wakes left w) k refl (omega arith)
       (λ _. call_is_owed (any_here views id v x at (λ (y : BellSight). y.owes_call ≡ true) refl))
-      few enough (not_shutting v Resting (λ (e : Resting ≡ Shutting). cc) is) (λ e. k.knew id v at e)
-      (λ (e : Announced ≡ Ended). cc) refl
+      few enough only (λ e. e) (λ e. k.knew id v at e) (λ (e : Announced ≡ Ended). cc) refl
 
 -- what a look at whether a round waits makes of a seat
-looked : (slots id : ℕ) (me : Hand) (x : BellSight) → in_rest x.stage ≡ in_rest me.0.stage → me.0.stage ≢ Shutting
-    → (x.knows_shut ≡ true → me.0.knows_shut ≡ true) → (x.stage ≡ Ended → me.0.knows_shut ≡ true)
+looked : (slots id : ℕ) (me : Hand) (x : BellSight) → in_rest x.stage ≡ in_rest me.0.stage
+    → x.knows_shut ≡ me.0.knows_shut → (x.stage ≡ Ended → me.0.knows_shut ≡ true)
     → x.is_late ≡ me.0.is_late
     → Allows KeepsRule slots id me 0 (λ n. n) (λ n after. Found n 0 (after.0 ≡ x) (after.0 ≡ me.0))
-looked slots id me x up calm knows ends_so late =
+looked slots id me x up knows ends_so late =
     stepping 0 (λ w. w.waiting) with_waiting (λ w. refl) (λ n w. refl) slots id me (λ n. n)
     (λ n after. Found n 0 (after.0 ≡ x) (after.0 ≡ me.0))
     (λ w views k at _.
     dite (ℕ_discrete w.waiting 0)
     (λ zero_is. (
       x,
-      quiet w views id me.0 k at x zero_is up calm knows ends_so late,
+      quiet w views id me.0 k at x zero_is up knows ends_so late,
       ((λ _. refl), λ n. absurd (n zero_is)),
     ))
     (λ more. (me.0, same w views id me.0 k at, ((λ e. absurd (more e)), λ _. refl))))
@@ -581,21 +563,17 @@ looked slots id me x up calm knows ends_so late =
 pub looks_for_round_in : (slots id : ℕ) (me : Hand) → me.0.stage ≡ Awake
     → Allows KeepsRule slots id me 0 (λ n. n) (looks_for_round (step slots 0 0 0 none) me)
 looks_for_round_in slots id me is =
-    looked slots id me (free Awake me.0) (sym (ap in_rest is))
-    (not_shutting me.0 Awake (λ (e : Awake ≡ Shutting). cc) is) (λ e. e) (λ (e : Awake ≡ Ended). cc) refl
+    looked slots id me (free Awake me.0) (sym (ap in_rest is)) refl (λ (e : Awake ≡ Ended). cc) refl
 
 pub lies_down_in : (slots id : ℕ) (me : Hand) → me.0.stage ≡ Announced
     → Allows KeepsRule slots id me 0 (λ n. n) (lies_down (step slots 0 0 0 none) me)
 lies_down_in slots id me is =
-    looked slots id me (free Resting me.0) (sym (ap in_rest is))
-    (not_shutting me.0 Announced (λ (e : Announced ≡ Shutting). cc) is)
-    (λ e. e) (λ (e : Resting ≡ Ended). cc) refl
+    looked slots id me (free Resting me.0) (sym (ap in_rest is)) refl (λ (e : Resting ≡ Ended). cc) refl
 
 pub ends_in : (slots id : ℕ) (me : Hand) → me.0.stage ≡ Awake → me.0.knows_shut ≡ true
     → Allows KeepsRule slots id me 0 (λ n. n) (ends (step slots 0 0 0 none) me)
 ends_in slots id me is knows =
-    looked slots id me (free Ended me.0) (sym (ap in_rest is))
-    (not_shutting me.0 Awake (λ (e : Awake ≡ Shutting). cc) is) (λ e. e) (λ _. knows) refl
+    looked slots id me (free Ended me.0) (sym (ap in_rest is)) refl (λ _. knows) refl
 
 pub expects_in : (slots id : ℕ) (me : Hand) → me.0.stage ≡ Awake
     → Allows KeepsRule slots id me 0 (λ n. (n + 1) % 2 ^ 64) (expects (step slots 0 1 0 none) me)
@@ -610,20 +588,18 @@ takes_in slots id me is =
     (takes (step slots 0 1 0 none) me) (λ w views k at small. taken w views id me.0 k at is small)
 
 pub looks_for_rest_in : (slots id : ℕ) (me : Hand) → (me.0.stage ≡ Awake) ⊎ (me.0.stage ≡ Putting)
-    → Allows KeepsRule slots id me 24 (λ n. n) (looks_for_rest (step slots 24 0 0 none) me)
+    → Allows KeepsRule slots id me 16 (λ n. n) (looks_for_rest (step slots 16 0 0 none) me)
 looks_for_rest_in slots id me is =
-    stepping 24 (λ w. w.resting) with_resting (λ w. refl) (λ n w. refl) slots id me (λ n. n)
-    (looks_for_rest (step slots 24 0 0 none) me)
+    stepping 16 (λ w. w.resting) with_resting (λ w. refl) (λ n w. refl) slots id me (λ n. n)
+    (looks_for_rest (step slots 16 0 0 none) me)
     (λ w views k at _.
-    rest_seen w views id me.0 k at (⊎_elim (ap in_rest) (ap in_rest) is)
-    (⊎_elim (not_shutting me.0 Awake (λ (e : Awake ≡ Shutting). cc))
-    (not_shutting me.0 Putting (λ (e : Putting ≡ Shutting). cc)) is))
+    rest_seen w views id me.0 k at (⊎_elim (ap in_rest) (ap in_rest) is))
 
-pub reads_stop_in : (slots id : ℕ) (me : Hand) → me.0.stage ≡ Awake
-    → Allows KeepsRule slots id me 16 (λ n. n) (reads_stop (step slots 16 0 0 none) me)
-reads_stop_in slots id me is =
-    stepping 16 (λ w. w.stop) with_stop (λ w. refl) (λ n w. refl) slots id me (λ n. n)
-    (reads_stop (step slots 16 0 0 none) me) (λ w views k at _. stop_seen w views id me.0 k at is)
+pub learns_shut_in : (slots id : ℕ) (me : Hand) → me.0.stage ≡ Awake
+    → Allows KeepsRule slots id me 24 (λ n. n) (learns_shut (step slots 24 0 0 none) me)
+learns_shut_in slots id me is =
+    stepping 24 (λ w. w.wakes) with_wakes (λ w. refl) (λ n w. refl) slots id me (λ n. n)
+    (learns_shut (step slots 24 0 0 none) me) (λ w views k at _. shut_seen w views id me.0 k at is)
 
 pub owes_in : (slots id : ℕ) (me : Hand) → me.0.stage ≡ Awake
     → Allows KeepsRule slots id me 8 (λ _. 1) (λ _. discharges (step slots 8 1 0 none) me 1)
@@ -632,53 +608,39 @@ owes_in slots id me is =
     (λ _. discharges (step slots 8 1 0 none) me 1)
     (λ w views k at _. (
       free Awake me.0,
-      turns w views id me.0 k at (free Awake me.0) (with_owes 1 w) refl refl refl (ap in_rest is) refl
-          (λ (e : Awake ≡ Ended). cc) refl refl k.few (λ e. e)
-          (not_shutting me.0 Awake (λ (e : Awake ≡ Shutting). cc) is)
+      turns w views id me.0 k at (free Awake me.0) (with_owes 1 w) refl refl (ap in_rest is) refl
+          (λ (e : Awake ≡ Ended). cc) refl refl k.few (λ e. e) (λ e. e)
           (wake_is_owed (λ e. absurd (omega (arith, e)))),
       refl,
     ))
 
-pub calls_in : (slots id : ℕ) (me : Hand) (wakes : ℕ) → me.0.stage ≡ Awake → 1 ≤ wakes → wakes ≤ everyone
-    → Allows KeepsRule slots id me 32 (λ n. max n wakes) (discharges (step slots 32 wakes 0 none) me)
+pub calls_in : (slots id : ℕ) (me : Hand) (wakes : ℕ) → me.0.stage ≡ Awake → 1 ≤ wakes → wakes < everyone
+    → Allows KeepsRule slots id me 24 (λ n. max n wakes) (discharges (step slots 24 wakes 0 none) me)
 calls_in slots id me wakes is some_are few =
-    stepping 32 (λ w. w.wakes) with_wakes (λ w. refl) (λ n w. refl) slots id me (λ n. max n wakes)
-    (discharges (step slots 32 wakes 0 none) me)
+    stepping 24 (λ w. w.wakes) with_wakes (λ w. refl) (λ n w. refl) slots id me (λ n. max n wakes)
+    (discharges (step slots 24 wakes 0 none) me)
     (λ w views k at _.
     let before = k.few in (
       free Awake me.0,
-      turns w views id me.0 k at (free Awake me.0) (with_wakes (max w.wakes wakes) w) refl refl refl (ap in_rest is)
+      turns w views id me.0 k at (free Awake me.0) (with_wakes (max w.wakes wakes) w) refl refl (ap in_rest is)
           refl (λ (e : Awake ≡ Ended). cc) refl refl (omega arith) (λ e. omega (arith, e))
-          (not_shutting me.0 Awake (λ (e : Awake ≡ Shutting). cc) is)
-          (wake_comes (λ e. absurd (omega (arith, e)))),
-      refl,
-    ))
-
-pub calls_all_in : (slots id : ℕ) (me : Hand) → me.0.stage ≡ Shutting
-    → Allows KeepsRule slots id me 32 (λ _. 65536) (λ _. discharges (step slots 32 65536 0 none) me 65536)
-calls_all_in slots id me is =
-    stepping 32 (λ w. w.wakes) with_wakes (λ w. refl) (λ n w. refl) slots id me (λ _. 65536)
-    (λ _. discharges (step slots 32 65536 0 none) me 65536)
-    (λ w views k at _. (
-      free Awake me.0,
-      turns w views id me.0 k at (free Awake me.0) (with_wakes 65536 w) refl refl refl (ap in_rest is) refl
-          (λ (e : Awake ≡ Ended). cc) refl refl (omega arith) (λ _. refl) (λ _. refl)
+          (λ e. omega (arith, e, few))
           (wake_comes (λ e. absurd (omega (arith, e)))),
       refl,
     ))
 
 pub ends_rest_in : (slots id : ℕ) (me : Hand) → me.0.stage ≡ Announced
-    → Allows KeepsRule slots id me 24 (λ n. (n + (2 ^ 64 - 1)) % 2 ^ 64) (ends_rest (step slots 24 1 0 none) me)
+    → Allows KeepsRule slots id me 16 (λ n. (n + (2 ^ 64 - 1)) % 2 ^ 64) (ends_rest (step slots 16 1 0 none) me)
 ends_rest_in slots id me is =
-    stepping 24 (λ w. w.resting) with_resting (λ w. refl) (λ n w. refl) slots id me (λ n. (n + (2 ^ 64 - 1)) % 2 ^ 64)
-    (ends_rest (step slots 24 1 0 none) me)
+    stepping 16 (λ w. w.resting) with_resting (λ w. refl) (λ n w. refl) slots id me (λ n. (n + (2 ^ 64 - 1)) % 2 ^ 64)
+    (ends_rest (step slots 16 1 0 none) me)
     (λ w views k at small. (at_stage Awake me.0, rest_ended w views id me.0 k at is small, refl))
 
 pub announces_in : (slots id : ℕ) (me : Hand) (old new : ℕ) → me.0.stage ≡ Awake → new ≡ old + 1
-    → Allows KeepsRule slots id me 24 (λ n. either (eqb n old) new n) (announces (step slots 24 old new none) me)
+    → Allows KeepsRule slots id me 16 (λ n. either (eqb n old) new n) (announces (step slots 16 old new none) me)
 announces_in slots id me old new is next =
-    stepping 24 (λ w. w.resting) with_resting (λ w. refl) (λ n w. refl) slots id me (λ n. either (eqb n old) new n)
-    (announces (step slots 24 old new none) me)
+    stepping 16 (λ w. w.resting) with_resting (λ w. refl) (λ n w. refl) slots id me (λ n. either (eqb n old) new n)
+    (announces (step slots 16 old new none) me)
     (λ w views k at _.
     dite (ℕ_discrete w.resting old)
     (λ hit. (
@@ -696,11 +658,11 @@ announces_in slots id me old new is next =
     )))
 
 pub wakes_up_in : (slots id : ℕ) (me : Hand) (old left : ℕ) → me.0.stage ≡ Resting
-    → (old ≤ everyone → left ≤ everyone) → (old ≡ everyone → left ≡ everyone)
-    → Allows KeepsRule slots id me 32 (λ n. either (eqb n old) left n) (wakes_up (step slots 32 old left none) me)
-wakes_up_in slots id me old left is few enough =
-    stepping 32 (λ w. w.wakes) with_wakes (λ w. refl) (λ n w. refl) slots id me (λ n. either (eqb n old) left n)
-    (wakes_up (step slots 32 old left none) me)
+    → (old ≤ everyone → left ≤ everyone) → (old ≡ everyone → left ≡ everyone) → (left ≡ everyone → old ≡ everyone)
+    → Allows KeepsRule slots id me 24 (λ n. either (eqb n old) left n) (wakes_up (step slots 24 old left none) me)
+wakes_up_in slots id me old left is few enough only =
+    stepping 24 (λ w. w.wakes) with_wakes (λ w. refl) (λ n w. refl) slots id me (λ n. either (eqb n old) left n)
+    (wakes_up (step slots 24 old left none) me)
     (λ w views k at _.
     dite (ℕ_discrete w.wakes old)
     (λ hit. (
@@ -708,7 +670,7 @@ wakes_up_in slots id me old left is few enough =
       subst (λ (b : Bool). IsKept (with_wakes (either b left w.wakes) w) (set views id (owing Announced me.0)))
           (sym (eq-eqb w.wakes old hit))
           (woken w views id me.0 k at left is (few (subst (λ (n : ℕ). n ≤ everyone) hit k.few))
-          (λ e. enough (sym hit ∙ e))),
+          (λ e. enough (sym hit ∙ e)) (λ e. hit ∙ only e)),
       ((λ _. refl), λ n. absurd (n hit)),
     ))
     (λ miss. (

@@ -1,18 +1,17 @@
--- The rule of a hall's bell: no worker sleeps on while a round that was put waits, or once the hall is shut.
+-- The rule of a hall's bell: no worker sleeps on while a round that was put waits, or once the bell is shut.
 use Rattle.std.specs.Prelude.{◌≡◌, ◌≢◌, ◌⊎◌, ◌+◌, ◌<◌, ◌≤◌, ℕ, Bool, false, true, List, [], ◌∷◌}
 use mathlib.Core.Option.{some}
 use lib.ListN.{get_elem?}
 use Rattle.atomic_table.specs.Table.{State}
 use Rattle.firm_bell.specs.declared.rule.Stage.{Stage}
-use Rattle.firm_bell.specs.declared.rule.Stage.TheVariants.{Awake, Putting, Announced, Resting, Shutting, Ended}
+use Rattle.firm_bell.specs.declared.rule.Stage.TheVariants.{Awake, Putting, Announced, Resting, Ended}
 use Rattle.firm_bell.specs.declared.rule.BellSight.{BellSight}
 
--- The words: how many rounds wait or are being put; whether a wake is owed; whether the hall is shut; how many workers
--- have announced a rest; and how many wakes no worker has used yet.
+-- The words: how many rounds wait or are being put; whether a wake is owed; how many workers have announced a rest; and
+-- how many wakes no worker has used yet.
 pub record BellWords : Type 0 where
   pub waiting : ℕ
   pub owes : ℕ
-  pub stop : ℕ
   pub resting : ℕ
   pub wakes : ℕ
 
@@ -21,11 +20,15 @@ abbrev pub line : ℕ → List ℕ → List ℕ
 line word rest = word ∷ 0 ∷ 0 ∷ 0 ∷ 0 ∷ 0 ∷ 0 ∷ 0 ∷ rest
 
 abbrev pub laid : BellWords → List ℕ
-laid w = line w.waiting (line w.owes (line w.stop (line w.resting (line w.wakes []))))
+laid w = line w.waiting (line w.owes (line w.resting (line w.wakes [])))
 
 -- as many wakes as no use lowers
 abbrev pub everyone : ℕ
 everyone = 65536
+
+-- The bell is shut: it has wakes that no use lowers, so each rest ends.
+abbrev pub IsShut : BellWords → Type 0
+IsShut w = w.wakes ≡ everyone
 
 abbrev pub sight : Stage → Bool → Bool → Bool → BellSight
 sight stage owes_call knows_shut is_late =
@@ -41,7 +44,6 @@ puts Awake = 0
 puts Putting = 1
 puts Announced = 0
 puts Resting = 0
-puts Shutting = 0
 puts Ended = 0
 
 -- 1 at a worker that has announced a rest and not ended it, 0 at others
@@ -50,7 +52,6 @@ in_rest Awake = 0
 in_rest Putting = 0
 in_rest Announced = 1
 in_rest Resting = 1
-in_rest Shutting = 0
 in_rest Ended = 0
 
 -- 1 at a worker that sleeps until a wake, 0 at others
@@ -59,7 +60,6 @@ rests Awake = 0
 rests Putting = 0
 rests Announced = 0
 rests Resting = 1
-rests Shutting = 0
 rests Ended = 0
 
 -- how many seats there are of some stages
@@ -82,16 +82,16 @@ pub data IsHeard (owes wakes : ℕ) (views : List BellSight) : Type 0 where
   call_is_owed : Any (λ v. v.owes_call ≡ true) views → IsHeard owes wakes views
 
 -- If more rounds wait than are still being put, they are heard; a caller that puts one has still to look whether a
--- worker rests. In a shut hall each rest ends: there are wakes for all, or the caller that shut it has still to leave
--- them. A worker has ended only in a shut hall, when no round waited; and none waits now, unless a seat raised their
--- count once the hall was shut.
+-- worker rests. The bell is shut if and only if a seat knows so: the one that shut it, or one that learnt it. A worker
+-- has ended only once the bell was shut, when no round waited; and none waits now, unless a seat raised their count once
+-- the bell was shut.
 pub record IsKept (w : BellWords) (views : List BellSight) : Type 0 where
   pub heard : seats puts views < w.waiting → IsHeard w.owes w.wakes views
-  pub shut : w.stop ≢ 0 → (w.wakes ≡ everyone) ⊎ Any (λ v. v.stage ≡ Shutting) views
-  pub ended : Each (λ v. v.stage ≡ Ended → (w.stop ≢ 0)
+  pub shut : IsShut w → Any (λ v. v.knows_shut ≡ true) views
+  pub ended : Each (λ v. v.stage ≡ Ended → IsShut w
       × ((w.waiting ≡ 0) ⊎ Any (λ u. u.is_late ≡ true) views)) views
-  pub knew : Each (λ v. v.knows_shut ≡ true → w.stop ≢ 0) views
-  pub late : Each (λ v. v.is_late ≡ true → w.stop ≢ 0) views
+  pub knew : Each (λ v. v.knows_shut ≡ true → IsShut w) views
+  pub late : Each (λ v. v.is_late ≡ true → IsShut w) views
   pub counted : seats in_rest views ≡ w.resting
   pub few : w.wakes ≤ everyone
 

@@ -4,9 +4,9 @@ use Rattle.atomic_table.specs.Table.{Me, Step}
 use Rattle.atomic_table.specs.Seated.{TableId}
 use Rattle.atomic_table.specs.declared.shared.Seat.{Seat}
 use Rattle.firm_bell.specs.declared.rule.Stage.{Stage}
-use Rattle.firm_bell.specs.declared.rule.Stage.TheVariants.{Awake, Putting, Announced, Resting, Shutting, Ended}
+use Rattle.firm_bell.specs.declared.rule.Stage.TheVariants.{Awake, Putting, Announced, Resting, Ended}
 use Rattle.firm_bell.specs.declared.rule.BellSight.{BellSight}
-use Rattle.firm_bell.specs.Bell.{newcomer, sight}
+use Rattle.firm_bell.specs.Bell.{everyone, newcomer, sight}
 
 abbrev pub Hand : Type 0
 Hand = Me (Unit {0}) BellSight
@@ -14,7 +14,7 @@ Hand = Me (Unit {0}) BellSight
 abbrev pub BellStep : Type 0
 BellStep = Step (Unit {0})
 
--- the seat at this stage; as it owes no call, and as it owes one
+-- the seat at this stage; as it owes no call, and as it owes one; and the seat as it knows that the bell is shut
 abbrev pub at_stage : Stage → BellSight → BellSight
 at_stage stage v = sight stage v.owes_call v.knows_shut v.is_late
 
@@ -23,6 +23,9 @@ free stage v = sight stage false v.knows_shut v.is_late
 
 abbrev pub owing : Stage → BellSight → BellSight
 owing stage v = sight stage true v.knows_shut v.is_late
+
+abbrev pub knowing : BellSight → BellSight
+knowing v = sight Awake v.owes_call true v.is_late
 
 -- one thing where the word was this number, another where not
 abbrev pub Found : ℕ → ℕ → Type 0 → Type 0 → Type 0
@@ -49,11 +52,10 @@ abbrev pub rings : BellStep → Hand → ℕ → Hand → Type 0
 rings step before word after = Found word 0 (after.0 ≡ newcomer) (after.0 ≡ owing Awake newcomer)
 
 abbrev pub shuts : BellStep → Hand → ℕ → Hand → Type 0
-shuts step before word after = after.0 ≡ at_stage Shutting newcomer
+shuts step before word after = after.0 ≡ knowing newcomer
 
-abbrev pub reads_stop : BellStep → Hand → ℕ → Hand → Type 0
-reads_stop step before word after =
-    Found word 0 (after.0 ≡ before.0) (after.0 ≡ sight Awake before.0.owes_call true before.0.is_late)
+abbrev pub learns_shut : BellStep → Hand → ℕ → Hand → Type 0
+learns_shut step before word after = Found word everyone (after.0 ≡ knowing before.0) (after.0 ≡ before.0)
 
 abbrev pub announces : BellStep → Hand → ℕ → Hand → Type 0
 announces step before word after =

@@ -4,9 +4,9 @@ ghost use Rattle.firm_bell.specs.declared.rule.Stage.TheVariants.{Awake, Putting
 ghost use Rattle.firm_bell.specs.Steps.{Knows, StandsAt, at_stage, free, owing};
 
 use crate::rule::{
-    Announces, BellSeat, Board, Comes, Discharges, EVERYONE, Ends, EndsRest, Expects, LiesDown,
-    LooksForRest, LooksForRound, OWES, RESTING, ReadsStop, Rings, STOP, Shuts, Takes, WAITING,
-    WAKES, WORDS, Wakes,
+    Announces, BellSeat, Board, Comes, Discharges, EVERYONE, Ends, EndsRest, Expects, LearnsShut,
+    LiesDown, LooksForRest, LooksForRound, OWES, RESTING, Rings, Shuts, Takes, WAITING, WAKES,
+    WORDS, Wakes,
 };
 use std::alloc::{AllocError, Global};
 use std::hint::spin_loop;
@@ -42,10 +42,10 @@ impl Model for Bell {
 
     ghost view = { λ b. b.board.shared.table_id };
 
-    ghost invariant = { λ b. (1 ≤ b.workers) × (b.workers ≤ 8) × (b.board.shared.table_id.words ≡ 40) };
+    ghost invariant = { λ b. (1 ≤ b.workers) × (b.workers ≤ 8) × (b.board.shared.table_id.words ≡ 32) };
 }
 
-/// A thread that puts a round, rings or shuts the hall. It is not `Drop`, so whatever it owes must be done.
+/// A thread that puts a round, rings or shuts the bell. It is not `Drop`, so whatever it owes must be done.
 pub struct Caller {
     seat: BellSeat,
 }
@@ -130,11 +130,10 @@ impl Bell {
         Caller { seat }.end();
     }
 
-    /// Tells the workers to end once no round waits, and wakes all.
+    /// Wakes all workers for good. Each may end once no round waits.
     pub fn shut(&self) {
         let table = &self.board.shared;
-        let (_, mut seat) = table.swap_new_seat::<Shuts>(STOP, 1);
-        table.store::<Discharges>(&mut seat, WAKES, EVERYONE);
+        let (_, seat) = table.swap_new_seat::<Shuts>(WAKES, EVERYONE);
         table.wake_all(WAKES);
         Caller { seat }.end();
     }
@@ -193,7 +192,7 @@ impl Bell {
         }
     }
 
-    /// Whether the hall is shut.
+    /// Whether the bell is shut.
     pub fn is_shut(&self, listener: &mut Listener) -> bool
         requires { StandsAt self.now Awake listener.old }
         ensures listens { StandsAt self.now Awake listener.new }
@@ -201,8 +200,8 @@ impl Bell {
     {
         self.board
             .shared
-            .load::<ReadsStop>(&mut listener.seat, STOP)
-            != 0
+            .load::<LearnsShut>(&mut listener.seat, WAKES)
+            == EVERYONE
     }
 
     /// Called once a round is taken. Returns whether the queue was full until then.
@@ -233,7 +232,7 @@ impl Bell {
         }
     }
 
-    /// Whether the worker ends, which knows that the hall is shut: only if no round waits.
+    /// Whether the worker ends, which knows that the bell is shut: only if no round waits.
     pub fn ends(&self, listener: &mut Listener) -> bool
         requires listens { StandsAt self.now Awake listener.old }
         requires knows { listener.old.me.0.knows_shut ≡ true }

@@ -2,15 +2,16 @@
 //! of the rounds that wait. After a ring no worker sleeps on while a round waits, whatever the interleaving.
 //!
 //! A thread that puts a round is a `Caller` of the bell from `Bell::expect`, before the round is put, to `Bell::came`,
-//! behind it; it also calls `ring` and `shut`. A worker is a `Listener`: it asks `is_shut`, says with `took` that it
-//! took a round, and calls `rest_or_look` after a look in vain; in a shut hall it may end once `ends` says so.
+//! after it; it also calls `ring` and `shut`. A worker is a `Listener`: it says with `took` that it took a round, and
+//! calls `rest_or_look` after a look in vain. Once it knows by `is_shut` that the bell is shut, `ends` says whether it
+//! may end.
 //!
 //! # What is proved
 //!
 //! Each step on the bell's words keeps the rule of `specs/Bell.antt`, and makes of the seat that takes it what
 //! `specs/Steps.antt` says. If more rounds wait than are being put, then no worker rests, a wake is left, one is owed
-//! until a caller rings, or a caller or a woken worker has still to call one. In a shut hall each rest ends, and a
-//! worker ends only there, when no round waits. That callers ring, that the count is the queue's, and that the kernel
+//! until a caller rings, or a caller or a woken worker has still to call one. Once the bell is shut each rest ends, and
+//! a worker ends only then, when no round waits. That callers ring, that the count is the queue's, and that the kernel
 //! wakes a thread for each wake, no clause sees.
 //!
 //! # How it works
@@ -21,7 +22,8 @@
 //!
 //! A worker without a round looks some times more. Then it announces its rest in a count, and rests only if no round
 //! waits: a caller that counts its round later finds that count. It sleeps until a caller leaves it a wake, in a count
-//! on which workers sleep. A worker ends once it has read the stop word as set and then that no round waits.
+//! on which workers sleep. `shut` leaves a number of wakes that no use lowers. A worker ends once it has read that
+//! number and then that no round waits.
 #![tactic(auto)]
 
 mod bell;

@@ -11,18 +11,15 @@ pub(crate) const WAITING: usize = 0;
 /// 1 if a round was put and no worker was woken for it.
 pub(crate) const OWES: usize = 8;
 
-/// 1 once the hall is shut.
-pub(crate) const STOP: usize = 16;
-
 /// Counts the workers that have announced a rest and not ended it.
-pub(crate) const RESTING: usize = 24;
+pub(crate) const RESTING: usize = 16;
 
 /// Counts the wakes that no resting worker has used yet. Resting workers sleep on this word while it is 0.
-pub(crate) const WAKES: usize = 32;
+pub(crate) const WAKES: usize = 24;
 
-pub(crate) const WORDS: usize = 40;
+pub(crate) const WORDS: usize = 32;
 
-/// As many wakes as no use lowers. More than a hall has workers.
+/// Number of wakes once the bell is shut. No use lowers it, and no hall has as many workers.
 pub(crate) const EVERYONE: u64 = 1 << 16;
 
 /// The stage of a seat.
@@ -35,14 +32,12 @@ pub enum Stage {
     Announced,
     /// A worker that sleeps until a wake.
     Resting,
-    /// A caller that has set the stop word and not yet woken all.
-    Shutting,
     /// A worker that has ended.
     Ended,
 }
 
-/// What a seat knows: its stage; whether it has still to wake a worker if a round waits; whether it has read that the
-/// hall is shut; and whether it comes late, as it raised the count of rounds in a shut hall. Never constructed.
+/// A seat's knowledge: its stage; whether it has still to wake a worker if a round waits; whether it knows that the
+/// bell is shut; and whether it is late, as it raised the count of rounds once the bell was shut. Never constructed.
 pub struct BellSight {
     pub stage: Stage,
     pub owes_call: bool,
@@ -101,7 +96,7 @@ impl Play<(), BellSight> for LooksForRound {
     ghost then = { looks_for_round };
 }
 
-/// A seat leaves a wake for a worker that rests, or for all, or a wake that is owed.
+/// A seat leaves a wake for a worker that rests, or a wake that is owed.
 pub struct Discharges;
 
 impl Play<(), BellSight> for Discharges {
@@ -119,7 +114,7 @@ impl Play<(), BellSight> for Rings {
     ghost then = { rings };
 }
 
-/// A caller shuts the hall.
+/// A caller shuts the bell.
 pub struct Shuts;
 
 impl Play<(), BellSight> for Shuts {
@@ -128,13 +123,13 @@ impl Play<(), BellSight> for Shuts {
     ghost then = { shuts };
 }
 
-/// A worker reads the stop word.
-pub struct ReadsStop;
+/// A worker learns whether the bell is shut.
+pub struct LearnsShut;
 
-impl Play<(), BellSight> for ReadsStop {
-    ghost use Rattle.firm_bell.specs.Steps.{reads_stop};
+impl Play<(), BellSight> for LearnsShut {
+    ghost use Rattle.firm_bell.specs.Steps.{learns_shut};
 
-    ghost then = { reads_stop };
+    ghost then = { learns_shut };
 }
 
 /// A worker announces a rest, if as many have announced one as it expects.
@@ -182,7 +177,7 @@ impl Play<(), BellSight> for Takes {
     ghost then = { takes };
 }
 
-/// A worker that knows that the hall is shut looks whether a round waits, and ends if none does.
+/// A worker that knows that the bell is shut looks whether a round waits, and ends if none does.
 pub struct Ends;
 
 impl Play<(), BellSight> for Ends {
