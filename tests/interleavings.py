@@ -177,14 +177,19 @@ def call(hall: Hall, resting: int) -> Steps:
 
 def worker(hall: Hall, owes_call: bool = False) -> Steps:
     """Looks for a round. Ends where the hall was shut before and no round waits."""
-    is_shut = hall.is_shut and hall.form != LATE_STOP and (yield load("stop")) != 0
+    is_shut = hall.is_shut and hall.form != LATE_STOP and (yield from is_hall_shut())
     if (yield pop("queue")):
         return begin(worker_with_round, hall, owes_call)
     if is_shut or hall.form == LATE_STOP:
         waits = yield load("waiting")
-        if not waits and (is_shut or (yield load("stop"))):
+        if not waits and (is_shut or (yield from is_hall_shut())):
             return None
     return begin(idle_worker, hall, owes_call)
+
+
+def is_hall_shut() -> Steps:
+    """Whether the stop word is set, and then the bell shut."""
+    return (yield load("stop")) and (yield load("wakes")) == EVERYONE
 
 
 def worker_with_round(hall: Hall, owes_call: bool) -> Steps:

@@ -9,6 +9,7 @@ use crate::desks::Desk;
 use crate::empty::EmptyDesk;
 use crate::places::Place;
 use crate::workers::WorkerPass;
+use crossbeam_utils::CachePadded;
 use crossbeam_utils::sync::EventCount;
 use firm_bell::Bell;
 use firm_rounds::{PopPass, PutPass, Queue};
@@ -17,11 +18,14 @@ use firm_tray::Spent;
 use std::alloc::{AllocError, Global};
 use std::marker::Model;
 use std::sync::Arc;
+use std::sync::atomic::{AtomicBool, Ordering};
 
 /// What desks and workers share. Contracts see which queue it has, and how many desks and workers.
 pub struct Hall {
     pub(crate) queue: Queue,
-    // Workers without a round sleep until it rings, or tells them that the hall is shut.
+    // Set once the hall is shut. Each worker reads it before each look at the queue, so it shares no cache line.
+    stop: CachePadded<AtomicBool>,
+    // Workers without a round sleep until it wakes them, for a round or for good.
     pub(crate) bell: Bell,
     // Notified of each solved round, and of room in a queue that was full. The clerk sleeps on it, for these or for
     // input.
@@ -33,6 +37,7 @@ impl Drop for Hall {
     fn drop(self) {
         let Self {
             queue,
+            stop: _,
             bell,
             answers,
         } = self;
@@ -94,6 +99,7 @@ impl Hall {
         let (queue, puts, pops) = Queue::open(alloc, places, workers)?;
         let hall = Hall {
             queue,
+            stop: CachePadded::new(AtomicBool::new(false)),
             bell,
             answers,
         };
@@ -103,7 +109,14 @@ impl Hall {
 
     /// Tells the workers to end once the queue is empty. Takes no memory.
     pub fn shut(&self) {
+        // In this order, so that each worker that the bell wakes finds the stop word set.
+        self.stop.store(true, Ordering::SeqCst);
         self.bell.shut();
+    }
+
+    // Whether the stop word is set.
+    pub(crate) fn is_shut(&self) -> bool {
+        self.stop.load(Ordering::SeqCst)
     }
 
     // Tells the clerk that a round was answered, of which this is the proof.
@@ -123,6 +136,7 @@ impl Hall {
     {
         let Self {
             queue,
+            stop: _,
             bell: _,
             answers: _,
         } = self;

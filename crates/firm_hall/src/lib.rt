@@ -49,7 +49,11 @@
 //! A round may be put without waking a worker. The wake is then owed, until a caller *rings*: `Desk::ask` does at once;
 //! the clerk before each read, after each 256 looks in vain, and before it sleeps. So after a ring no worker sleeps on
 //! while a round waits: firm_bell has the rule over the bell's words, which each step of callers and workers keeps, and
-//! says how a worker rests and ends.
+//! says how a worker rests.
+//!
+//! `Hall::shut` sets the hall's stop word, then shuts the bell. A worker reads the word before each look at the queue
+//! and, once it is set, asks the bell too. After a look that finds the queue empty it ends if the bell was shut before
+//! and counts no round.
 //!
 //! The clerk announces its sleep on an event count (`answers`) and then looks once more. A change that this look misses
 //! follows the announcement, so its notification ends the sleep, even one not yet begun.

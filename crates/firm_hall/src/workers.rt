@@ -47,7 +47,7 @@ impl Model for WorkerPass {
 #[derive(Drop)]
 pub struct Report {
     taken: PopPass,
-    // Its worker ended as the bell's rule asks: in a shut hall, when no round waited.
+    // Its worker ended as the bell's rule asks: once the bell was shut, when no round waited.
     listener: Listener,
 }
 
@@ -91,8 +91,8 @@ impl Report {
     }
 }
 
-/// Solves rounds from the queue, each after passing the gate. Ends once it has read the stop word as set and then that
-/// no round waits. If it finds nothing otherwise, looks again, and after some looks in vain sleeps until it is woken
+/// Solves rounds from the queue, each after passing the gate. Ends once it has read the stop word as set and then found
+/// the queue empty. If it finds nothing otherwise, looks again, and after some looks in vain sleeps until it is woken
 /// for a round or the hall is shut. The allocator is for the rounds, the lists in their replies, and `warm_up`.
 pub fn worker<R: Wait, G: Gate>(
     rt: &R,
@@ -111,7 +111,8 @@ pub fn worker<R: Wait, G: Gate>(
     let mut listener = bell.listener();
     let mut looks = 0;
     for _ in rt.forever() {
-        let is_shut = bell.is_shut(&mut listener);
+        // The bell's rule says when a worker may end, so one that finds the stop word set asks the bell too.
+        let is_shut = hall.is_shut() && bell.is_shut(&mut listener);
         match hall.queue.pop(rt, &mut taken) {
             Some(job) => {
                 if bell.took(&mut listener) {
