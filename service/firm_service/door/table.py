@@ -1,7 +1,7 @@
 """The table of a door, in TOML: its addresses and certificates, the shards with their replicas, and the tenants.
 
     bind = "0.0.0.0:7443"
-    certificate = "/etc/firm/door.pem"    # of the door, with its key
+    certificate = "/etc/firm/door.pem"    # of the door, with its key; the CN of its subject is door.firm
     clients = "/etc/firm/clients.crt"     # the authority of clients' certificates: the CN of a subject is its tenant
     hosts = "/etc/firm/hosts.crt"         # that of the certificates of the door and of the shards' hosts
     admin = "/run/firm-door/admin"        # HAProxy's own socket
