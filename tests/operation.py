@@ -16,15 +16,17 @@ import signal
 import socket
 import subprocess
 import sys
+import tempfile
 from contextlib import ExitStack
 from functools import partial
 from pathlib import Path
 
-from firmd_kit import JOURNAL_TOOL, START_SECONDS, Client, Daemon, Setup, stand_in, wait_for
+from firmd_kit import FIRMD, JOURNAL_TOOL, NOBODY, START_SECONDS, Client, Daemon, Setup, stand_in, wait_for
 from harness import program
 from harness.checks import Check, Skipped, Suite, require, run_script, run_suites
 from harness.deployed import LOCK_SECONDS, SERVICE
 from hostile import patch, patch_viewer
+from queue_kit import QUEUE
 
 AGENT = [sys.executable, str(SERVICE / "firm-agent")]
 CHECKS_AT_A_TIME = 4
@@ -317,6 +319,32 @@ def locked_folders(setup: Setup) -> None:
         require(not any((folder / "lines").exists() for folder in folders), "its sockets are removed")
 
 
+def folders_of_others(setup: Setup) -> None:
+    """Root writes nothing in a folder of another user, who could lead it elsewhere by a link: each program says whose
+    the folder is, and ends."""
+    if os.geteuid():
+        raise Skipped("it needs root, to have other users' folders")
+    with tempfile.TemporaryDirectory(prefix="firm-") as name:
+        folder, victim = Path(name, "state"), Path(name, "victim")
+        folder.mkdir()
+        (folder / "lock").symlink_to(victim)
+        places = ["--view", "v", "--state", str(folder)]
+        commands = [[*JOURNAL_TOOL, verb, str(folder)] for verb in ("state", "rewrite", "new-id")]
+        commands += [
+            [*FIRMD, "--firm", setup.program, "--roster", "r", "--state", str(folder), "--socket", f"{name}/s"]
+        ]
+        commands += [[*AGENT, "run", "--queue", "q", "--name", "a1", "--machines", "m1=1", *places]]
+        commands += [[*QUEUE, "--tenant", "alpha", "--socket", f"{name}/s", "--firm", "f", *places]]
+        for command in commands:
+            for owner in (NOBODY, 0):  # in a folder of root's own the link alone is refused
+                os.chown(folder, owner, owner)
+                victim.write_text("victim")
+                done = subprocess.run(command, stdin=subprocess.DEVNULL, capture_output=True, text=True, timeout=60)
+                require(done.returncode == 4 and victim.read_text() == "victim", (command, done))
+                told = f"it belongs to user {NOBODY}: run this as that user" if owner else "symbolic links"
+                require(told in done.stderr, (command, done.stderr))
+
+
 CHECKS = [
     priorities,
     records,
@@ -327,6 +355,7 @@ CHECKS = [
     number_of_a_successor,
     two_at_a_time,
     locked_folders,
+    folders_of_others,
 ]
 
 

@@ -35,6 +35,14 @@ def make_folder(path: Path, mode: int = 0o777) -> None:
         sync_folder(path.parent)
 
 
+def require_own(folder: Path) -> None:
+    """Raise PermissionError for a folder of another user but root: its owner could have this process write elsewhere,
+    with more rights than that user has, by a link in the place of any file."""
+    owner = folder.stat().st_uid
+    if owner not in (0, os.geteuid()):
+        raise PermissionError(errno.EPERM, f"it belongs to user {owner}: run this as that user", str(folder))
+
+
 def write_synced(path: Path, text: bytes, mode: int = 0o666) -> None:
     """Writes a file, and returns once its text is on the disk; its name may not be."""
     with open(os.open(path, os.O_WRONLY | os.O_CREAT | os.O_TRUNC, mode), "wb") as file:

@@ -9,7 +9,7 @@
 
     [shards.one]
     certificate = "/etc/firm/host.pem"    # on its hosts, for *.one.firm, with its key
-    sockets = "/run/firm/{tenant}/lines"  # of firmd, on its hosts; that of `none` is for checks alone
+    sockets = "/run/firm-{tenant}/lines"  # of firmd, on its hosts; that of `none` is for checks alone
     operator = "/run/firm/operator"       # and its state, as `firmctl move` reaches them: for that alone; {replica} in
     state = "/var/lib/firm/state"         # either stands for the name of each
 
