@@ -445,15 +445,17 @@ def whose_work() -> None:
         with replaced(agent_queue, "LOGIN_DEFS", definitions):  # there is none: the numbers from 1,000 on are people's
             for owner in (0, 33, 1_000):
                 found = {user: user_of_work(owner, user) for user in (0, *system, *people)}
-                expected = {0: 0 if owner == 0 else "user 0", **{user: f"user {user}" for user in system}}
-                require(found == {**expected, **{user: user for user in people}}, f"{owner}'s queue: {found}")
+                expected: dict[int, object] = {user: f"user {user}" for user in (0, *system)}
+                for user in people if owner else [0, *people]:
+                    expected[user] = user
+                require(found == expected, f"{owner}'s queue: {found}")
             unnamed = [user_of_work(owner, None) for owner in (0, 33, 65_534, 1_000)]
             require(unnamed == [0, "user 33", "user 65534", 1_000], unnamed)
             for text, least in (("UID_MIN 500\n", 500), ("#UID_MIN 5\nUID_MIN x\n", 1_000), ("UID_MIN 0x64 #", 100)):
                 definitions.write_text(text)
                 found = {user: user_of_work(7, user) for user in (0, least - 1, least, 65_534)}
-                refused = {user: f"user {user}" for user in (0, least - 1, 65_534)}
-                require(found == {**refused, least: least}, f"{text!r}: {found}")
+                expected = {user: f"user {user}" for user in (0, least - 1, 65_534)}
+                require(found == {**expected, least: least}, f"{text!r}: {found}")
     others: list[object] = [0, False, True, 0.0, 7.0, -1, 2**32 - 1, 2**32, "0", "7", [0], {}]
     taken = [user for user in others if is_work({**WORK, "user": user})]
     require(not taken, f"taken for users: {taken}")

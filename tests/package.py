@@ -170,19 +170,17 @@ def link_in_the_place_of_the_state() -> None:
 def start(home: Path) -> int:
     """Does what a start of the unit does before firmd, with another folder for /var/lib/firm; the last status."""
     unit = (SERVICE / "systemd/firm.service").read_text()
+    by_user = ["setpriv", f"--reuid={FIRM_USER}", f"--regid={FIRM_USER}"]
+    is_in_view = "\nSupplementaryGroups=firm-view\n" in unit
+    by_user.append(f"--groups={VIEW_GROUP}" if is_in_view else "--clear-groups")
+    numbers = {"firm": FIRM_USER, "firm-view": VIEW_GROUP}
     status = 0
     for line in re.findall(r"^ExecStartPre=(.*)", unit, re.M):
         text = line.replace("/var/lib/firm", str(home))
-        text = re.sub(r"(-o|-g) (firm-view|firm)\b", lambda found: f"{found[1]} {NUMBERS[found[2]]}", text)
-        groups = [VIEW_GROUP] if "\nSupplementaryGroups=firm-view\n" in unit else []
-        own = {"user": FIRM_USER, "group": FIRM_USER, "extra_groups": groups}
-        is_root = text.startswith("+")
-        words = text.lstrip("+-").split()
-        status = subprocess.run(words, stdin=subprocess.DEVNULL, **({} if is_root else own)).returncode
+        text = re.sub(r"(-o|-g) (firm-view|firm)\b", lambda found: f"{found[1]} {numbers[found[2]]}", text)
+        words = [*([] if text.startswith("+") else by_user), *text.lstrip("+-").split()]
+        status = subprocess.run(words, stdin=subprocess.DEVNULL, stderr=subprocess.DEVNULL).returncode
     return status
-
-
-NUMBERS = {"firm": FIRM_USER, "firm-view": VIEW_GROUP}
 
 
 def texts_of(board: object) -> list[str]:
