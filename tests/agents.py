@@ -454,8 +454,8 @@ def whose_work() -> None:
             for text, least in (("UID_MIN 500\n", 500), ("#UID_MIN 5\nUID_MIN x\n", 1_000), ("UID_MIN 0x64 #", 100)):
                 definitions.write_text(text)
                 found = {user: user_of_work(7, user) for user in (0, least - 1, least, 65_534)}
-                expected = {user: f"user {user}" for user in (0, least - 1, 65_534)}
-                require(found == {**expected, least: least}, f"{text!r}: {found}")
+                expected = {least: least, **{user: f"user {user}" for user in (0, least - 1, 65_534)}}
+                require(found == expected, f"{text!r}: {found}")
     others: list[object] = [0, False, True, 0.0, 7.0, -1, 2**32 - 1, 2**32, "0", "7", [0], {}]
     taken = [user for user in others if is_work({**WORK, "user": user})]
     require(not taken, f"taken for users: {taken}")
