@@ -8,6 +8,8 @@ Each check has a line; the last line is 'N passed, M failed', and the exit statu
 from __future__ import annotations
 
 import argparse
+import asyncio
+import errno
 import fcntl
 import json
 import os
@@ -17,6 +19,7 @@ import socket
 import subprocess
 import sys
 import tempfile
+from collections.abc import Callable
 from contextlib import ExitStack
 from functools import partial
 from pathlib import Path
@@ -25,8 +28,14 @@ from firmd_kit import FIRMD, JOURNAL_TOOL, NOBODY, START_SECONDS, Client, Daemon
 from harness import program
 from harness.checks import Check, Skipped, Suite, require, run_script, run_suites
 from harness.deployed import LOCK_SECONDS, SERVICE
+from harness.program import ROOT
 from hostile import patch, patch_viewer
 from queue_kit import QUEUE
+
+from firm_service.door.moving import Record
+from firm_service.door.table import Table
+from firm_service.files import replace_synced
+from firm_service.slurm.bridge import lock_alone
 
 AGENT = [sys.executable, str(SERVICE / "firm-agent")]
 CHECKS_AT_A_TIME = 4
@@ -345,6 +354,28 @@ def folders_of_others(setup: Setup) -> None:
                 require(told in done.stderr, (command, done.stderr))
 
 
+def links_in_the_place_of_files(setup: Setup) -> None:
+    """What is written anew beside a file, or locked, is never another file that a link leads to."""
+    with tempfile.TemporaryDirectory(prefix="firm-") as name:
+        victim, path, table = Path(name, "victim"), Path(name, "file"), Path(name, "door.toml")
+        table.write_text((ROOT / "examples/cluster/door.toml").read_text().replace("out/tenants.map", str(path)))
+        writes: dict[str, Callable[[], object]] = {
+            "file.new": partial(replace_synced, path, b"x"),
+            "file.lock": lambda: Record(Table.read(table)),
+            "slurm.lock": lambda: asyncio.run(lock_alone(Path(name, "slurm.lock"))),
+        }
+        for link, write in writes.items():
+            Path(name, link).symlink_to(victim)
+            victim.write_text("victim")
+            try:
+                write()
+            except OSError as error:
+                require(error.errno == errno.ELOOP, f"{link}: {error}")
+            else:
+                require(False, f"{link} is followed: {victim.read_text()!r}")
+            require(victim.read_text() == "victim", f"{link}: {victim.read_text()!r}")
+
+
 CHECKS = [
     priorities,
     records,
@@ -356,6 +387,7 @@ CHECKS = [
     two_at_a_time,
     locked_folders,
     folders_of_others,
+    links_in_the_place_of_files,
 ]
 
 

@@ -12,7 +12,6 @@ from __future__ import annotations
 
 import fcntl
 import json
-import os
 import secrets
 import time
 from collections.abc import Callable, Iterator, Sequence
@@ -23,7 +22,7 @@ from pathlib import Path
 from typing import Any, NamedTuple
 
 from .agent_file import HANG_SECONDS, Aside, EventFile, Hangs, Work
-from .files import require_own
+from .files import open_lock, require_own
 from .logs import INFO, WARNING, tell
 
 EVENTS = "events.jsonl"
@@ -161,7 +160,7 @@ class State:
         """Raises `StateError`, and OSError where the folder can't be read and written."""
         folder.mkdir(mode=0o750, parents=True, exist_ok=True)
         require_own(folder)
-        self.lock = open(os.open(folder / "lock", os.O_WRONLY | os.O_CREAT | os.O_NOFOLLOW, 0o644), "w")
+        self.lock = open_lock(folder / "lock")
         try:
             fcntl.flock(self.lock, fcntl.LOCK_EX | fcntl.LOCK_NB)
         except BlockingIOError:

@@ -8,7 +8,7 @@ from pathlib import Path
 from typing import IO
 
 from .faults import Exit, Fault, reason
-from .files import make_folder, require_own
+from .files import make_folder, open_lock, require_own
 
 LOCK = "lock"
 
@@ -18,8 +18,7 @@ def lock_alone(folder: Path, mode: int = 0o750) -> IO[bytes]:
     try:
         make_folder(folder, mode)
         require_own(folder)
-        flags = os.O_RDWR | os.O_CREAT | os.O_NOFOLLOW
-        lock = open(os.open(folder / LOCK, flags, 0o600), "r+b", buffering=0)
+        lock = open_lock(folder / LOCK)
     except OSError as error:
         raise Fault(Exit.STATE, f"cannot use the state {folder}: {reason(error)}") from error
     try:
