@@ -45,6 +45,7 @@ from harness.program import add_program
 
 from firm_service.door.moving import Move
 from firm_service.door.table import Table, TableError
+from firm_service.door.writing import DOOR_NAME as DOOR
 from firm_service.door.writing import map_text, write
 from firm_service.programs import program_of
 from firm_service.view_client import Service
@@ -125,7 +126,7 @@ class Door:
 
     def __post_init__(self) -> None:
         self.hosts, self.clients = Authority(self.folder / "tls"), Authority(self.folder / "clients")
-        self.hosts.certificate("door")
+        self.hosts.certificate("door", f"/CN={DOOR}")
         self.table = self.folder / "door.toml"
 
     def write(self, shards: dict[str, list[str]], tenants: dict[str, list[str]]) -> None:
@@ -241,17 +242,40 @@ def rights(program: str) -> None:
                     require(False, f"{certificate} is let in: {visitor.ask('alpha show')}")
             except Shut:
                 pass
-        # The way to a shard's host is for the door alone: a tenant's certificate doesn't open it.
-        address = Table.read(here.table).shards["one"].replicas["a"].split(":")
-        context = ssl.create_default_context(cafile=str(here.hosts.path))
-        context.load_cert_chain(here.clients.folder / "alpha.pem")
-        with socket.create_connection((address[0], int(address[1])), 10) as plain:
-            try:
-                with context.wrap_socket(plain, server_hostname="beta.one.firm") as inner:
-                    inner.sendall(b"beta show\n")
-                    require(inner.recv(100) == b"", "a tenant's certificate opens a shard's host")
-            except OSError:
-                pass
+
+
+def shards_apart(program: str) -> None:
+    """The way to a shard's host is for the door alone: no certificate of a tenant, of another shard's host or of its
+    own opens it, nor one of the hosts' authority whose name only resembles the door's."""
+    with two_shards(program) as here:
+        address = Table.read(here.table).shards["one"].replicas["a"]
+        certificates = {"the door's": here.hosts.folder / "door.pem", "a tenant's": here.clients.folder / "alpha.pem"}
+        certificates |= {f"{shard}'s": here.hosts.folder / f"{shard}.pem" for shard in ("one", "two")}
+        odd = [f"/O=firm/CN={name}" for name in ("door", "Door.firm", "x.door.firm", "door.firm.x")] + ["/O=door.firm"]
+        for number, subject in enumerate(odd):
+            certificates[subject] = here.hosts.certificate(f"odd-{number}", subject)
+        certificates["a zero byte"] = signed(here.hosts, f"{DOOR}\0x", "odd-zero")
+        certificates["another's"] = Authority(here.folder / "foreign").certificate("door", f"/O=firm/CN={DOOR}")
+        for whose, certificate in certificates.items():
+            reply = reply_of_host(here, address, certificate)
+            require(reply.startswith(b"beta ") == (whose == "the door's"), f"{whose} certificate: {reply!r}")
+        here.hosts.certificate("door", "/CN=door")
+        done = subprocess.run([SERVICE / "firm-door", here.table, here.folder], capture_output=True, text=True)
+        require(done.returncode == 1 and f"door.pem: its CN is not {DOOR}, so" in done.stderr, done)
+
+
+def reply_of_host(here: Door, address: str, certificate: Path) -> bytes:
+    """What a host of shard one says to who comes past the door; nothing where it lets nobody in."""
+    context = ssl.create_default_context(cafile=str(here.hosts.path))
+    context.load_cert_chain(certificate)
+    name, _, port = address.partition(":")
+    with socket.create_connection((name, int(port)), 10) as plain:
+        try:
+            with context.wrap_socket(plain, server_hostname="beta.one.firm") as inner:
+                inner.sendall(b"beta show\n")
+                return inner.recv(100)
+        except OSError:
+            return b""
 
 
 def busy_tenant(program: str) -> None:
@@ -707,7 +731,16 @@ def written_files() -> None:
 
 
 RULES: list[Callable[[], None]] = [faulty_tables, written_files]
-CHECKS: list[Callable[[str], None]] = [rights, busy_tenant, names, moves, moves_by_lines, told_meanwhile, late_rows]
+CHECKS: list[Callable[[str], None]] = [
+    rights,
+    shards_apart,
+    busy_tenant,
+    names,
+    moves,
+    moves_by_lines,
+    told_meanwhile,
+    late_rows,
+]
 CHECKS += [killed_moves, killed_moves_by_lines, refused_moves, moves_of_replicas, leaders]
 
 

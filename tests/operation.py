@@ -8,6 +8,8 @@ Each check has a line; the last line is 'N passed, M failed', and the exit statu
 from __future__ import annotations
 
 import argparse
+import asyncio
+import errno
 import fcntl
 import json
 import os
@@ -16,15 +18,24 @@ import signal
 import socket
 import subprocess
 import sys
+import tempfile
+from collections.abc import Callable
 from contextlib import ExitStack
 from functools import partial
 from pathlib import Path
 
-from firmd_kit import JOURNAL_TOOL, START_SECONDS, Client, Daemon, Setup, stand_in, wait_for
+from firmd_kit import FIRMD, JOURNAL_TOOL, NOBODY, START_SECONDS, Client, Daemon, Setup, stand_in, wait_for
 from harness import program
 from harness.checks import Check, Skipped, Suite, require, run_script, run_suites
 from harness.deployed import LOCK_SECONDS, SERVICE
+from harness.program import ROOT
 from hostile import patch, patch_viewer
+from queue_kit import QUEUE
+
+from firm_service.door.moving import Record
+from firm_service.door.table import Table
+from firm_service.files import replace_synced
+from firm_service.slurm.bridge import lock_alone
 
 AGENT = [sys.executable, str(SERVICE / "firm-agent")]
 CHECKS_AT_A_TIME = 4
@@ -317,6 +328,54 @@ def locked_folders(setup: Setup) -> None:
         require(not any((folder / "lines").exists() for folder in folders), "its sockets are removed")
 
 
+def folders_of_others(setup: Setup) -> None:
+    """Root writes nothing in a folder of another user, who could lead it elsewhere by a link: each program says whose
+    the folder is, and ends."""
+    if os.geteuid():
+        raise Skipped("it needs root, to have other users' folders")
+    with tempfile.TemporaryDirectory(prefix="firm-") as name:
+        folder, victim = Path(name, "state"), Path(name, "victim")
+        folder.mkdir()
+        (folder / "lock").symlink_to(victim)
+        places = ["--view", "v", "--state", str(folder)]
+        commands = [[*JOURNAL_TOOL, verb, str(folder)] for verb in ("state", "rewrite", "new-id")]
+        commands += [
+            [*FIRMD, "--firm", setup.program, "--roster", "r", "--state", str(folder), "--socket", f"{name}/s"]
+        ]
+        commands += [[*AGENT, "run", "--queue", "q", "--name", "a1", "--machines", "m1=1", *places]]
+        commands += [[*QUEUE, "--tenant", "alpha", "--socket", f"{name}/s", "--firm", "f", *places]]
+        for command in commands:
+            for owner in (NOBODY, 0):  # in a folder of root's own the link alone is refused
+                os.chown(folder, owner, owner)
+                victim.write_text("victim")
+                done = subprocess.run(command, stdin=subprocess.DEVNULL, capture_output=True, text=True, timeout=60)
+                require(done.returncode == 4 and victim.read_text() == "victim", (command, done))
+                told = f"it belongs to user {NOBODY}: run this as that user" if owner else "symbolic links"
+                require(told in done.stderr, (command, done.stderr))
+
+
+def links_in_the_place_of_files(setup: Setup) -> None:
+    """What is written anew beside a file, or locked, is never another file that a link leads to."""
+    with tempfile.TemporaryDirectory(prefix="firm-") as name:
+        victim, path, table = Path(name, "victim"), Path(name, "file"), Path(name, "door.toml")
+        table.write_text((ROOT / "examples/cluster/door.toml").read_text().replace("out/tenants.map", str(path)))
+        writes: dict[str, Callable[[], object]] = {
+            "file.new": partial(replace_synced, path, b"x"),
+            "file.lock": lambda: Record(Table.read(table)),
+            "slurm.lock": lambda: asyncio.run(lock_alone(Path(name, "slurm.lock"))),
+        }
+        for link, write in writes.items():
+            Path(name, link).symlink_to(victim)
+            victim.write_text("victim")
+            try:
+                write()
+            except OSError as error:
+                require(error.errno == errno.ELOOP, f"{link}: {error}")
+            else:
+                require(False, f"{link} is followed: {victim.read_text()!r}")
+            require(victim.read_text() == "victim", f"{link}: {victim.read_text()!r}")
+
+
 CHECKS = [
     priorities,
     records,
@@ -327,6 +386,8 @@ CHECKS = [
     number_of_a_successor,
     two_at_a_time,
     locked_folders,
+    folders_of_others,
+    links_in_the_place_of_files,
 ]
 
 

@@ -25,6 +25,7 @@ from front_kit import front, http_ask, missing_of
 from harness import program
 from harness.checks import Check, Skipped, Suite, require, run_script, run_suites
 from harness.deployed import SERVICE, Doors, Firm
+from harness.files import tracked_files
 from harness.program import ROOT
 
 NEEDED = "import ensurepip, setuptools, venv, wheel"
@@ -107,6 +108,81 @@ def scripts_are_those_of_the_tree() -> None:
         require(f"from {module} import main\n" in in_tree[name], f"{name} does not import main of {module}")
 
 
+# What a unit, a page or a file for tmpfiles.d must not have: root would follow what that folder's user has put there.
+AS_ROOT = {
+    "a line of a unit that root runs": re.compile(r"^Exec\w+=[-@:|]*[+!].*|^PermissionsStartOnly=.*", re.M),
+    "a command of root's in a user's folder": re.compile(
+        r"^(?!.*\b(?:sudo|runuser) -u ).*\b(?:install|mkdir|chown|chgrp|chmod|cp|mv|ln|tee|touch|setfacl)\b.* "
+        r"/(?:var/lib|run)/firm/.*",
+        re.M,
+    ),
+    "a path in a user's folder, made by root": re.compile(r"\b[a-zA-Z][-+!=~^$]* /(?:var/lib|run)/firm/.*", re.M),
+}
+ALLOWED = ("ExecStartPre=install ", "ExecStartPre=-install ")  # by the unit's own user
+
+
+def as_root(text: str) -> list[str]:
+    """Lines that have root act in a folder of another user."""
+    found = [f"{what}: {match[0]}" for what, pattern in AS_ROOT.items() for match in pattern.finditer(text)]
+    return [fault for fault in found if not any(f": {begin}" in fault for begin in ALLOWED)]
+
+
+def nothing_as_root() -> None:
+    """No unit, page or maintainer's script has root act in a folder of another user."""
+    bad = "ExecStartPre=+install -d /x\nExecStart=-!!x\nExecStop=@+x\nPermissionsStartOnly=yes\n"
+    bad += "install -d -m 2750 -o firm /run/firm/alpha\nsudo mkdir /var/lib/firm/x\nd /run/firm/alpha 2750 firm alpha\n"
+    bad += "echo 'd! /var/lib/firm/x' > /etc/tmpfiles.d/firm.conf\n"
+    require(len(as_root(bad)) == bad.count("\n"), as_root(bad))
+    require(not as_root("sudo -u firm mkdir /var/lib/firm/x\nd /run/firm-alpha 2750 firm alpha\n"), "the firm's own")
+    endings = (".service", ".socket", ".timer", ".conf", ".md")
+    files = [path for path in tracked_files() if path.suffix in endings or path.parts[0] in ("examples", "tools")]
+    require(Path("service/systemd/firm.service") in files, files)
+    faults = [f"{path}: {fault}" for path in files for fault in as_root((ROOT / path).read_text(errors="replace"))]
+    require(not faults, "\n".join(["", *faults]))
+
+
+FIRM_USER, VIEW_GROUP = 61_301, 61_302  # in the places of firm and firm-view
+
+
+def link_in_the_place_of_the_state() -> None:
+    """Whatever user firm puts in the place of its state's folder, a start changes no file of another; the folder itself
+    gets its group and mode."""
+    if os.geteuid():
+        raise Skipped("it needs root, as the manager of services is")
+    with tempfile.TemporaryDirectory(prefix="firm-") as name:
+        root = Path(name)
+        root.chmod(0o755)
+        home, victim = root / "firm", root / "victim"
+        for folder in (home, victim):
+            folder.mkdir(mode=0o755)
+        os.chown(home, FIRM_USER, FIRM_USER)
+        (home / "state").symlink_to(victim)
+        start(home)
+        found = victim.stat()
+        require((found.st_uid, found.st_gid, found.st_mode & 0o7777) == (0, 0, 0o755), found)
+        (home / "state").unlink()
+        for _ in range(2):
+            require(start(home) == 0, "a folder of its own")
+            found = (home / "state").stat()
+            require((found.st_uid, found.st_gid, found.st_mode & 0o7777) == (FIRM_USER, VIEW_GROUP, 0o2750), found)
+
+
+def start(home: Path) -> int:
+    """Does what a start of the unit does before firmd, with another folder for /var/lib/firm; the last status."""
+    unit = (SERVICE / "systemd/firm.service").read_text()
+    by_user = ["setpriv", f"--reuid={FIRM_USER}", f"--regid={FIRM_USER}"]
+    is_in_view = "\nSupplementaryGroups=firm-view\n" in unit
+    by_user.append(f"--groups={VIEW_GROUP}" if is_in_view else "--clear-groups")
+    numbers = {"firm": FIRM_USER, "firm-view": VIEW_GROUP}
+    status = 0
+    for line in re.findall(r"^ExecStartPre=(.*)", unit, re.M):
+        text = line.replace("/var/lib/firm", str(home))
+        text = re.sub(r"(-o|-g) (firm-view|firm)\b", lambda found: f"{found[1]} {numbers[found[2]]}", text)
+        words = [*([] if text.startswith("+") else by_user), *text.lstrip("+-").split()]
+        status = subprocess.run(words, stdin=subprocess.DEVNULL, stderr=subprocess.DEVNULL).returncode
+    return status
+
+
 def texts_of(board: object) -> list[str]:
     """The queries of a dashboard."""
     if isinstance(board, dict):
@@ -156,6 +232,8 @@ def main() -> int:
     checks: dict[str, Check] = {
         "programs of the tree": scripts_are_those_of_the_tree,
         "Grafana's dashboard": dashboard_asks_what_is_there,
+        "nothing as root in users' folders": nothing_as_root,
+        "a link in the place of the state": link_in_the_place_of_the_state,
         "installed": partial(installed, options.program),
     }
     return run_suites(Suite(checks))

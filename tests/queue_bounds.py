@@ -170,7 +170,7 @@ def answers_alone(setup: Setup) -> None:
     """However many connections a user has, and however often they ask, one long answer is made at a time."""
 
     async def most_at_once() -> int:
-        shares, share = Shares(BOUNDS, lambda key: None), Share(b"ann", True)
+        shares, share = Shares(BOUNDS, lambda: None), Share(b"ann", True)
         running: list[int] = [0, 0]  # now, and at most
 
         async def ask() -> None:
@@ -207,7 +207,7 @@ def others_rest(setup: Setup) -> None:
     """While a user rests whose request took long, another who comes has a turn at once."""
 
     async def is_first() -> bool:
-        shares, ann, bob = Shares(BOUNDS, lambda key: None), Share(b"ann", True), Share(b"bob", True)
+        shares, ann, bob = Shares(BOUNDS, lambda: None), Share(b"ann", True), Share(b"bob", True)
         await shares.turn(ann)
         ends = time.thread_time() + 0.3
         while time.thread_time() < ends:

@@ -15,7 +15,7 @@ import sys
 import tempfile
 import threading
 import time
-from collections.abc import Callable, Coroutine, Iterator
+from collections.abc import Callable, Coroutine, Iterator, Sequence
 from contextlib import closing, contextmanager, suppress
 from dataclasses import dataclass, field
 from pathlib import Path
@@ -673,13 +673,13 @@ def as_user(user: int, path: Path, requests: list[Json]) -> list[Json]:
     return found
 
 
-def as_user_does(user: int, work: Callable[[], Any]) -> Any:
-    """What a function gives, as JSON has it, in a child of another user."""
+def as_user_does(user: int, work: Callable[[], Any], groups: Sequence[int] = ()) -> Any:
+    """What a function gives, as JSON has it, in a child of another user, with these groups beside its own."""
     given, taken = os.pipe()
     child = os.fork()
     if child == 0:
         try:
-            os.setgroups([])
+            os.setgroups(groups)
             os.setgid(user)
             os.setuid(user)
             os.write(taken, json.dumps(work()).encode())

@@ -10,32 +10,48 @@ from __future__ import annotations
 
 import argparse
 import asyncio
+import grp
 import http.client
 import json
 import os
 import re
+import resource
 import shutil
 import signal
 import socket
 import sys
 import time
 from collections import Counter
-from collections.abc import Iterator
-from contextlib import contextmanager, suppress
+from collections.abc import AsyncIterator, Callable, Iterator
+from contextlib import ExitStack, asynccontextmanager, closing, contextmanager, suppress
 from functools import partial
+from pathlib import Path
 from typing import Any
 
 from web_pages import tab
 from harness import program
 from harness.checks import Check, Skipped, Suite, require, run_script, run_suites
 from harness.deployed import SERVICE
-from harness.ports import free_port
 from harness.program import run_words
 from hostile import python_with_http
 from queue_kit import ANN, FOREVER, Case, Client, Json, Setup, as_user_does, claim_place
 
 WIDTHS = (1_280, 400)
 SERVED_SECONDS, TRIES = 8.0, 3  # for three requests, on a busy host
+HELD_UP_SECONDS = 12.0  # longer than a user rests, and less than until unread connections are closed
+LIMIT_SECONDS = 120.0  # for any answer
+GROUP = 60  # games, which each Debian host has
+BEATS = 20
+MANY_MACHINES = 4_096  # that an agent may have
+GET = b"GET /queue.json HTTP/1.1\r\nHost: localhost\r\n\r\n"
+# A queue whose users may leave little unread.
+SMALL_BOUNDS = """\
+import sys
+from firm_service.bounds import Bounds
+from firm_service.queue import daemon, front
+front.BOUNDS = Bounds(2**20, 2**24)
+sys.exit(daemon.main(sys.argv[1:]))
+"""
 PAGE = """\
 (() => {
   const rows = (id, read) => Object.fromEntries([...document.querySelectorAll(`#${id} tr`)].map(row =>
@@ -56,13 +72,27 @@ PAGE = """\
 
 
 @contextmanager
-def served(setup: Setup) -> Iterator[tuple[Case, int]]:
-    """A queue with a page, of which two tasks run, one failed, one is done, and two are placed; and the port."""
-    found, port = python_with_http(), free_port()
+def with_page(setup: Setup, *options: str) -> Iterator[Case]:
+    """A queue that is to have a page, which any user may reach."""
+    found = python_with_http()
     if found is None:
         raise Skipped("no Python has what HTTP needs (apt-get install python3-aiohttp python3-prometheus-client)")
-    with setup.case(f"--http={port}", "--lease=600") as case:
+    with setup.case("--lease=600", "--socket-mode=666", *options) as case:
+        case.folder.chmod(0o755)
+        case.options.append(f"--http={page_of(case)}")
         case.words[0] = found
+        yield case
+
+
+def page_of(case: Case) -> Path:
+    """The socket of its page."""
+    return case.folder / "page"
+
+
+@contextmanager
+def served(setup: Setup, *options: str) -> Iterator[Case]:
+    """A queue with a page, of which two tasks run, one failed, one is done, and two are placed."""
+    with with_page(setup, *options) as case:
         case.start()
         with case.client() as client, case.client() as agent:
             agent.ask("register", agent="a1", id="x", machines={"m1": 4}, runs=[])
@@ -75,7 +105,7 @@ def served(setup: Setup) -> Iterator[tuple[Case, int]]:
                 return states.get("starting") == 2 and "queued" not in states
 
             case.until(are_placed, "others are placed")
-            yield case, port
+            yield case
 
 
 def run_some(case: Case, agent: Client) -> None:
@@ -108,20 +138,35 @@ def firmctl(case: Case, *words: str) -> Any:
     return json.loads(done.output)
 
 
-def asked(port: int, path: str) -> tuple[int, bytes]:
-    connection = http.client.HTTPConnection("127.0.0.1", port, timeout=120)
-    try:
-        connection.request("GET", path)
+class Connection(http.client.HTTPConnection):
+    """HTTP over a Unix socket."""
+
+    def __init__(self, path: Path) -> None:
+        super().__init__("localhost", timeout=LIMIT_SECONDS)
+        self._path = path
+
+    def connect(self) -> None:
+        self.sock = connected(self._path)
+
+
+def connected(path: Path) -> socket.socket:
+    found = socket.socket(socket.AF_UNIX)
+    found.settimeout(LIMIT_SECONDS)
+    found.connect(str(path))
+    return found
+
+
+def asked(case: Case, path: str, host: str = "localhost") -> tuple[int, bytes]:
+    with closing(Connection(page_of(case))) as connection:
+        connection.request("GET", path, headers={"Host": host})
         answer = connection.getresponse()
         return answer.status, answer.read()
-    finally:
-        connection.close()
 
 
 def metrics(setup: Setup) -> None:
     """The metrics count what status and history do."""
-    with served(setup) as (case, port):
-        status, text = asked(port, "/metrics")
+    with served(setup) as case:
+        status, text = asked(case, "/metrics")
         require(status == 200, text)
         found = dict(re.findall(r"^(firm_queue_\w+\{[^}]*\}) ([0-9.e+]+)$", text.decode(), re.M))
         states = firmctl(case, "status")["status"]["states"]
@@ -139,98 +184,180 @@ def metrics(setup: Setup) -> None:
 
 
 def page_of_users(setup: Setup) -> None:
-    """Each user is shown by the page what the queue would show: of another's tasks neither names nor outputs."""
+    """Each user is shown by the page what the queue would show: of another's tasks neither names nor outputs, but to
+    operators. A page of another site, whose name leads to a forwarded port, is shown nothing."""
     if os.geteuid():
         raise Skipped("it needs root, to be other users")
-    with served(setup) as (case, port):
+    group = grp.getgrgid(GROUP)
+    with served(setup, f"--operators={group.gr_name}") as case:
         name = next(row["task"] for row in firmctl(case, "ps", "--states", "running")["tasks"])
-        for user in (0, ANN):
-            status, text = as_user_does(user, partial(get_as_json, port, "/queue.json"))
+        for user, groups, sees in ((0, (), True), (ANN, (), False), (ANN, (GROUP,), True)):
+            status, text = as_user_does(user, partial(get_as_json, case, "/queue.json"), groups)
             rows = json.loads(text)
-            require(status == 200 and bool(rows["submissions"]) == bool(rows["tasks"]) == (user == 0), rows)
-            require(bool(rows["day"]["outcomes"]) == (user == 0), rows["day"])
-            _, text = as_user_does(user, partial(get_as_json, port, f"/logs/{name}.json"))
+            require(status == 200 and bool(rows["submissions"]) == bool(rows["tasks"]) == sees, rows)
+            require(bool(rows["day"]["outcomes"]) == sees, rows["day"])
+            _, text = as_user_does(user, partial(get_as_json, case, f"/logs/{name}.json"), groups)
             log = json.loads(text)
-            require((log.get("error") == "no-such-task") == (user == ANN), log)
-        status, _ = asked(port, "/logs/x.json")
-        require(status == 200, "a task of no name")
-        connection = http.client.HTTPConnection("127.0.0.1", port, timeout=120)
-        connection.request("POST", "/queue.json")
-        require(connection.getresponse().status == 405, "it takes POST")
-        connection.close()
-
-
-OWNER = """\
-import socket, sys
-from firm_service.queue.web import owner_of
-listening = socket.create_server(("127.0.0.1", 0))
-client = socket.create_connection(listening.getsockname())
-served, there = listening.accept()
-print(owner_of(served.getsockname(), there))
-client.sendall(b"x")
-client.close()
-print(owner_of(served.getsockname(), there))
-"""
-
-
-def closed_connections(setup: Setup) -> None:
-    """A connection whose other end is closed is nobody's: the system shows it as root's."""
-    found = python_with_http()
-    if found is None:
-        raise Skipped("no Python has what HTTP needs (apt-get install python3-aiohttp python3-prometheus-client)")
-    done = run_words([found, "-c", OWNER], b"", {})
-    require(done.output.split() == [str(os.geteuid()).encode(), b"None"], done)
+            require((log.get("error") == "no-such-task") != sees, log)
+        require(asked(case, "/logs/x.json")[0] == 200, "a task of no name")
+        hosts = {"localhost:8080": 200, "127.0.0.1": 200, "evil.example": 403, "evil.example:8080": 403}
+        found = {host: asked(case, "/queue.json", host)[0] for host in hosts}
+        require(found == hosts, found)
+        with closing(Connection(page_of(case))) as connection:
+            connection.request("POST", "/queue.json")
+            require(connection.getresponse().status == 405, "it takes POST")
+        mode = case.socket.stat().st_mode
+        require(page_of(case).stat().st_mode == mode, f"{page_of(case).stat().st_mode:o}, not {mode:o}")
+        case.stop()
+        require(not page_of(case).exists(), "its socket is left")
 
 
 def crowd_of_readers(setup: Setup) -> None:
     """A user with all connections that there may be, and requests on each, closes none of others' and delays none."""
     if os.geteuid():
         raise Skipped("it needs root, to be other users")
-    with served(setup) as (case, port):
-        case.folder.chmod(0o755)
-        connection = http.client.HTTPConnection("127.0.0.1", port, timeout=120)
+    with served(setup) as case, closing(Connection(page_of(case))) as connection:
         connection.request("GET", "/queue.json")
         require(connection.getresponse().read(), "an answer")
         took: list[float] = []
         while not took or took[-1] >= SERVED_SECONDS:
             require(len(took) < TRIES, f"three requests took {took} s")
-            with crowd(ANN, port):
+            with hostile(partial(crowd, page_of(case))):
                 began = time.monotonic()
                 for _ in range(3):
                     connection.request("GET", "/queue.json")
                     require(connection.getresponse().read(), "an answer")
                 took.append(time.monotonic() - began)
-        connection.close()
+
+
+def flood(setup: Setup) -> None:
+    """Whatever a user does to the page, beats of agents and requests at the queue's socket are answered soon: beside
+    connections that come and go, requests that are refused, and thousands of connections over the loopback."""
+    if os.geteuid():
+        raise Skipped("it needs root, to be other users")
+    with with_page(setup) as case:
+        case.start()
+        with case.client() as client, ExitStack() as stack:
+            client.ask("register", agent="a1", id="x", machines={"m1": 1}, runs=[])
+            for work in (hold_loopback, come_and_go, be_refused):
+                stack.enter_context(hostile(partial(work, page_of(case))))
+            took = []
+            for _ in range(BEATS):
+                began = time.monotonic()
+                client.ask("beat")
+                client.ask("status")
+                took.append(time.monotonic() - began)
+            require(sorted(took)[-TRIES] < SERVED_SECONDS / 4, f"a beat and a status took {took} s")
+            require(client.ask("agents")[0]["state"] == "up" and "Traceback" not in case.said(), case.said())
+
+
+def unread_answers(setup: Setup) -> None:
+    """What a user leaves unread at the page counts as at the queue's socket: past the bound no further answer is made
+    for that user, until some is read or its connection closed; others are answered."""
+    if os.geteuid():
+        raise Skipped("it needs root, to be other users")
+    with with_page(setup) as case:
+        case.words[1:] = ["-c", SMALL_BOUNDS, "run"]
+        case.start()
+        with case.client() as agent:
+            machines = {f"m{number}": 1 for number in range(MANY_MACHINES)}
+            agent.ask("register", agent="a1", id="x", machines=machines, runs=[])
+            require(len(asked(case, "/queue.json")[1]) > 2**18, "more than the system keeps of a connection")
+            with hostile(partial(leave_unread, page_of(case))):
+                past = partial(is_answered, page_of(case), HELD_UP_SECONDS)
+                require(not as_user_does(ANN, past), "an answer past the bound")
+                require(asked(case, "/queue.json")[0] == 200, "another user's")
+            require(as_user_does(ANN, partial(is_answered, page_of(case), LIMIT_SECONDS)), "once they are closed")
+            require("Traceback" not in case.said(), case.said())
+
+
+def is_answered(path: Path, seconds: float) -> bool:
+    """Whether the first byte of an answer comes in time."""
+    with connected(path) as connection:
+        connection.settimeout(seconds)
+        connection.sendall(GET)
+        with suppress(TimeoutError):
+            return connection.recv(1) == b"H"
+    return False
 
 
 @contextmanager
-def crowd(user: int, port: int) -> Iterator[None]:
-    """Has a user hold 150 connections with eight requests on each, in the order in which the server closes them."""
+def hostile(work: Callable[[], Iterator[None]]) -> Iterator[None]:
+    """Has a process of another user do something for ever, once it has begun."""
     given, taken = os.pipe()
     child = os.fork()
     if child == 0:
-        os.setgid(user)
-        os.setuid(user)
-        request = f"GET /queue.json HTTP/1.1\r\nHost: 127.0.0.1:{port}\r\n\r\n".encode()
-        held = [socket.create_connection(("127.0.0.1", port)) for _ in range(150)]
-        for connection in held:
-            with suppress(OSError):
-                connection.sendall(8 * request)
+        os.setgroups([])
+        os.setgid(ANN)
+        os.setuid(ANN)
+        turns = work()
+        next(turns)
         os.write(taken, b".")
-        while True:
-            time.sleep(60)
+        for _ in turns:
+            pass
+        os._exit(1)
     try:
         os.close(taken)
         with open(given, "rb") as ready:
-            require(ready.read(1) == b".", "they are there")
+            require(ready.read(1) == b".", "it has begun")
         yield
     finally:
         os.kill(child, signal.SIGKILL)
         os.waitpid(child, 0)
 
 
-def get_as_json(port: int, path: str) -> Any:
-    status, text = asked(port, path)
+def crowd(path: Path) -> Iterator[None]:
+    """Holds 150 connections with eight requests on each, in the order in which the server closes them."""
+    held = [connected(path) for _ in range(150)]
+    for connection in held:
+        with suppress(OSError):
+            connection.sendall(8 * GET)
+    yield
+    signal.pause()
+
+
+def leave_unread(path: Path) -> Iterator[None]:
+    """Asks over some connections, and reads no more than that an answer comes."""
+    held = [connected(path) for _ in range(2)]
+    for connection in held:
+        connection.sendall(GET)
+    held[0].recv(1)
+    yield
+    signal.pause()
+
+
+def hold_loopback(path: Path) -> Iterator[None]:
+    """Holds connections over the loopback, which are none of the page's."""
+    _, most = resource.getrlimit(resource.RLIMIT_NOFILE)
+    resource.setrlimit(resource.RLIMIT_NOFILE, (most, most))
+    listening, held = socket.socket(), list[socket.socket]()
+    listening.bind(("127.0.0.1", 0))
+    listening.listen()
+    while len(held) < min(8_000, most - 200):
+        held.append(socket.socket())
+        held[-1].connect(listening.getsockname())
+        held.append(listening.accept()[0])
+    yield
+    signal.pause()
+
+
+def come_and_go(path: Path) -> Iterator[None]:
+    while True:
+        connected(path).close()
+        yield
+
+
+def be_refused(path: Path) -> Iterator[None]:
+    """Sends as many requests at a time as a connection may, none of which is answered well."""
+    while True:
+        with suppress(OSError), connected(path) as connection:
+            connection.sendall(b"POST /x HTTP/1.1\r\nHost: localhost\r\n\r\n" * 7)
+            connection.recv(65_536)
+        yield
+
+
+def get_as_json(case: Case, path: str) -> Any:
+    status, text = asked(case, path)
     return [status, text.decode()]
 
 
@@ -260,14 +387,33 @@ def expected_page(case: Case) -> Json:
 
 def page_in_chromium(setup: Setup) -> None:
     """Light and dark, wide and narrow, the page has firmctl's numbers, nothing wider than it, and a task's output."""
-    with served(setup) as (case, port):
+    with served(setup) as case:
         require(len(expected_page(case)["tasks"]) == 5, expected_page(case))
-        asyncio.run(look_at(case, port))
+        asyncio.run(look_at(case))
 
 
-async def look_at(case: Case, port: int) -> None:
+@asynccontextmanager
+async def forwarded(path: Path) -> AsyncIterator[int]:
+    """A port of the loopback that leads to a Unix socket, as ssh forwards one."""
+
+    async def copy(reader: asyncio.StreamReader, writer: asyncio.StreamWriter) -> None:
+        with suppress(OSError):
+            while text := await reader.read(65_536):
+                writer.write(text)
+                await writer.drain()
+        writer.close()
+
+    async def serve(reader: asyncio.StreamReader, writer: asyncio.StreamWriter) -> None:
+        there = await asyncio.open_unix_connection(path)
+        await asyncio.gather(copy(reader, there[1]), copy(there[0], writer))
+
+    async with await asyncio.start_server(serve, "127.0.0.1", 0) as server:
+        yield int(server.sockets[0].getsockname()[1])
+
+
+async def look_at(case: Case) -> None:
     grounds = set()
-    async with tab(f"http://127.0.0.1:{port}/") as page:
+    async with forwarded(page_of(case)) as port, tab(f"http://127.0.0.1:{port}/") as page:
         for scheme in ("light", "dark"):
             media = [{"name": "prefers-color-scheme", "value": scheme}]
             await page.call("Emulation.setEmulatedMedia", features=media)
@@ -305,7 +451,8 @@ def main() -> int:
     given = parser.parse_args()
     setup = Setup(given.program, given.quick, 0)
     found: dict[str, Check] = {"metrics": partial(metrics, setup), "page of users": partial(page_of_users, setup)}
-    found |= {"closed connections": partial(closed_connections, setup), "crowd": partial(crowd_of_readers, setup)}
+    found |= {"crowd": partial(crowd_of_readers, setup), "flood": partial(flood, setup)}
+    found["unread answers"] = partial(unread_answers, setup)
     found["page in Chromium"] = partial(page_in_chromium, setup)
     if given.quick or shutil.which("chromium") is None:
         why = "--quick leaves it out" if given.quick else "it is not installed (apt-get install chromium)"

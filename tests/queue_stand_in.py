@@ -266,8 +266,8 @@ class Cluster(Case):
         words = [*(before or AGENT), "run", *options, f"--name={name}", f"--machines={machines}"]
         self.agents[name] = subprocess.Popen(words, stdin=subprocess.DEVNULL, stderr=self.log, env=path, text=True)
 
-    def start_registered(self, name: str = "a1", machines: str = "m1=4") -> None:
-        self.start_agent(name, machines)
+    def start_registered(self, name: str = "a1", machines: str = "m1=4", before: list[str] | None = None) -> None:
+        self.start_agent(name, machines, before)
         self.until(lambda: name in self.queue.agents, f"{name} is registered")
 
     def start_over_ssh(self) -> Path:

@@ -277,7 +277,7 @@ def use_processor() -> None:
 async def pauses(work: Callable[[], None]) -> float:
     """The shortest time from the end of a user's turn with such work to the next one."""
     found, loop = [], asyncio.get_running_loop()
-    all_shares, share = shares.Shares(shares.BOUNDS, lambda key: None), shares.Share(b"user", True)
+    all_shares, share = shares.Shares(shares.BOUNDS, lambda: None), shares.Share(b"user", True)
     for _ in range(5):
         await all_shares.turn(share)
         work()

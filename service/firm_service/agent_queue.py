@@ -33,6 +33,9 @@ DONE_SECONDS = 2.0  # for which firm may still have a task that has done its wor
 ROOM_SECONDS = 1.0  # between two looks whether the disk has room again
 MOST_CLAIMS = 128  # that wait for answers: behind too many the queue would hear no beat
 MOST_USER = 2**32 - 2  # the next number stands for no user
+NOBODY = (65_534, 65_535)  # the kernel's user for ids that a namespace lacks, and the "no user" of 16 bits
+LOGIN_DEFS = Path("/etc/login.defs")
+DEFAULT_UID_MIN = 1_000
 WORK_FIELDS = ("command", "dir", "env", "output", "time", "grace", "memory", "processors", "user")
 
 
@@ -59,12 +62,36 @@ def work_of(answer: Any, owner: int, is_here: bool) -> Work:
 
 
 def user_of(fields: Fields, owner: int) -> int | None:
-    """Whose process it is to be; None: this one's, which is root's."""
+    """Return whose process the work is to be; None: this one's, root's, for root's own queue alone.
+
+    A service's account owns that service's files and secrets, and nobody logs in as one, so no queue, root's neither,
+    has an agent run work as a system account.
+    """
     named = fields.whole("user", 0, MOST_USER)
     user = owner if named is None else named
-    if user == 0 and owner != 0:
-        raise NotAllowed("a queue that is not root's gives no work of root's to an agent of root")
-    return user or None
+    if user == owner == 0:
+        return None
+    if is_system_account(user):
+        raise NotAllowed(f"the queue names user {user}: system accounts run no tasks")
+    return user
+
+
+def is_system_account(user: int) -> bool:
+    """Whether a number is that of a service on this host, or stands for no user.
+
+    UID_MAX is not a limit: it ends what useradd gives out, and directories have people beyond it.
+    """
+    return user < uid_min() or user in NOBODY
+
+
+def uid_min() -> int:
+    """Return the lowest number of a person's account on this host."""
+    with suppress(OSError, ValueError):
+        for line in LOGIN_DEFS.read_text(errors="replace").splitlines():
+            words = line.split()
+            if words[:1] == ["UID_MIN"] and len(words) > 1:
+                return int(words[1], 0)
+    return DEFAULT_UID_MIN
 
 
 def command_of(fields: Fields) -> str | list[str]:

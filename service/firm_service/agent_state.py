@@ -22,6 +22,7 @@ from pathlib import Path
 from typing import Any, NamedTuple
 
 from .agent_file import HANG_SECONDS, Aside, EventFile, Hangs, Work
+from .files import open_lock, require_own
 from .logs import INFO, WARNING, tell
 
 EVENTS = "events.jsonl"
@@ -158,7 +159,8 @@ class State:
     ) -> None:
         """Raises `StateError`, and OSError where the folder can't be read and written."""
         folder.mkdir(mode=0o750, parents=True, exist_ok=True)
-        self.lock = open(folder / "lock", "w")
+        require_own(folder)
+        self.lock = open_lock(folder / "lock")
         try:
             fcntl.flock(self.lock, fcntl.LOCK_EX | fcntl.LOCK_NB)
         except BlockingIOError:

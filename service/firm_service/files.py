@@ -7,6 +7,7 @@ import os
 import stat
 from contextlib import suppress
 from pathlib import Path
+from typing import IO
 
 PRIVATE = 0o600  # for what has rows of several tenants
 OWNERS = 0o700  # of a folder
@@ -35,9 +36,23 @@ def make_folder(path: Path, mode: int = 0o777) -> None:
         sync_folder(path.parent)
 
 
+def open_lock(path: Path) -> IO[bytes]:
+    """A file to be locked, which is made where it is not there. A link there is not followed."""
+    flags = os.O_RDWR | os.O_CREAT | os.O_NOFOLLOW
+    return open(os.open(path, flags, PRIVATE), "r+b", buffering=0)
+
+
+def require_own(folder: Path) -> None:
+    """Raise PermissionError for a folder of another user but root: its owner could have this process write elsewhere,
+    with more rights than that user has, by a link in the place of any file."""
+    owner = folder.stat().st_uid
+    if owner not in (0, os.geteuid()):
+        raise PermissionError(errno.EPERM, f"it belongs to user {owner}: run this as that user", str(folder))
+
+
 def write_synced(path: Path, text: bytes, mode: int = 0o666) -> None:
-    """Writes a file, and returns once its text is on the disk; its name may not be."""
-    with open(os.open(path, os.O_WRONLY | os.O_CREAT | os.O_TRUNC, mode), "wb") as file:
+    """Writes a file, and returns once its text is on the disk; its name may not be. A link there is not followed."""
+    with open(os.open(path, os.O_WRONLY | os.O_CREAT | os.O_TRUNC | os.O_NOFOLLOW, mode), "wb") as file:
         file.write(text)
         file.flush()
         os.fsync(file.fileno())

@@ -8,7 +8,7 @@ from pathlib import Path
 from typing import IO
 
 from .faults import Exit, Fault, reason
-from .files import make_folder
+from .files import make_folder, open_lock, require_own
 
 LOCK = "lock"
 
@@ -17,7 +17,8 @@ def lock_alone(folder: Path, mode: int = 0o750) -> IO[bytes]:
     """Has this process alone the folder, which is made where it is not there, until it ends or closes this file."""
     try:
         make_folder(folder, mode)
-        lock = open(os.open(folder / LOCK, os.O_RDWR | os.O_CREAT, 0o600), "r+b", buffering=0)
+        require_own(folder)
+        lock = open_lock(folder / LOCK)
     except OSError as error:
         raise Fault(Exit.STATE, f"cannot use the state {folder}: {reason(error)}") from error
     try:

@@ -474,9 +474,9 @@ def become(request: Request, command: str | list[str], supervisor: int) -> None:
     for number in (signal.SIGPIPE, signal.SIGXFSZ):  # ignored by Python itself; the command has the usual ones
         signal.signal(number, signal.SIG_DFL)
     environment = {**own_environment(request.user), **(request.environment or {}), "FIRM_RUN": request.folder}
+    if request.user is not None:
+        become_user(request.user)
     if request.is_leased:
-        if request.user is not None:
-            become_user(request.user)
         ctypes.CDLL(None).prctl(PR_SET_PDEATHSIG, signal.SIGKILL, 0, 0, 0)  # nobody else keeps it within its lease
         if os.getppid() != supervisor:
             raise NotStarted(CANNOT_START, "its supervisor was killed")

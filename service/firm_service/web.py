@@ -15,7 +15,7 @@ import socket
 import time
 from base64 import b64encode
 from collections import Counter
-from collections.abc import Awaitable, Callable, Sequence
+from collections.abc import Awaitable, Callable, Hashable, Sequence
 from contextlib import AbstractAsyncContextManager
 from hashlib import sha256
 from heapq import nsmallest
@@ -30,6 +30,7 @@ from .address import Address
 from .books import Book
 from .faults import Faults
 from .metrics import Metrics
+from .relief import Held
 from .shown import Shown
 from .sight import EVERYTHING
 from .view import Json, jobs_of, status_of, summary_of, task_of
@@ -103,9 +104,12 @@ class Pages:
         """In which a request is answered."""
         return self._turn
 
-    def owner(self, transport: asyncio.Transport) -> int | None:
+    def owner(self, transport: asyncio.Transport) -> Hashable:
         """Whose a connection is, where that matters."""
         return None
+
+    async def send(self, request: web.Request, response: web.StreamResponse) -> None:
+        """Sends an answer, unless that is left to aiohttp."""
 
     def application(self) -> web.Application:
         found = web.Application(middlewares=[self.guard], client_max_size=1)
@@ -120,23 +124,28 @@ class Pages:
         if self.gates is not None:
             self.gates.begin(request.protocol)
         response: web.StreamResponse
+        try:
+            async with self.turn(request):  # refusals take one too: else they would cost others more than answers
+                refusal = self.refusal(request)
+                response = await handler(request) if refusal is None else refusal
+                await asyncio.sleep(0)
+        except web.HTTPException as error:
+            response = web.Response(status=error.status, text=f"{error.reason}\n")
+        except Exception as error:
+            self.faults.note("http", error)
+            response = web.Response(status=500, text=f"a fault of {self.server}\n")
+        response.headers.update(self.headers)
+        await self.send(request, response)
+        return response
+
+    def refusal(self, request: web.Request) -> web.Response | None:
+        """Why a request is answered by no handler; None where it is."""
         hosts: list[str] = request.headers.getall("Host", [])
         if len(hosts) != 1 or not self.address.is_named(hosts[0]):
-            response = web.Response(status=403, text="Host is neither this address nor the loopback\n")
-        elif request.method not in ("GET", "HEAD"):
-            response = web.Response(status=405, headers={"Allow": "GET, HEAD"}, text="GET and HEAD alone\n")
-        else:
-            try:
-                async with self.turn(request):
-                    response = await handler(request)
-                    await asyncio.sleep(0)
-            except web.HTTPException as error:
-                response = web.Response(status=error.status, text=f"{error.reason}\n")
-            except Exception as error:
-                self.faults.note("http", error)
-                response = web.Response(status=500, text=f"a fault of {self.server}\n")
-        response.headers.update(self.headers)
-        return response
+            return web.Response(status=403, text="Host is neither this address nor the loopback\n")
+        if request.method not in ("GET", "HEAD"):
+            return web.Response(status=405, headers={"Allow": "GET, HEAD"}, text="GET and HEAD alone\n")
+        return None
 
     async def page(self, _: web.Request) -> web.Response:
         return web.Response(text=self.text, content_type="text/html")
@@ -176,7 +185,7 @@ class Gate(asyncio.Protocol):
     def __init__(self, gates: Gates, handler: RequestHandler) -> None:
         self._gates, self._handler = gates, handler
         self.transport: asyncio.Transport | None = None
-        self.owner: int | None = None
+        self.owner: Hashable = None
         self.since = 0.0  # when its last request began, or the connection
 
     def connection_made(self, transport: asyncio.BaseTransport) -> None:
@@ -234,9 +243,13 @@ class Gates:
             ((most, _),) = Counter(gate.owner for gate in self.open.values()).most_common(1)
             self._close(next(handler for handler, gate in self.open.items() if gate.owner == most))
 
-    def owner(self, handler: RequestHandler) -> int | None:
+    def owner(self, handler: RequestHandler) -> Hashable:
         gate = self.open.get(handler)
         return gate.owner if gate is not None else None
+
+    def held(self) -> Held:
+        """All connections, for where descriptors run out."""
+        return {"page": [gate.transport for gate in self.open.values() if gate.transport is not None]}
 
     def _close(self, handler: RequestHandler) -> None:
         self.open.pop(handler).abort()
@@ -262,10 +275,12 @@ class Noted(logging.Handler):
 
 async def serve_http(listening: Sequence[socket.socket], address: Address, shown: Shown) -> list[asyncio.Server]:
     """Begins to serve on each of the sockets."""
-    return await serve_pages(listening, Site(address, shown))
+    gates, loop = await gates_of(Site(address, shown)), asyncio.get_running_loop()
+    return [await loop.create_server(gates.connect, sock=found) for found in listening]
 
 
-async def serve_pages(listening: Sequence[socket.socket], site: Pages) -> list[asyncio.Server]:
+async def gates_of(site: Pages) -> Gates:
+    """What takes a site's connections."""
     logger = logging.Logger(site.server)
     logger.addHandler(Noted(site.faults))
     # No request's body is read, so it stays as it comes: decompressed, a small one could fill the memory.
@@ -273,6 +288,5 @@ async def serve_pages(listening: Sequence[socket.socket], site: Pages) -> list[a
     await runner.setup()
     if runner.server is None:
         raise RuntimeError("the runner has no server")
-    gates = site.gates = Gates(runner.server, site)
-    loop = asyncio.get_running_loop()
-    return [await loop.create_server(gates.connect, sock=found) for found in listening]
+    site.gates = Gates(runner.server, site)
+    return site.gates

@@ -25,7 +25,7 @@ from functools import partial
 from pathlib import Path
 
 from ..command_line import NO_SERVICE, NOT_THERE, USAGE, Failure, show
-from ..files import replace_synced, sync_folder
+from ..files import open_lock, replace_synced, sync_folder
 from ..tables import Row
 from .table import NOWHERE, Shard, Table, TableError
 from .writing import map_text, read_map
@@ -155,7 +155,7 @@ class Record:
 
     def __init__(self, table: Table) -> None:
         self._path = Path(f"{table.map}.move")
-        self._file = open(f"{table.map}.lock", "wb")
+        self._file = open_lock(Path(f"{table.map}.lock"))
         try:
             fcntl.flock(self._file, fcntl.LOCK_EX | fcntl.LOCK_NB)
         except BlockingIOError:

@@ -1,7 +1,7 @@
 """The table of a door, in TOML: its addresses and certificates, the shards with their replicas, and the tenants.
 
     bind = "0.0.0.0:7443"
-    certificate = "/etc/firm/door.pem"    # of the door, with its key
+    certificate = "/etc/firm/door.pem"    # of the door, with its key; the CN of its subject is door.firm
     clients = "/etc/firm/clients.crt"     # the authority of clients' certificates: the CN of a subject is its tenant
     hosts = "/etc/firm/hosts.crt"         # that of the certificates of the door and of the shards' hosts
     admin = "/run/firm-door/admin"        # HAProxy's own socket
@@ -9,7 +9,7 @@
 
     [shards.one]
     certificate = "/etc/firm/host.pem"    # on its hosts, for *.one.firm, with its key
-    sockets = "/run/firm/{tenant}/lines"  # of firmd, on its hosts; that of `none` is for checks alone
+    sockets = "/run/firm-{tenant}/lines"  # of firmd, on its hosts; that of `none` is for checks alone
     operator = "/run/firm/operator"       # and its state, as `firmctl move` reaches them: for that alone; {replica} in
     state = "/var/lib/firm/state"         # either stands for the name of each
 

@@ -13,6 +13,8 @@ from ..files import is_open, replace_synced
 from .table import NOWHERE, Shard, Table, TableError
 
 CHECKED, FAULTY, USAGE = 0, 1, 2
+# The CN of the door's certificate, which no shard's host and no tenant has: their names have no dot.
+DOOR_NAME = "door.firm"
 WRITTEN = "# Written by firm-door from {path}: change that, and write again.\n"
 # A check of what a server does, five times a second: a leader that is gone is left within half a second.
 LOOKS = "inter 200ms fall 1 rise 1"
@@ -48,6 +50,8 @@ HOST = """\
 frontend lines-{shard}
     bind {address} ssl crt {certificate} ca-file {hosts} verify required
     tcp-request connection reject unless {{ nbsrv(leads-{shard}) gt 0 }}
+    # The door alone, not the hosts of other shards. In hexadecimal: HAProxy would compare what precedes a zero byte.
+    tcp-request session reject unless {{ ssl_c_s_dn(cn),hex -m str {door} }}
     use_backend %[ssl_fc_sni]
     default_backend none-{shard}
 
@@ -91,6 +95,7 @@ def host_text(table: Table, shard: Shard, address: str) -> str:
         address=address,
         certificate=shard.certificate,
         hosts=table.hosts,
+        door=DOOR_NAME.encode().hex().upper(),
         socket=shard.socket(NOWHERE),
         looks=LOOKS,
     )
@@ -156,6 +161,19 @@ def check(path: Path) -> str:
     return done.stderr + done.stdout if done.returncode else ""
 
 
+def name_fault(certificate: str) -> str:
+    """Return why hosts would refuse the door's certificate; empty where it can't be read here, or has the name."""
+    words = ["openssl", "x509", "-in", certificate, "-noout", "-subject", "-nameopt", "sep_multiline,utf8"]
+    try:
+        done = subprocess.run(words, capture_output=True, text=True, errors="replace")
+    except FileNotFoundError:
+        return ""
+    names = [line.strip() for line in done.stdout.splitlines() if line.strip().startswith("CN=")]
+    if done.returncode or names[:1] == [f"CN={DOOR_NAME}"]:
+        return ""
+    return f"{certificate}: its CN is not {DOOR_NAME}, so the hosts of shards refuse the door"
+
+
 def main() -> int:
     parser = argparse.ArgumentParser(prog="firm-door", description=__doc__, epilog="docs/CLUSTER.md has a table")
     parser.add_argument("table", type=Path, metavar="TABLE")
@@ -176,7 +194,7 @@ def main() -> int:
     for key in sorted({table.certificate, *(shard.certificate for shard in table.shards.values())}):
         if is_open(Path(key)):
             print(f"firm-door: warning: all users of this host may read {key}: chmod o-rwx", file=sys.stderr)
-    if said := check(options.folder / "door.cfg"):
+    if said := check(options.folder / "door.cfg") or name_fault(table.certificate):
         print(f"firm-door: {said}", file=sys.stderr)
         return FAULTY
     return CHECKED

@@ -16,7 +16,6 @@ from typing import Any
 
 from .. import logs
 from ..accept import Acceptor
-from ..address import LOOPBACK, Address
 from ..daemons import allow_files, notify, number, timeout
 from ..faults import Exit, Fault, Faults
 from ..lines import is_name
@@ -56,7 +55,7 @@ class Options:
     bounds: Bounds
     giving: Giving
     terms: Terms
-    http: Address | None
+    http: Path | None
 
 
 class Stop(Exception):
@@ -107,8 +106,9 @@ class Queue:
         listening = self._names.listen(self._options.socket, self._options.socket_mode)
         relief = Relief(self._faults, encode(TOO_MANY.answer()))
         relief.look_at(self._front.held)
-        acceptor = Acceptor(listening, "queue", self._front.protocol, relief, self._faults)
-        pages = await self._serve_pages()
+        acceptors = [Acceptor(listening, "queue", self._front.protocol, relief, self._faults)]
+        if self._options.http is not None:
+            acceptors.append(await self._serve_page(self._options.http, relief))
         logs.tell(logs.INFO, f"ready: {self._core.rows.live:,} tasks have not ended")
         notify(b"READY=1")
         works: list[Coroutine[Any, Any, None]] = [self._firm.watch(), giver.serve(), self._agents.expire_for_ever()]
@@ -127,27 +127,23 @@ class Queue:
             pass
         finally:
             self._names.remove()
-            acceptor.close()
-            for server in pages:
-                server.close()
+            for acceptor in acceptors:
+                acceptor.close()
             await self._front.close()
 
-    async def _serve_pages(self) -> list[asyncio.Server]:
-        """Begins to serve the page and the metrics, where that is asked for."""
-        options = self._options
-        if options.http is None:
-            return []
+    async def _serve_page(self, path: Path, relief: Relief) -> Acceptor:
+        """Begins to serve the page and the metrics."""
         try:
-            from ..web import serve_pages
+            from ..web import gates_of
             from .web import Parts, QueueSite
         except ImportError as error:
             raise Fault(Exit.WORDS, f"--http needs a package that is not there: {error.name}") from error
-        shares = self._front.shares
+        options, shares = self._options, self._front.shares
         parts = Parts(self._core, self._agents, self._requests, options.operators, shares, options.tenant)
-        try:
-            return await serve_pages(options.http.listen(), QueueSite(options.http, parts, self._faults))
-        except OSError as error:
-            raise Fault(Exit.SOCKET, f"--http: {error}") from error
+        gates = await gates_of(QueueSite(parts, self._faults))
+        relief.look_at(gates.held)
+        listening = self._names.listen(path, options.socket_mode)
+        return Acceptor(listening, "page", gates.connect, relief, self._faults)
 
     async def _recover_for_ever(self) -> None:
         """After a write that failed: reads the rows as they are on the disk, and tries until it takes writes again."""
@@ -197,17 +193,6 @@ def group(text: str) -> int:
         raise argparse.ArgumentTypeError(f"there is no group {text}") from None
 
 
-def loopback(text: str) -> Address:
-    """Who asks is known on this host alone."""
-    try:
-        found = Address.read(text)
-    except ValueError as error:
-        raise argparse.ArgumentTypeError(str(error)) from None
-    if found.host != LOOPBACK:
-        raise argparse.ArgumentTypeError(f"{text!r}: only {LOOPBACK} is served; over ssh, forward the port")
-    return found
-
-
 def size(text: str) -> int:
     try:
         return bytes_of(text)
@@ -234,7 +219,7 @@ def parser() -> argparse.ArgumentParser:
     add("--firm", type=Path, required=True, metavar="PATH", help="a client socket of firmd for the tenant")
     add("--view", type=Path, required=True, metavar="PATH", help="firmd's view: `view` in its state folder")
     add("--operators", type=group, metavar="GROUP", help="whose members may do all, as root and the queue's own user")
-    add("--http", type=loopback, metavar="PORT", help="serve the page and /metrics to users of this host")
+    add("--http", type=Path, metavar="PATH", help="serve the page and /metrics on this Unix socket, of the same mode")
     add_bounds(run.add_argument_group("bounds"))
     logs.add_form(run)
     return found

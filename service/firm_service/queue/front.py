@@ -43,7 +43,7 @@ class Front:
 
     def __init__(self, requests: Requests, agents: Agents, operators: Operators, faults: Faults) -> None:
         self.requests, self.agents, self.faults = requests, agents, faults
-        self.shares = Shares(BOUNDS, self._relieve)
+        self.shares = Shares(BOUNDS, lambda: faults.count("client", CROWDED))
         self._operators = operators
         self._users: Counter[int] = Counter()  # others than operators
         self._connections: dict[Connection, None] = {}  # the newest last
@@ -114,11 +114,11 @@ class Front:
             self._users[user.number] >= MOST_OF_USER or self._users.total() >= MOST_OF_USERS
         )
 
-    def _relieve(self, key: bytes) -> None:
-        """Closes the connection that holds most, of those of a user."""
-        self.faults.count("client", CROWDED)
-        of_user = (connection for connection in self._connections if connection.share.key == key)
-        max(of_user, key=lambda connection: connection.share.held).end()
+
+def share_of(user: User, connection: object, end: Callable[[], None]) -> Share:
+    """Return a connection's share of what its user has; an operator's connection has its own."""
+    key = f"operator {id(connection)}" if user.is_operator else f"user {user.number}"
+    return Share(key.encode(), not user.is_operator, end)
 
 
 def request_of(line: bytes) -> Json:
@@ -167,8 +167,7 @@ class Connection:
 
     def __init__(self, front: Front, user: User, reader: asyncio.StreamReader, writer: asyncio.StreamWriter) -> None:
         self.user = user
-        key = f"operator {id(self)}" if user.is_operator else f"user {user.number}"
-        self.share = Share(key.encode(), not user.is_operator)
+        self.share = share_of(user, self, self.end)
         self._front, self._reader, self._writer = front, reader, writer
         self._asked: asyncio.Queue[Asked | None] = asyncio.Queue(MOST_UNANSWERED)
         self._is_answering = False

@@ -23,6 +23,7 @@ class Share:
 
     key: bytes
     is_bounded: bool
+    end: Callable[[], None] = lambda: None  # closes the connection
     held: int = 0  # bytes of requests that are not answered, and of answers that are not read
     unread: int = 0  # those of the answers
 
@@ -30,8 +31,9 @@ class Share:
 class Shares:
     """All that have connections."""
 
-    def __init__(self, bounds: Bounds, relieve: Callable[[bytes], None]) -> None:
-        self._account, self._unread, self._relieve = Account(bounds), Account(bounds), relieve
+    def __init__(self, bounds: Bounds, on_crowded: Callable[[], None]) -> None:
+        self._account, self._unread, self._on_crowded = Account(bounds), Account(bounds), on_crowded
+        self._holding: dict[bytes, set[Share]] = {}  # those that are bounded and hold something, or did
         self._coming: dict[bytes, dict[Share, int]] = {}  # bytes of requests that have not begun, the first one first
         self._waiting: dict[bytes, deque[asyncio.Future[None]]] = {}  # for a turn
         self._begun: deque[set[bytes]] = deque([set(), set()], 2)  # users in the last two turns: a request takes two
@@ -49,18 +51,24 @@ class Shares:
         share.unread += size if is_answer else 0
         if not share.is_bounded:
             return
+        self._holding.setdefault(share.key, set()).add(share)
         self._account.add(share.key, size)
         self._unread.add(share.key, size if is_answer else 0)
         if size <= 0:
             self._wake()
         elif (fullest := self._account.fullest()) is not None:
-            self._relieve(fullest)
+            self._on_crowded()
+            max(self._holding[fullest], key=lambda one: one.held).end()
 
     def leave(self, share: Share) -> None:
         """Takes in that a connection has ended."""
         self.begun(share)
         self.add(share, -share.unread, is_answer=True)
         self.add(share, -share.held)
+        if share.is_bounded:
+            self._holding[share.key].discard(share)
+            if not self._holding[share.key]:
+                del self._holding[share.key]
 
     async def go_on(self, share: Share, size: int) -> None:
         """Returns once a request, of which so many bytes are there, may be read further, or begin: in turn, and while

@@ -1,12 +1,12 @@
-"""The queue's page and metrics. Each user of the host is shown what the queue's socket would show, and no more."""
+"""The queue's page and metrics, on a Unix socket: each user is shown what the queue's own socket would show."""
 
 from __future__ import annotations
 
 import asyncio
 import re
 import time
-from collections.abc import AsyncIterator, Iterator
-from contextlib import asynccontextmanager
+from collections.abc import AsyncIterator, Iterator, Sequence
+from contextlib import asynccontextmanager, suppress
 from dataclasses import asdict, dataclass
 from pathlib import Path
 
@@ -16,13 +16,14 @@ from prometheus_client.core import CounterMetricFamily, GaugeMetricFamily, Metri
 from prometheus_client.exposition import CONTENT_TYPE_LATEST
 from prometheus_client.registry import Collector
 
-from ..address import Address
+from ..address import LOOPBACK, Address
 from ..faults import Faults
 from ..web import PAGE, Pages, Route
 from .agents import Agents
 from .core import Core
 from .day import Day, day_of
 from .fields import Json, Refused
+from .front import share_of
 from .listing import Lists
 from .requests import Requests
 from .rows import Submission
@@ -31,9 +32,9 @@ from .states import ENDED, State
 from .users import Operators, User
 
 MOST_SUBMISSIONS, MOST_TASKS, TAIL_BYTES = 100, 200, 8_192
+COMMAND_LETTERS = 80
 DAY_AGE_SECONDS = 10.0  # for which a day that was read is shown
 TEMPLATE = Path(__file__).parents[1] / "queue.html"
-CONNECTIONS = Path("/proc/net/tcp")
 
 
 def page_text() -> str:
@@ -45,20 +46,14 @@ def page_text() -> str:
     return text
 
 
-def owner_of(here: tuple[str, int], there: tuple[str, int]) -> int | None:
-    """The user of this host whose socket is the other end of a connection over the loopback; None where none is. One
-    that is closed already, and has no inode, is shown as root's."""
-    pair = [address_text(*there), address_text(*here)]
-    for row in CONNECTIONS.read_text().splitlines()[1:]:
-        words = row.split()
-        if words[1:3] == pair:
-            return int(words[7]) if words[9] != "0" else None
-    return None
-
-
-def address_text(host: str, port: int) -> str:
-    """An address as the system's list of connections has it, of a host whose words are little-endian."""
-    return f"{bytes(map(int, reversed(host.split('.')))).hex().upper()}:{port:04X}"
+def head_of(command: Sequence[str]) -> str:
+    """What the page shows of a command, which may have megabytes."""
+    text = ""
+    for word in command:
+        text += f"{word[:COMMAND_LETTERS]} "
+        if len(text) > COMMAND_LETTERS:
+            break
+    return text[:COMMAND_LETTERS]
 
 
 @dataclass
@@ -133,8 +128,9 @@ class Parts:
 class QueueSite(Pages):
     server = "firm-queue"
 
-    def __init__(self, address: Address, parts: Parts, faults: Faults) -> None:
-        super().__init__(address, page_text(), faults, asyncio.Lock())
+    def __init__(self, parts: Parts, faults: Faults) -> None:
+        # A browser comes by a port of its own loopback, which ssh forwards to the socket.
+        super().__init__(Address(LOOPBACK, 0), page_text(), faults, asyncio.Lock())
         self._parts, self._lists = parts, Lists(parts.core, parts.agents)
         self._registry = CollectorRegistry()
         self._registry.register(QueueCollector(parts.core, parts.agents, parts.tenant))
@@ -155,6 +151,7 @@ class QueueSite(Pages):
         states = [State.STARTING, State.RUNNING, State.ENDING, State.FAILED, State.TIMEOUT, State.LOST]
         asked = {"ask": "tasks", "states": [*states], "limit": MOST_TASKS}
         found |= await self._parts.requests.answer(reader, asked)
+        found["tasks"] = [{**row, "command": None} for row in found["tasks"]]  # which may be long, and isn't shown
         found["submissions"] = self._submissions(reader.user)
         return web.json_response({**found, "day": asdict(await self._day(reader.user))})
 
@@ -166,24 +163,39 @@ class QueueSite(Pages):
             return web.json_response(refusal.answer())
         return web.json_response({"size": size, "text": text.decode(errors="replace")})
 
-    def owner(self, transport: asyncio.Transport) -> int | None:
-        here, there = (transport.get_extra_info(name) for name in ("sockname", "peername"))
-        return owner_of(here, there) if here is not None and there is not None else None
+    def owner(self, transport: asyncio.Transport) -> User:
+        return self._parts.operators.user_of(transport.get_extra_info("socket"))
 
     def _reader(self, request: web.Request) -> Reader:
-        number = self.gates.owner(request.protocol) if self.gates is not None else None
-        if number is None:
+        owner = self.gates.owner(request.protocol) if self.gates is not None else None
+        if not isinstance(owner, User):  # the connection is closed
             raise web.HTTPForbidden
-        return Reader(self._parts.operators.user(number))
+        return Reader(owner)
+
+    def _share(self, request: web.Request) -> Share:
+        """A request's share of what its user has, at the queue's socket and here."""
+        transport = request.transport
+        end = transport.abort if isinstance(transport, asyncio.Transport) else lambda: None
+        return share_of(self._reader(request).user, request.protocol, end)
 
     @asynccontextmanager
     async def turn(self, request: web.Request) -> AsyncIterator[None]:
         """A user's requests are answered one at a time, and begin in turn with those of others, as at the socket."""
-        user = self._reader(request).user
-        share = Share(f"http {user.number}".encode(), False)
+        share = self._share(request)
         async with self._parts.shares.alone(share):
             await self._parts.shares.turn(share)
             yield
+
+    async def send(self, request: web.Request, response: web.StreamResponse) -> None:
+        """Sends an answer, which its user holds until it is read."""
+        with suppress(web.HTTPForbidden, ConnectionError):
+            share = self._share(request)
+            self._parts.shares.add(share, response.content_length or 0, is_answer=True)
+            try:
+                await response.prepare(request)
+                await response.write_eof()
+            finally:
+                self._parts.shares.leave(share)
 
     def _submissions(self, user: User) -> list[Json]:
         """The newest that have not ended."""
@@ -196,7 +208,8 @@ class QueueSite(Pages):
     def _submission(self, submission: Submission) -> Json:
         counts = self._parts.core.counts(submission.tasks.values())
         row = {"number": submission.number, "user": User(submission.user).name, "job": submission.job}
-        return {**row, "command": submission.spec.command, "tasks": len(submission.tasks), "states": dict(counts)}
+        command = head_of(submission.spec.command)
+        return {**row, "command": command, "tasks": len(submission.tasks), "states": dict(counts)}
 
     async def _day(self, user: User) -> Day:
         owner, now = None if user.is_operator else user.number, time.time()

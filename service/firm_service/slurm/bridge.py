@@ -4,7 +4,6 @@ from __future__ import annotations
 
 import asyncio
 import fcntl
-import os
 import time
 from collections import Counter
 from collections.abc import Coroutine, Sequence
@@ -14,6 +13,7 @@ from pathlib import Path
 from typing import IO, Any
 
 from ..books import Book
+from ..files import open_lock
 from ..logs import INFO, WARNING, tell
 from ..queue.firm import Away, Doors, Firm, Heard, Reply
 from ..queue.giving import NO_ROOM
@@ -167,7 +167,7 @@ class Side:
 
 async def lock_alone(path: Path) -> IO[bytes]:
     """Waits until no other bridge has this file; it must stay open. Raises `OSError`."""
-    file = open(path, "wb", opener=lambda name, flags: os.open(name, flags | os.O_CLOEXEC, 0o600))
+    file = open_lock(path)
     has_told = False
     while True:
         try:
