@@ -438,9 +438,9 @@ def words_of(costs: str, rows: str, name: str) -> str:
     spread, churn, remote = costs.split()
     record = f"{TENANT},60,400,1000000,{spread},{churn},{remote}"
     lines = [f"{TENANT} {row}".encode() for row in rows.split(", ")]
-    model = service.Service(service.read_roster(f"tenant,nodes,arcs,life,spread,churn,remote\n{record}\n".encode()))
-    books = Books()
-    books.start(f"tenant,nodes,arcs,life,spread,churn,remote\n{record}\n".encode())
+    text = f"tenant,nodes,arcs,life,spread,churn,remote\n{record}\n".encode()
+    model, books = service.opened(text), Books()
+    books.start(text)
     books.replied_all(lines, [service.answer_line(model, line) or b"" for line in lines], None)
     book = books.tenants[TENANT]
     task = book.tasks[name]

@@ -85,7 +85,7 @@ def books_of_stream(seed: int) -> None:
     draw = random.Random(seed)
     text_roster, text = random_stream(draw, 5)
     text = with_noise(draw, text) if seed % 2 else text
-    model = service.Service(service.read_roster(text_roster))
+    model = service.opened(text_roster)
     books, refusals, count = Books(), 0, 0
     books.start(text_roster)
     for raw, line in zip(text.split(b"\n"), service.lines_of(text)):
@@ -210,14 +210,14 @@ def lines_give_the_same_rows(streams: range) -> None:
     for seed in streams:
         draw = random.Random(seed)
         text_roster, text = random_stream(draw, 5)
-        model = service.Service(service.read_roster(text_roster))
+        model = service.opened(text_roster)
         books = Books()
         books.start(text_roster)
         for line in service.lines_of(text):
             reply = service.answer_line(model, line)
             if reply is not None:
                 books.replied(line, reply, None)
-        fresh = service.Service({})
+        fresh = service.Service({}, model.is_extended)
         for name, book in books.tenants.items():
             require(
                 service.answer_line(fresh, f"+ admit {book.limits.row()}".encode()) == f"+ ok admitted {name}".encode(),

@@ -187,7 +187,7 @@ def books_at_once(setup: Setup) -> None:
     for seed in range(setup.seed, setup.seed + (40 if setup.is_quick else 400)):
         draw = random.Random(seed)
         roster, text = random_stream(draw, 5)
-        model = service.Service(service.read_roster(roster))
+        model = service.opened(roster)
         answers = [(line, service.answer_line(model, line)) for line in service.lines_of(text)]
         told = [(line, reply) for line, reply in answers if reply is not None]
         single, many = Books(), Books()
