@@ -36,10 +36,15 @@ class Limits:
         """From the fields of a record that firm has accepted."""
         return cls(fields[0], *map(int, fields[1:]))
 
+    @property
+    def has_patience(self) -> bool:
+        """Whether it has a patience of its own, which extended services alone let it have."""
+        return self.patience < LONGEST_PATIENCE
+
     def row(self) -> str:
         """The record, as a roster with `remote` and an operator's line have it; the longest patience is left out."""
         fields = astuple(self)
-        return ",".join(map(str, fields if self.patience < LONGEST_PATIENCE else fields[:-1]))
+        return ",".join(map(str, fields if self.has_patience else fields[:-1]))
 
 
 RANGES = {
