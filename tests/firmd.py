@@ -54,6 +54,7 @@ from firmd_kit import (
     check_alone,
     check_kept,
     converse,
+    extended,
     in_threads,
     memory_kilobytes,
     roster_of,
@@ -412,7 +413,10 @@ def one_daemon(setup: Setup) -> None:
         daemon.start().stop()
         require(not daemon.any.exists() and not (state / "view").exists(), "sockets are removed")
         (daemon.folder / "roster.csv").write_bytes(ROSTER.replace(b"beta", b"gamma"))
-        daemon.refuses(3, "changed-roster", "not the roster that the state began with")
+        daemon.refuses(3, "changed-roster", "not the roster that the state began with", "admit and retire tenants")
+        for patience in (5, service.LONGEST_PATIENCE):
+            (daemon.folder / "roster.csv").write_bytes(extended(ROSTER, patience))
+            daemon.refuses(3, "changed-roster", "a patience needs a new state")
         (daemon.folder / "roster.csv").unlink()
         daemon.refuses(3, "cannot read the roster", "No such file")
 

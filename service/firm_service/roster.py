@@ -38,7 +38,7 @@ class Limits:
 
     @property
     def has_patience(self) -> bool:
-        """Whether it has a patience of its own, which extended services alone let it have."""
+        """Whether the tenant's patience is not the default; only extended services allow that."""
         return self.patience < LONGEST_PATIENCE
 
     def row(self) -> str:
@@ -97,6 +97,12 @@ def records_of(data: bytes) -> Iterator[Record]:
         if fields:
             yield Record(line, fields)
         line = reader.line_num + 1
+
+
+def is_extended(data: bytes) -> bool:
+    """Return whether the heading has a patience, so that operators may set it too."""
+    heading = next(records_of(data[:MOST_BYTES]), None)  # the csv module refuses longer fields
+    return heading is not None and heading.fields == FULL_HEADING
 
 
 def faults_of_fields(record: Record) -> Iterator[Fault]:
