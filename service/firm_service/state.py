@@ -153,7 +153,8 @@ class State(StateFolder):
         if kept is None:
             self._keep(text, given, firm)
         elif kept != text:
-            what, cure = kind_of(given.is_state), "admit and retire tenants with the operator's lines, or begin a new state"
+            what = kind_of(given.is_state)
+            cure = "admit and retire tenants with the operator's lines, or begin a new state"
             if is_extended(given, text) and not is_extended(self.first, kept):
                 cure = "a patience needs a new state: see 'Move a tenant, back up' in docs/OPERATING.md"
             told = f"changed-{what}: {given.path} is not the {what} that the state began with, {self.first.path}"
