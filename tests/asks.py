@@ -21,7 +21,7 @@ from collections import Counter
 from collections.abc import Callable, Iterator
 from concurrent.futures import ThreadPoolExecutor
 from contextlib import contextmanager
-from dataclasses import dataclass
+from dataclasses import astuple, dataclass
 from functools import partial
 from pathlib import Path
 from typing import Any
@@ -65,7 +65,8 @@ def random_row(draw: random.Random) -> str:
         draw.choice([0, 1, 5, 20]),
         draw.choice([0, 1, 3, 20, 10**6]),
     ]
-    return ",".join(map(str, [TENANT, *numbers, draw.choice([0, 1, 5, 50, 10**6])]))
+    numbers += [draw.choice([0, 1, 5, 50, 10**6]), draw.choice([0, 1, 3, 10**6, 10**6])]
+    return ",".join(map(str, [TENANT, *numbers]))
 
 
 def own_lines(stream: Stream, count: int) -> list[bytes]:
@@ -124,7 +125,7 @@ def number_of(reply: bytes) -> int:
 
 @contextmanager
 def running(setup: Setup, *options: str) -> Iterator[Case]:
-    with setup.daemon(*options, roster=ROSTER) as daemon:
+    with setup.daemon(*options, roster=firmd_kit.extended(ROSTER, service.LONGEST_PATIENCE)) as daemon:
         daemon.start()
         with Client(daemon.operator) as client:
             yield Case(daemon, client)
@@ -310,14 +311,19 @@ def has_least_weight(book: Book, name: str) -> bool:
 
 def model_of(book: Book) -> service.Tenant:
     """The plain service's tenant with a book's rows."""
-    limits = book.limits
-    numbers = service.Limits(limits.nodes, limits.arcs, limits.life, limits.spread, limits.churn, limits.remote)
+    _, *numbers = astuple(book.limits)
     tasks = {
         name: service.Task(task.job, list(task.prefers), task.machine, book.waited(task))
         for name, task in book.tasks.items()
     }
     return service.Tenant(
-        limits.tenant, numbers, book.commands, list(book.costs), dict(book.machines), dict(book.jobs), tasks
+        book.limits.tenant,
+        service.Limits(*numbers),
+        book.commands,
+        list(book.costs),
+        dict(book.machines),
+        dict(book.jobs),
+        tasks,
     )
 
 
@@ -438,9 +444,9 @@ def words_of(costs: str, rows: str, name: str) -> str:
     spread, churn, remote = costs.split()
     record = f"{TENANT},60,400,1000000,{spread},{churn},{remote}"
     lines = [f"{TENANT} {row}".encode() for row in rows.split(", ")]
-    model = service.Service(service.read_roster(f"tenant,nodes,arcs,life,spread,churn,remote\n{record}\n".encode()))
-    books = Books()
-    books.start(f"tenant,nodes,arcs,life,spread,churn,remote\n{record}\n".encode())
+    text = f"tenant,nodes,arcs,life,spread,churn,remote\n{record}\n".encode()
+    model, books = service.opened(text), Books()
+    books.start(text)
     books.replied_all(lines, [service.answer_line(model, line) or b"" for line in lines], None)
     book = books.tenants[TENANT]
     task = book.tasks[name]

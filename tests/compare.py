@@ -2,8 +2,10 @@
 
 usage: tools/run tests/compare.py [--program FILE] [--under COMMAND] [--workers N,..] [--streams N] [--rosters N]
                                   [--first SEED] [--tasks T] [--pieces] [--noise] [--ages]
+Half of the streams open with a roster, the others with the plain service's state after some of the lines.
 Each difference has a line with its seed and is kept under out/tests; the exit status is 1 where there is one, or where
-500 streams or more have hardly a start, a move, a preemption or an eviction.
+500 streams or more have hardly a start, a move, a preemption, an eviction, an opening of each kind, or an admission
+with a patience, accepted or refused. `--streams 100000` takes half an hour on two processors.
 """
 
 from __future__ import annotations
@@ -16,6 +18,7 @@ from concurrent.futures import ProcessPoolExecutor
 from dataclasses import dataclass
 from functools import partial
 from tempfile import TemporaryDirectory
+from typing import NamedTuple
 
 from harness import program, service
 from harness.checks import run_script
@@ -35,58 +38,92 @@ class Options(program.ProgramOptions):
 
 @dataclass(frozen=True)
 class Case:
-    """What a run is given. With a library its input comes in pieces and its output goes in pieces."""
+    """Input of a run: a roster or a state, and lines. With a library, input and output go in pieces."""
 
     name: str
-    roster: bytes
+    opening: bytes
     text: bytes
     environment: program.Environment | None = None
 
 
-Outcomes = Counter[str]  # how often each outcome of a line and each change of a round came
+Outcomes = Counter[str]  # count of each outcome of a line, change of a round, and kind of opening
 
 # How often 500 streams have these at least.
 MANY_STREAMS = 500
-LEAST_MET = {"start": 1000, "move": 50, "preempt": 200, "evict": 50}
+LEAST_MET = {
+    "start": 1000,
+    "move": 50,
+    "preempt": 200,
+    "evict": 50,
+    "opened by a roster of 6": 50,
+    "opened by a roster of 7": 50,
+    "opened by a roster of 8": 50,
+    "opened by a plain state": 100,
+    "opened by an extended state": 50,
+    "admit 8: + ok admitted": 30,
+    "admit 8: + no 22 operator-row": 150,
+}
 
 
-def expected(case: Case) -> program.Run:
-    """What the definitions say that a run gives."""
+class Expected(NamedTuple):
+    """Defined result of a run, and the count of each outcome in it."""
+
+    run: program.Run
+    outcomes: Outcomes
+
+
+def expected(case: Case) -> Expected:
     try:
-        lines = service.serve(case.roster, case.text)
+        found = service.opened(case.opening)
     except service.RosterFault as fault:
         faults = f"firm: roster fault {fault.code} {service.ROSTER_FAULTS[fault.code - 1]}\n"
-        return program.Run(3, b"", faults.encode())
-    return program.Run(0, b"".join(line + b"\n" for line in lines), b"")
+        return Expected(program.Run(3, b"", faults.encode()), Counter([faults.strip()]))
+    outcomes, replies = Counter([kind_of(case.opening, found)]), []
+    for line in service.lines_of(case.text):
+        reply = service.answer_line(found, line)
+        if reply is not None:
+            replies.append(reply + b"\n")
+            outcomes.update(outcomes_of(line, reply.decode()))
+    return Expected(program.Run(0, b"".join(replies), b""), outcomes)
 
 
-def outcomes_of(output: bytes) -> Outcomes:
-    counts: Outcomes = Counter()
-    for line in output.decode().splitlines():
-        words = line.split()
-        outcome = words[2:5] if words[2:3] == ["no"] else words[2:4]
-        counts[line if words[0] == "!" else " ".join(outcome).rstrip("0123456789 ")] += 1
-        counts.update(word for word in words if word in ("start", "move", "preempt"))
-        if words[2:4] == ["ok", "evicted"]:
-            counts["evict"] += int(words[4])
+def kind_of(opening: bytes, opened: service.Service) -> str:
+    if service.is_state(opening):
+        return f"opened by {'an extended' if opened.is_extended else 'a plain'} state"
+    return f"opened by a roster of {len(service.records_of(opening)[0])}"
+
+
+def outcomes_of(line: bytes, reply: str) -> Outcomes:
+    """Count the outcomes in a reply; those of an admission also by its number of fields."""
+    words = reply.split()
+    outcome = words[2:5] if words[2:3] == ["no"] else words[2:4]
+    if words[0] in "+!":
+        outcome = words[:3] if words[:2] == ["+", "ok"] else words
+    counts = Counter([" ".join(outcome).rstrip("0123456789 ")])
+    counts.update(word for word in words if word in ("start", "move", "preempt"))
+    if words[2:4] == ["ok", "evicted"]:
+        counts["evict"] += int(words[4])
+    match line.split():
+        case b"+", b"admit", row:
+            counts[f"admit {row.count(b',') + 1}: {' '.join(outcome)}"] += 1
     return counts
 
 
 def check(options: Options, case: Case) -> Outcomes | None:
     """The outcomes of a run, or None where that of some number of workers differs from the definitions."""
-    wanted = expected(case)
+    wanted, outcomes = expected(case)
     for workers in options.workers.split(","):
-        with program.Roster(case.roster) as roster_path:
-            got = program.run(options.command(workers), roster_path, case.text, case.environment)
+        with program.opening(case.opening) as words:
+            got = program.run_words([*options.command(workers), *words], case.text, case.environment)
         if got != wanted:
             tell_difference(case, workers, got, wanted)
             return None
-    return outcomes_of(wanted.output + wanted.faults)
+    return outcomes
 
 
 def tell_difference(case: Case, workers: str, got: program.Run, wanted: program.Run) -> None:
     """Says where a run differs from the definitions, and keeps its case."""
-    kept = program.keep(case.name, case.roster, case.text)
+    kept = program.keep(case.name, case.opening, case.text)
     pairs = zip(got.output.split(b"\n"), wanted.output.split(b"\n"))
     lines = [(place, was, should) for place, (was, should) in enumerate(pairs) if was != should]
     print(
@@ -97,13 +134,24 @@ def tell_difference(case: Case, workers: str, got: program.Run, wanted: program.
 
 
 def check_stream(options: Options, library: str | None, seed: int) -> Outcomes | None:
-    """A random stream, in pieces of some size where there is a library."""
+    """A random stream, from a roster or from a state, in pieces of some size where there is a library."""
     draw = random.Random(seed)
-    roster, text = random_stream(draw, options.tasks)
+    opening, text = random_stream(draw, options.tasks)
     text = with_noise(draw, text) if options.noise else text
+    if draw.random() < 0.5:
+        opening, text = behind_some(draw, opening, text)
     pieces = {"READ_MOST": draw.choice("1 2 3 7 64 257 4095".split()), "WRITE_MOST": draw.choice("0 1 5 100".split())}
     environment = {"LD_PRELOAD": library, **pieces} if library else None
-    return check(options, Case(f"stream-{seed}", roster, text, environment))
+    return check(options, Case(f"stream-{seed}", opening, text, environment))
+
+
+def behind_some(draw: random.Random, roster: bytes, text: bytes) -> tuple[bytes, bytes]:
+    """Return the state after some of the lines, and the rest."""
+    place = draw.choice([0, *(place + 1 for place, byte in enumerate(text) if byte == ord("\n"))])
+    found = service.opened(roster)
+    for line in service.lines_of(text[:place]):
+        service.answer_line(found, line)
+    return service.state_of(found), text[place:]
 
 
 def check_roster(options: Options, seed: int) -> Outcomes | None:

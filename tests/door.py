@@ -38,10 +38,12 @@ from etcd_kit import (
     require_programs,
     until,
 )
+from firmd_kit import extended
 from harness.checks import Skipped, Suite, require, run_script, run_suites
 from harness.deployed import SERVICE
 from harness.guard import guard
 from harness.program import add_program
+from harness.service import LONGEST_PATIENCE
 
 from firm_service.door.moving import Move
 from firm_service.door.table import Table, TableError
@@ -192,10 +194,10 @@ def door() -> Iterator[Door]:
 
 
 @contextmanager
-def firmd(here: Door, shard: str, firm: str, rows: str, *options: str) -> Iterator[subprocess.Popen[bytes]]:
-    """A shard of one firmd, with the sockets that firm-door names."""
+def firmd(here: Door, shard: str, firm: str, text: str, *options: str) -> Iterator[subprocess.Popen[bytes]]:
+    """A shard of one firmd with a roster, and with the sockets that firm-door names."""
     roster = here.folder / f"{shard}.csv"
-    roster.write_text(HEADING + rows)
+    roster.write_text(text)
     words: list[Any] = [SERVICE / "firmd", "--firm", firm, "--roster", roster, "--state", here.folder / shard]
     words += ["--operator", here.folder / f"{shard}.operator", *(here.folder / f"{shard}.options").read_text().split()]
     words += options
@@ -211,12 +213,15 @@ ROW = "{},100,1000,100000,1,2\n"
 
 
 @contextmanager
-def two_shards(program: str) -> Iterator[Door]:
-    """alpha and beta at one shard, gamma at another, to which alpha may move."""
+def two_shards(program: str, patience: int | None = None) -> Iterator[Door]:
+    """alpha and beta at one shard, perhaps with a patience, gamma at another, to which alpha may move."""
     with door() as here, ExitStack() as stack:
         here.write({"one": ["a"], "two": ["a"]}, {"alpha": ["one", "two"], "beta": ["one"], "gamma": ["two"]})
-        stack.enter_context(firmd(here, "one", program, ROW.format("alpha") + ROW.format("beta")))
-        stack.enter_context(firmd(here, "two", program, ROW.format("gamma")))
+        one = HEADING + ROW.format("alpha") + ROW.format("beta")
+        if patience is not None:
+            one = extended(one.encode(), patience).decode()
+        stack.enter_context(firmd(here, "one", program, one))
+        stack.enter_context(firmd(here, "two", program, HEADING + ROW.format("gamma")))
         here.start("one-a", "two-a", "door")
         for tenant in ("alpha", "beta", "gamma"):
             until(partial(here.serves, tenant), f"{tenant} is served")
@@ -283,7 +288,7 @@ def busy_tenant(program: str) -> None:
     with door() as here, ExitStack() as stack:
         here.write({"one": ["a"]}, {"alpha": ["one"], "beta": ["one"]})
         rows = ROW.format("alpha") + ROW.format("beta")
-        stack.enter_context(firmd(here, "one", program, rows, "--most-clients", "8"))
+        stack.enter_context(firmd(here, "one", program, HEADING + rows, "--most-clients", "8"))
         here.start("one-a", "door")
         for tenant in ("alpha", "beta"):
             until(partial(here.serves, tenant), f"{tenant} is served")
@@ -306,8 +311,8 @@ def names(program: str) -> None:
     """Whatever shards are named, and whatever stands in a certificate, a client gets to its own tenant's socket."""
     with door() as here, ExitStack() as stack:
         here.write({"none-x": ["a"], "no": ["a"]}, {"alpha": ["none-x"], "x-b": ["no"]})
-        stack.enter_context(firmd(here, "none-x", program, ROW.format("alpha")))
-        stack.enter_context(firmd(here, "no", program, ROW.format("x-b")))
+        stack.enter_context(firmd(here, "none-x", program, HEADING + ROW.format("alpha")))
+        stack.enter_context(firmd(here, "no", program, HEADING + ROW.format("x-b")))
         here.start("none-x-a", "no-a", "door")
         for tenant in ("alpha", "x-b"):
             until(partial(here.serves, tenant), f"{tenant} is served")
@@ -553,6 +558,29 @@ def refused_moves(program: str) -> None:
         require("machines 1" in here.ask("alpha", "alpha show")[0], "its rows are there")
 
 
+def refused_patience(program: str) -> None:
+    """A tenant with a patience stays where it is if the other shard's roster has none; its client notices nothing. With
+    the default patience it moves, and the other shard still accepts none."""
+    require_state_program()
+    with two_shards(program, 5) as here, here.visit("alpha") as alpha:
+        require(alpha.ask("alpha machine m1 2").endswith(" ok"), "a machine")
+        for how in ((), ("--by-lines",)):
+            done = here.control("move", "alpha", "--to", "two", *how)
+            told = "alpha has a patience, and the roster of the shard two has none"
+            require(done.returncode == 1 and told in done.stderr, done)
+            require("machines 1" in alpha.ask("alpha show"), "its client is still connected")
+        said = operator_says(here.folder / "two.operator", "alpha show")
+        require(said == "! unknown-tenant" and not (here.folder / "tenants.map.move").exists(), said)
+    with two_shards(program, LONGEST_PATIENCE) as here:
+        require(here.ask("alpha", "alpha machine m1 2")[0].endswith(" ok"), "a machine")
+        done = here.control("move", "alpha", "--to", "two")
+        require(done.returncode == 0, done)
+        until(lambda: here.serves("alpha"), "alpha is served again")
+        require("machines 1" in here.ask("alpha", "alpha show")[0], "its rows have come")
+        reply = operator_says(here.folder / "two.operator", "+ admit delta,2,0,9,0,0,0,5")
+        require(reply == "+ no 22 operator-row", reply)
+
+
 def is_listening(path: Path) -> bool:
     with socket.socket(socket.AF_UNIX) as tried:
         return tried.connect_ex(str(path)) == 0
@@ -741,7 +769,7 @@ CHECKS: list[Callable[[str], None]] = [
     told_meanwhile,
     late_rows,
 ]
-CHECKS += [killed_moves, killed_moves_by_lines, refused_moves, moves_of_replicas, leaders]
+CHECKS += [killed_moves, killed_moves_by_lines, refused_moves, refused_patience, moves_of_replicas, leaders]
 
 
 def main() -> int:

@@ -448,6 +448,9 @@ def wrong_replies_are_refused(options: Options) -> None:
     output = explained(options, stream)
     for what, other in wrong_replies(output):
         require_refused(stream, other, what)
+    admitted = Stream(b"tenant,nodes,arcs,life,spread,churn,remote,patience\n", b"+ admit b,2,0,1,0,0,0,3\n")
+    require(judge(admitted, b"+ ok admitted b\n") == "shown first: 0 of 0 rounds", "a patience")
+    require_refused(admitted._replace(roster=b"tenant,nodes,arcs,life,spread,churn\n"), b"+ ok admitted b\n", "one")
 
 
 def least_placements(tenant: Any, cost: int) -> Iterator[dict[str, Choice]]:

@@ -29,6 +29,7 @@ from explain import (
 )
 from harness import program
 from harness.checks import Check, Suite, require, run_script, run_suites
+from harness.service import EXTENDED_STATE_HEADING, STATE_HEADING
 
 NO_STATE = b""  # is what firm answers where no state has the rows
 NUMBER = re.compile(rb"(?<![\w-])\d+(?![\w-])")
@@ -53,9 +54,10 @@ def answered_alone(options: Options, found: bytes) -> bytes:
     """What firm answers to the round where it opens with the rows."""
     reply, *comments = found.splitlines()
     rows = [line[2:] for line in comments[: next(at for at, line in enumerate(comments) if b"# rows " in line)]]
-    state = [b"firm state 1", b"place admissions 1", *rows, b"rows %d" % (len(rows) + 1)]
+    heading = EXTENDED_STATE_HEADING if b" patience " in rows[0] else STATE_HEADING
+    state = [b"place admissions 1", *rows, b"rows %d" % (len(rows) + 1)]
     with tempfile.NamedTemporaryFile(prefix="firm-") as file:
-        file.write(b"\n".join(state) + b"\n")
+        file.write(heading + b"\n".join(state) + b"\n")
         file.flush()
         return program.run_words([options.firm, "--state", file.name], reply.split()[0] + b" round\n").output
 

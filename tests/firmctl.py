@@ -32,7 +32,7 @@ from front_kit import DAY, FIRMCTL, LIMIT_SECONDS, ROSTER, Viewer, front, http_a
 from harness import program, service
 from harness.checks import Check, Missed, Skipped, Suite, print_skipped, require, run_script, run_suites
 from harness.deployed import MOST_OF_USER, MOST_UNREAD, Book, Books, Doors, Firm, Follower
-from harness.deployed import feed, gets_reply, roster
+from harness.deployed import book_of, feed, gets_reply, roster, text_of
 from harness.ports import free_port
 from harness.program import ROOT
 from harness.small_streams import random_bad_roster, random_stream, with_noise
@@ -85,7 +85,7 @@ def books_of_stream(seed: int) -> None:
     draw = random.Random(seed)
     text_roster, text = random_stream(draw, 5)
     text = with_noise(draw, text) if seed % 2 else text
-    model = service.Service(service.read_roster(text_roster))
+    model = service.opened(text_roster)
     books, refusals, count = Books(), 0, 0
     books.start(text_roster)
     for raw, line in zip(text.split(b"\n"), service.lines_of(text)):
@@ -179,13 +179,21 @@ def books_of_long_waits() -> None:
 
 
 def books_of_a_patient_tenant() -> None:
-    """A wait is counted no further than the patience of an operator's line, which a record of the tenant has."""
+    """A wait is counted no further than the patience of an operator's line, which a record and the state of the tenant
+    have; where the line is refused there is no such tenant."""
     books = Books()
     books.start(ROSTER)
     record = "gamma,9,24,100,1,2,7,2"
+    books.replied(f"+ admit {record}".encode(), b"+ no 22 operator-row", None)
+    require("gamma" not in books.tenants and books.refusals["operator-row"] == 1, books.tenants)
+    books = Books()
+    books.start(firmd_kit.extended(ROSTER, roster.LONGEST_PATIENCE))
     books.replied(f"+ admit {record}".encode(), b"+ ok admitted gamma", None)
     book = books.tenants["gamma"]
     require((book.limits.row(), book.limits.patience) == (record, 2), book.limits)
+    for name, heading in (("gamma", "firm state 1 extended\n"), ("alpha", "firm state 1\n")):
+        text = text_of(books.tenants[name])
+        require(text.startswith(heading) and book_of(text).limits == books.tenants[name].limits, text)
     books.replied(b"gamma job j 5", b"gamma 1 ok", None)
     books.replied(b"gamma task j x", b"gamma 2 ok", None)
     for number, waited in enumerate([1, 2, 2, 2], 3):
@@ -210,14 +218,14 @@ def lines_give_the_same_rows(streams: range) -> None:
     for seed in streams:
         draw = random.Random(seed)
         text_roster, text = random_stream(draw, 5)
-        model = service.Service(service.read_roster(text_roster))
+        model = service.opened(text_roster)
         books = Books()
         books.start(text_roster)
         for line in service.lines_of(text):
             reply = service.answer_line(model, line)
             if reply is not None:
                 books.replied(line, reply, None)
-        fresh = service.Service({})
+        fresh = service.Service({}, model.is_extended)
         for name, book in books.tenants.items():
             require(
                 service.answer_line(fresh, f"+ admit {book.limits.row()}".encode()) == f"+ ok admitted {name}".encode(),

@@ -54,6 +54,7 @@ from firmd_kit import (
     check_alone,
     check_kept,
     converse,
+    extended,
     in_threads,
     memory_kilobytes,
     roster_of,
@@ -187,7 +188,7 @@ def books_at_once(setup: Setup) -> None:
     for seed in range(setup.seed, setup.seed + (40 if setup.is_quick else 400)):
         draw = random.Random(seed)
         roster, text = random_stream(draw, 5)
-        model = service.Service(service.read_roster(roster))
+        model = service.opened(roster)
         answers = [(line, service.answer_line(model, line)) for line in service.lines_of(text)]
         told = [(line, reply) for line, reply in answers if reply is not None]
         single, many = Books(), Books()
@@ -412,7 +413,10 @@ def one_daemon(setup: Setup) -> None:
         daemon.start().stop()
         require(not daemon.any.exists() and not (state / "view").exists(), "sockets are removed")
         (daemon.folder / "roster.csv").write_bytes(ROSTER.replace(b"beta", b"gamma"))
-        daemon.refuses(3, "changed-roster", "not the roster that the state began with")
+        daemon.refuses(3, "changed-roster", "not the roster that the state began with", "admit and retire tenants")
+        for patience in (5, service.LONGEST_PATIENCE):
+            (daemon.folder / "roster.csv").write_bytes(extended(ROSTER, patience))
+            daemon.refuses(3, "changed-roster", "a patience needs a new state")
         (daemon.folder / "roster.csv").unlink()
         daemon.refuses(3, "cannot read the roster", "No such file")
 

@@ -356,6 +356,12 @@ def roster_of(tenants: list[Tenant]) -> bytes:
     return HEADING + b"".join(b"%s,30,300,1000000000,1,2\n" % tenant.name.encode() for tenant in tenants)
 
 
+def extended(roster: bytes, patience: int) -> bytes:
+    """Return the roster with this patience for each tenant."""
+    heading, *rows = roster.splitlines()
+    return b"\n".join([heading + b",remote,patience", *(row + b",0,%d" % patience for row in rows), b""])
+
+
 def check_alone(setup: Setup, tenant: Tenant) -> None:
     """A tenant's replies, all of them told, are those of a firm that holds it alone."""
     own = [answered for answered in tenant.answered if not answered.reply.startswith(b"!")]

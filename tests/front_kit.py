@@ -51,7 +51,7 @@ class Front:
     def __init__(self, folder: str, roster_text: bytes = ROSTER, has_http: bool = False) -> None:
         self.state, self.has_http = Path(folder), has_http
         self.port = 0
-        self.model = service.Service(service.read_roster(roster_text))
+        self.model = service.opened(roster_text)
         self.books = Books()
         self.books.start(roster_text)
         self.status = Status(time.time() - 3700, os.getpid(), 3, 17, 2_500, 10_000, 2, 0)

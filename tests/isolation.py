@@ -27,11 +27,11 @@ from unittest.mock import Mock
 
 from firmd_disks import unread
 from firmd_kit import CHECKS_AT_A_TIME, FIRMD, REPLY_SECONDS, ROSTER, Client, Daemon, Gone, Setup, wait_for
-from harness import program
+from harness import program, service
 from harness.checks import Check, Suite, require, run_script, run_suites
 from harness.deployed import Books, Shown, Status, budgets, lanes
 from harness.program import ROOT
-from harness.small_streams import random_stream
+from harness.small_streams import random_stream, roster_of
 from hostile import PATIENT, patch, with_http
 
 STAND_IN = str(ROOT / "tests" / "stand_in_firm.py")
@@ -414,14 +414,16 @@ def streams(draw: random.Random, count: int) -> tuple[bytes, bytes]:
     """A roster, and random streams behind one another: the tenants of each take the place of those before."""
     roster, lines, names = b"", list[bytes](), set[bytes]()
     for number in range(count):
-        rows, text = random_stream(draw, 5)
-        tenants = rows.splitlines()[1:]
+        found, text = random_stream(draw, 5)
+        tenants = service.read_roster(found).values()
+        rows = [[tenant.name.encode(), *(b"%d" % limit for limit in tenant.limits)] for tenant in tenants]
         if number:
-            lines += [*(b"+ retire " + name for name in sorted(names)), *(b"+ admit " + row for row in tenants)]
+            lines += [b"+ retire " + name for name in sorted(names)]
+            lines += [b"+ admit " + b",".join(row) for row in rows]
         else:
-            roster = rows
+            roster = roster_of(rows, service.FULL_HEADING)
         lines += text.split(b"\n")
-        names |= {row.partition(b",")[0] for row in tenants} | {b"new", b"z"}  # which an operator of a stream admits
+        names |= {row[0] for row in rows} | {b"new", b"z"}  # which an operator of a stream admits
     return roster, b"".join(line + b"\n" for line in lines)
 
 

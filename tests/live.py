@@ -118,7 +118,7 @@ def line_by_line(starter: Starter, workers: str) -> None:
     options = starter.options
     for seed in range(options.first, options.first + options.streams):
         roster, text = random_stream(random.Random(seed))
-        plain = service.Service(service.read_roster(roster))
+        plain = service.opened(roster)
         with program.Roster(roster) as roster_path, starter.client(roster_path, workers) as client:
             replies: list[bytes] = []
             *lines, rest = text.split(b"\n")

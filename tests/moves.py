@@ -36,6 +36,7 @@ from firmd_kit import (
     Tenant,
     check_alone,
     converse,
+    extended,
     in_threads,
     roster_of,
     stand_in,
@@ -44,6 +45,7 @@ from firmd_kit import (
 from harness import program
 from harness.checks import Check, Skipped, Suite, require, run_script, run_suites
 from harness.deployed import service_states
+from harness.service import LONGEST_PATIENCE
 from journal_kit import tool
 from snapshot_kit import asked as asked_of_view
 
@@ -51,6 +53,7 @@ CHECKS_AT_A_TIME = 2
 ANSWER_SECONDS = 60.0
 STEPS = ("hold", "take", "give")
 SOON_SECONDS = 0.3  # in which a line that is not held would be answered
+PATIENCE = LONGEST_PATIENCE - 1
 Json = dict[str, Any]
 
 
@@ -144,12 +147,16 @@ def known(tasks: list[Json]) -> list[Json]:
 
 
 @contextmanager
-def pair(setup: Options, *options: str) -> Iterator[Pair]:
+def pair(setup: Options, *options: str, has_patience: tuple[bool, bool] = (False, False)) -> Iterator[Pair]:
+    """Start two services, each with a patience too long to matter, or with none."""
     draw = random.Random(setup.seed)
     tenants = {name: Tenant(name, draw.randrange(10**6)) for name in ("alpha", "beta", "gamma")}
+    rosters = [roster_of([tenants["alpha"], tenants["beta"]]), roster_of([tenants["gamma"]])]
     with ExitStack() as stack:
-        first = stack.enter_context(setup.daemon(*options, roster=roster_of([tenants["alpha"], tenants["beta"]])))
-        second = stack.enter_context(setup.daemon(*options, roster=roster_of([tenants["gamma"]])))
+        first, second = (
+            stack.enter_context(setup.daemon(*options, roster=extended(roster, PATIENCE) if has else roster))
+            for roster, has in zip(rosters, has_patience)
+        )
         yield Pair(setup, first.start(), second.start(), draw, tenants)
 
 
@@ -318,6 +325,54 @@ def refusals(setup: Options) -> None:
     with pair(setup, "--snapshot-lines", "0") as found:
         refused(found.here, "no-snapshots", "take", secrets.token_hex(8), state="")
         refused(found.there, "no-snapshots", "taken", secrets.token_hex(8))
+
+
+def takes_patience(daemon: Daemon) -> bool:
+    """Return whether a service admits a tenant with a patience, and retire it again."""
+    with Client(daemon.operator) as client:
+        reply = client.ask(b"+ admit delta,2,0,9,0,0,0,5")
+        require(reply in (b"+ ok admitted delta", b"+ no 22 operator-row"), reply)
+        is_taken = reply.startswith(b"+ ok")
+        require(not is_taken or client.ask(b"+ retire delta") == b"+ ok retired delta", "it is retired")
+    return is_taken
+
+
+def patience_is_refused(setup: Options) -> None:
+    """A service without patience refuses a tenant with one by name, before anything changes."""
+    with pair(setup, "--snapshot-lines", "40", has_patience=(True, False)) as found:
+        found.speak_all()
+        before = sorted((path, path.stat().st_mtime_ns) for path in found.there.state.rglob("*") if path.is_file())
+        move = secrets.token_hex(8)
+        state = done(found.here, "hold", move)["state"]
+        require(state.startswith("firm state 1 extended\n") and f" patience {PATIENCE} " in state, state)
+        refused(found.there, "no-patience", "take", move, state=state)
+        after = sorted((path, path.stat().st_mtime_ns) for path in found.there.state.rglob("*") if path.is_file())
+        require(before == after, f"{set(before) ^ set(after)}")
+        require(done(found.there, "taken", move) == {"taken": False}, "not taken")
+        done(found.here, "release", move)
+        found.speak_all()
+        found.judge()
+        require((takes_patience(found.here), takes_patience(found.there)) == (True, False), "another heading")
+
+
+def patience_moves(setup: Options) -> None:
+    """A tenant with a patience moves between services that have one, one without anywhere; no move or restart changes
+    whether a service accepts a patience."""
+    for has_patience in ((True, True), (False, True)):
+        with pair(setup, "--snapshot-lines", "40", has_patience=has_patience) as found:
+            wanted = list(zip((found.here, found.there), has_patience))
+            for _ in range(2):
+                found.speak_all()
+                go(found)
+                for daemon, has in wanted:
+                    require(takes_patience(daemon) == has, "another heading behind a move")
+                    daemon.kill()
+                    daemon.start()
+                    require(takes_patience(daemon) == has, "another heading behind a start")
+            found.speak_all()
+            found.judge()
+            state = done(found.here, "hold", secrets.token_hex(8))["state"]
+            require((f" patience {PATIENCE} " in state) == has_patience[0], state)
 
 
 # In the place of firm_state: it tells that it was asked, and goes on once a file has gone.
@@ -596,6 +651,8 @@ QUICK: list[Callable[[Options], None]] = [
     held,
     paused,
     refusals,
+    patience_is_refused,
+    patience_moves,
     named_meanwhile,
     no_place,
     killed,

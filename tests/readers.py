@@ -474,7 +474,7 @@ def shown_after_gaps(setup: Setup) -> None:
         if setup.is_quick and number >= 4 and gaps > 0:
             break
         roster, text = random_stream(draw, 5)
-        model = service.Service(service.read_roster(roster))
+        model = service.opened(roster)
         told = [(line, service.answer_line(model, line)) for line in service.lines_of(text)]
         # firm takes one CR from the end of a line, as was done here before.
         lines = [line + b"\r" if line.endswith(b"\r") else line for line, reply in told if reply is not None]
@@ -605,7 +605,7 @@ def told_by_feed(setup: Setup) -> None:
     for seed in range(setup.seed, setup.seed + (100 if setup.is_quick else 3_000)):
         draw = random.Random(seed)
         roster, text = random_stream(draw, 5)
-        model = service.Service(service.read_roster(roster))
+        model = service.opened(roster)
         answers = [(line, service.answer_line(model, line)) for line in service.lines_of(text)]
         told = [(line, reply) for line, reply in answers if reply is not None]
         pair = Told(draw, roster)

@@ -19,7 +19,7 @@ from collections import Counter
 from collections.abc import Callable
 from concurrent.futures import ThreadPoolExecutor
 from contextlib import suppress
-from dataclasses import dataclass
+from dataclasses import dataclass, replace
 from functools import partial
 from pathlib import Path
 
@@ -29,6 +29,7 @@ from firmd_kit import HEADING, ROSTER, Client, Daemon, Gone, Setup, Tenant, in_t
 from harness import program
 from harness.checks import Check, Suite, require, run_script, run_suites
 from harness.deployed import Limits, archive, extent, kept_books, records, service_states, snapshots
+from harness.service import LONGEST_PATIENCE
 from journal_kit import QUESTIONS, ROUNDS, ask_all, tool
 from snapshot_kit import (
     LINES,
@@ -745,6 +746,55 @@ def moves(setup: Options) -> None:
             new.stop()
 
 
+def patience(setup: Options) -> None:
+    """Snapshots and restored states keep whether a service accepts a patience, by their first line. A snapshot with
+    another one than the service's is reported and not used."""
+    comes = [b"+ admit gamma,30,300,1000,1,2,0,2", b"gamma job j 5", b"gamma task j t", *[b"gamma round"] * 4]
+    asked = [b"gamma round", b"gamma costs", b"+ admit delta,2,0,9,0,0,0,7", b"+ retire delta"]
+    for roster in (ROSTER, firmd_kit.extended(ROSTER, LONGEST_PATIENCE)):
+        with setup.daemon("--snapshot-lines", "20", roster=roster) as daemon:
+            said: list[bytes] = []
+
+            def goes_on(lines: list[bytes]) -> None:
+                said.extend(lines)
+                replies, wanted = ask_all(daemon, lines), setup.alone(roster, text_of(said))[-len(lines) :]
+                require(replies == wanted, f"other replies: {replies}, and not {wanted}")
+
+            daemon.start()
+            goes_on([*ROUNDS, *comes, *[b"alpha show"] * 30])
+            has_snapshots(daemon, 1)
+            daemon.kill()
+            daemon.start()
+            require(replayed(daemon) < daemon.journal().count(b"\n"), f"{replayed(daemon)} lines")
+            goes_on(asked)
+            daemon.stop()
+            state = tool("state", daemon.state).encode()
+            require(service_states.is_extended(state) == (roster != ROSTER), state[:40])
+            begins_with_patience(setup, b"firm state 1 extended\n" + state.partition(b"\n")[2])
+            folder = daemon.state / "snapshots"
+            for segment in named(daemon):
+                kept = snapshots.read(folder, segment)
+                heading, _, rows = kept.state.partition(b"\n")
+                other = b"firm state 1" if heading == b"firm state 1 extended" else b"firm state 1 extended"
+                snapshots.write(folder, replace(kept, state=other + b"\n" + rows))
+            daemon.start()
+            require(b"has another heading than" in daemon.said(), daemon.said())
+            require(replayed(daemon) == daemon.journal().count(b"\n"), f"{replayed(daemon)} lines")
+            goes_on(asked)
+            daemon.stop()
+
+
+def begins_with_patience(setup: Options, state: bytes) -> None:
+    """A service restored from an extended state accepts a patience."""
+    with setup.daemon() as other:
+        path = other.folder / "begun"
+        path.write_bytes(state)
+        begin_with(other, path)
+        replies = ask_all(other, [b"+ admit epsilon,2,0,9,0,0,0,7", b"+ retire epsilon"])
+        require(replies == [b"+ ok admitted epsilon", b"+ ok retired epsilon"], replies)
+        other.stop()
+
+
 SHORT = [
     folds,
     hangs,
@@ -763,6 +813,7 @@ SHORT = [
     changes_over,
     firms_hang,
     restores,
+    patience,
 ]
 
 

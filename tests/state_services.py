@@ -49,7 +49,7 @@ OF_EIGHT = Served(
     b"gamma show\n",
     UNKNOWN,
     b"""\
-firm state 1
+firm state 1 extended
 place admissions 1
 tenant alpha nodes 9 arcs 24 life 100 spread 1 churn 2 remote 7 patience 0 commands 0
 costs
@@ -194,9 +194,7 @@ ADMISSIONS = Served(
     b"+ admit -,2,0,1,0,0\n"
     b"+ admit --,2,0,1,0,0,7\n"
     b"+ admit abcdefghijklmnop,4096,65536,1099511627776,1000,1000000,1000000\n"
-    b"+ admit f,3,2,5,0,1,7,0\n"
-    b"+ admit g,3,2,5,0,1,7,04\n"
-    b"+ admit h,3,2,5,0,1,7,1000000\n",
+    b"+ admit f,3,2,5,0,1,7,0\n",
     b"""\
 + ok admitted b
 + ok admitted c
@@ -205,9 +203,7 @@ ADMISSIONS = Served(
 + ok admitted -
 + ok admitted --
 + ok admitted abcdefghijklmnop
-+ ok admitted f
-+ ok admitted g
-+ ok admitted h
++ no 22 operator-row
 """,
     b"""\
 firm state 1
@@ -235,6 +231,29 @@ costs
 place admissions 1
 tenant abcdefghijklmnop nodes 4096 arcs 65536 life 1099511627776 spread 1000 churn 1000000 remote 1000000 commands 0
 costs
+rows 24
+""",
+)
+
+ADMISSIONS_WITH_PATIENCE = Served(
+    HEADING_OF_EIGHT + b"a,2,0,1,0,0,0,1000000\n",
+    b"+ admit f,3,2,5,0,1,7,0\n"
+    b"+ admit g,3,2,5,0,1,7,04\n"
+    b"+ admit h,3,2,5,0,1,7,1000000\n"
+    b"+ admit i,3,2,5,0,1,7\n"
+    b"+ admit j,3,2,5,0,1,7,1000001\n",
+    b"""\
++ ok admitted f
++ ok admitted g
++ ok admitted h
++ ok admitted i
++ no 24 operator-number
+""",
+    b"""\
+firm state 1 extended
+place admissions 1
+tenant a nodes 2 arcs 0 life 1 spread 0 churn 0 remote 0 commands 0
+costs
 place admissions 1
 tenant f nodes 3 arcs 2 life 5 spread 0 churn 1 remote 7 patience 0 commands 0
 costs
@@ -244,8 +263,37 @@ costs
 place admissions 1
 tenant h nodes 3 arcs 2 life 5 spread 0 churn 1 remote 7 commands 0
 costs
-rows 33
+place admissions 1
+tenant i nodes 3 arcs 2 life 5 spread 0 churn 1 remote 7 commands 0
+costs
+rows 15
 """,
+)
+
+# It stays extended once nobody has a patience, or is there; a plain one takes none, whatever its tenants are.
+NOBODY_LEFT = Served(
+    HEADING_OF_EIGHT + b"a,2,0,1,0,0,0,5\n",
+    b"+ retire a\n",
+    b"+ ok retired a\n",
+    b"firm state 1 extended\nplace admissions 1\nrows 1\n",
+)
+PATIENCE_COMES = Served(
+    NOBODY_LEFT.state,
+    b"+ admit a,2,0,1,0,0,0,3\n",
+    b"+ ok admitted a\n",
+    b"""\
+firm state 1 extended
+place admissions 2
+tenant a nodes 2 arcs 0 life 1 spread 0 churn 0 remote 0 patience 3 commands 0
+costs
+rows 3
+""",
+)
+PATIENCE_IS_REFUSED = Served(
+    b"firm state 1\nplace admissions 1\nrows 1\n",
+    b"+ admit a,2,0,1,0,0,0,3\n+ admit a,2,0,1,0,0,0,1000000\n+ admit ,,,,,,,\n",
+    b"+ no 22 operator-row\n" * 3,
+    b"firm state 1\nplace admissions 1\nrows 1\n",
 )
 
 # Two of three tasks run by the first round; the second leaves the third waiting, which would cost 3 to exchange.
@@ -323,7 +371,7 @@ alpha 8 ok round cost 3
 alpha 9 ok round cost 3
 """,
     b"""\
-firm state 1
+firm state 1 extended
 place admissions 1
 tenant alpha nodes 9 arcs 30 life 100 spread 0 churn 2 remote 0 patience 2 commands 9
 costs 1 2 3 3 3
@@ -517,6 +565,10 @@ SERVED = {
     "commands that remove": COMMANDS_THAT_REMOVE,
     "preferences": PREFERENCES,
     "admissions": ADMISSIONS,
+    "admissions with a patience": ADMISSIONS_WITH_PATIENCE,
+    "nobody left": NOBODY_LEFT,
+    "a patience comes": PATIENCE_COMES,
+    "a patience is refused": PATIENCE_IS_REFUSED,
     "two rounds": TWO_ROUNDS,
     "equals": EQUALS,
     "equals, from their state": EQUALS_GO_ON,

@@ -14,9 +14,11 @@ class StateFault(NamedTuple):
     line: int
 
 
+HEADING, EXTENDED_HEADING = b"firm state 1\n", b"firm state 1 extended\n"
+
 # The lines of a state. Its tenant takes 7 nodes and 13 arcs, and 7 commands at least.
 LINES = [
-    b"firm state 1\n",
+    HEADING,
     b"place admissions 1\n",
     b"tenant a nodes 8 arcs 20 life 100 spread 1 churn 2 remote 7 commands 9\n",
     b"costs 5 12\n",
@@ -30,7 +32,7 @@ LINES = [
 STATE = b"".join(LINES)
 
 OF_PATIENCE = b"""\
-firm state 1
+firm state 1 extended
 place admissions 1
 tenant a nodes 9 arcs 0 life 1 spread 0 churn 0 remote 0 patience 0 commands 0
 costs
@@ -70,13 +72,25 @@ def with_line(number: int, line: bytes) -> bytes:
     return b"".join([*LINES[: number - 1], line, *LINES[number:]])
 
 
-# The number of a line, what stands there instead, and the first fault, by the numbers of docs/FORMATS.md.
-CHANGES = [
+# The number of a line, what stands there instead, and the first fault, if any, by the numbers of docs/FORMATS.md.
+CHANGES: list[tuple[int, bytes, StateFault | None]] = [
     (1, b"", StateFault(1, 1)),
     (1, b"firm state 2\n", StateFault(1, 1)),
     (1, b"firm state 1 \n", StateFault(1, 1)),
     (1, b"firm state 1\r\n", StateFault(1, 1)),
     (1, b"firm state 1\n\n", StateFault(2, 2)),
+    (1, EXTENDED_HEADING, None),
+    (1, b"firm state 1 extended \n", StateFault(1, 1)),
+    (1, b"firm state 1  extended\n", StateFault(1, 1)),
+    (1, b"firm state 1 extended\r\n", StateFault(1, 1)),
+    (1, b"firm state 1 extend\n", StateFault(1, 1)),
+    (1, b"firm state 1 plain\n", StateFault(1, 1)),
+    (1, b"firm state 1 extended extended\n", StateFault(1, 1)),
+    (1, b"firm state 2 extended\n", StateFault(1, 1)),
+    (1, b"firm state extended 1\n", StateFault(1, 1)),
+    (1, b"firm state 1\nextended\n", StateFault(2, 2)),
+    (1, EXTENDED_HEADING + b"\n", StateFault(2, 2)),
+    (1, EXTENDED_HEADING + HEADING, StateFault(2, 2)),
     (2, b"", StateFault(2, 2)),
     (2, b"place admissions 0\n", StateFault(4, 2)),
     (2, b"place admissions 32769\n", StateFault(4, 2)),
@@ -107,11 +121,6 @@ CHANGES = [
     (3, b"tenant a nodes 8 arcs 20 life 9 spread 1 churn 2 remote 7 commands 6\n", StateFault(11, 9)),
     (3, b"tenant a nodes 6 arcs 20 life 9 spread 1 churn 2 remote 7 commands 9\n", StateFault(9, 9)),
     (3, b"tenant a nodes 8 arcs 12 life 9 spread 1 churn 2 remote 7 commands 9\n", StateFault(10, 9)),
-    (3, b"tenant a nodes 8 arcs 20 life 9 spread 1 churn 2 remote 7 patience 1000000 commands 9\n", StateFault(2, 3)),
-    (3, b"tenant a nodes 8 arcs 20 life 9 spread 1 churn 2 remote 7 patience 1000001 commands 9\n", StateFault(4, 3)),
-    (3, b"tenant a nodes 8 arcs 20 life 9 spread 1 churn 2 remote 7 patience commands 9\n", StateFault(4, 3)),
-    (3, b"tenant a nodes 8 arcs 20 life 9 spread 1 churn 2 remote 7 commands 9 patience 3\n", StateFault(2, 3)),
-    (3, b"tenant a nodes 8 arcs 20 life 9 spread 1 churn 2 remote 7 patience 1 commands 9\n", StateFault(4, 9)),
     (4, b"", StateFault(2, 4)),
     (4, b"costs\n", StateFault(15, 8)),
     (4, b"costs 5 12\ncosts 5 12\n", StateFault(2, 5)),
@@ -177,6 +186,25 @@ CHANGES = [
     (9, b"\n", StateFault(2, 9)),
 ]
 
+# How the tenant's row ends in the place of `remote 7 commands 9`, and the first fault, if any, in an extended state and
+# in a plain one.
+PATIENCES: list[tuple[bytes, StateFault | None, StateFault]] = [
+    (b"remote 7 patience 2 commands 9", None, StateFault(2, 3)),
+    (b"remote 7 patience 999999 commands 9", None, StateFault(2, 3)),
+    (b"remote 7 patience 1 commands 9", StateFault(4, 9), StateFault(2, 3)),
+    (b"remote 7 patience 1000000 commands 9", StateFault(2, 3), StateFault(2, 3)),
+    (b"remote 7 patience 03 commands 9", StateFault(2, 3), StateFault(2, 3)),
+    (b"remote 7 patience 1000001 commands 9", StateFault(4, 3), StateFault(2, 3)),
+    (b"remote 7 patience commands 9", StateFault(4, 3), StateFault(4, 3)),
+    (b"remote 7 commands 9 patience 3", StateFault(2, 3), StateFault(2, 3)),
+    (b"patience 3 remote 7 commands 9", StateFault(2, 3), StateFault(2, 3)),
+]
+
+
+def of_patience(heading: bytes, words: bytes) -> bytes:
+    """The state with this heading, and with these words at the end of the tenant's row."""
+    return STATE.replace(HEADING, heading).replace(b"remote 7 commands 9", words)
+
 
 def after_commands(number: int, cost: int) -> bytes:
     """The state after so many commands, where the last round cost this."""
@@ -214,6 +242,8 @@ def of_places(count: int) -> bytes:
 # Texts, each with its first fault, or None where it is a state.
 TEXTS: list[tuple[bytes, StateFault | None]] = [
     *((with_line(number, line), fault) for number, line, fault in CHANGES),
+    *((of_patience(EXTENDED_HEADING, words), fault) for words, fault, _ in PATIENCES),
+    *((of_patience(HEADING, words), fault) for words, _, fault in PATIENCES),
     (STATE, None),
     (of_places(0), StateFault(12, 2)),
     (of_places(1), None),

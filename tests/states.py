@@ -22,11 +22,13 @@ from typing import Iterator, NamedTuple, Sequence
 
 import faults
 import worked
-from harness import kinds, program
+from harness import kinds, program, service
 from harness.checks import Check, Missed, Suite, require, run_script, run_suites
 from harness.small_streams import random_stream, with_noise
 from state_services import SERVED
-from state_texts import STATE, TEXTS, StateFault
+from state_texts import EXTENDED_HEADING, HEADING, STATE, TEXTS, StateFault
+from statuses import HEADING_OF_EIGHT
+from statuses import HEADING as HEADING_OF_SIX
 
 FIRM_STATE = program.built("firm_state")
 WORKERS = ("1", "2", "8")
@@ -102,8 +104,8 @@ def state_after(options: Options, words: list[str], lines: bytes) -> bytes:
     return output_of([options.state, *words], lines)
 
 
-def goes_on(options: Options, cut: Cut, workers: Sequence[str]) -> None:
-    """The replies from the state are the rest of those of the whole, and so are the reasons of the rounds."""
+def goes_on(options: Options, cut: Cut, workers: Sequence[str]) -> bytes:
+    """Require that the replies, and reasons, from the state are the rest of the whole's; return the state."""
     with Folder() as folder:
         roster = ["--roster", folder.file("roster.csv", cut.roster)]
         whole = output_of([options.firm, *roster], cut.lines + cut.more)
@@ -123,6 +125,7 @@ def goes_on(options: Options, cut: Cut, workers: Sequence[str]) -> None:
         require(before + behind == output_of([options.explain, *roster], cut.lines + cut.more), "other reasons")
         require(first + worked.without_reasons(behind) == whole, "other replies beside reasons")
         require(behind.count(b"\n# least: ") == behind.count(b" ok round "), "a round without reasons")
+    return written
 
 
 def random_cut(seed: int) -> Cut:
@@ -132,10 +135,14 @@ def random_cut(seed: int) -> Cut:
 
 
 def random_streams(options: Options, count: int) -> None:
-    """Random streams of tenants that come and go, with bad lines, each cut at a random line."""
+    """Random streams of tenants that come and go, with bad lines, each cut at a random line; states are the model's."""
     for seed in range(count):
+        cut = random_cut(seed)
+        model = service.opened(cut.roster)
+        for line in service.lines_of(cut.lines):
+            service.answer_line(model, line)
         try:
-            goes_on(options, random_cut(seed), WORKERS)
+            require(goes_on(options, cut, WORKERS) == service.state_of(model), "another state than the model's")
         except Missed as missed:
             raise Missed(f"seed {seed}: {missed}") from None
 
@@ -158,8 +165,8 @@ def kind_goes_on(options: Options, kind: str) -> None:
 def cut_at_each_line(options: Options, names: Sequence[str]) -> None:
     """Services of tests/services that are cut before each of their lines; the last line has no end."""
     for name in names:
-        service = worked.read_service(worked.SERVICES / f"{name}.txt")
-        for cut in cuts_of(service.roster, service.text().removesuffix(b"\n")):
+        played = worked.read_service(worked.SERVICES / f"{name}.txt")
+        for cut in cuts_of(played.roster, played.text().removesuffix(b"\n")):
             try:
                 goes_on(options, cut, WORKERS)
             except Missed as missed:
@@ -251,9 +258,9 @@ def changed(old: bytes, new: bytes) -> bytes:
     return WORKED.replace(old, new)
 
 
-def with_rows(rows: Sequence[bytes]) -> bytes:
+def with_rows(rows: Sequence[bytes], heading: bytes = HEADING) -> bytes:
     """The text of a state of these rows."""
-    return b"".join(line + b"\n" for line in [b"firm state 1", *rows, b"rows %d" % len(rows)])
+    return heading + b"".join(line + b"\n" for line in [*rows, b"rows %d" % len(rows)])
 
 
 ROWS = WORKED.splitlines()[1:-1]
@@ -371,9 +378,7 @@ def is_cut_to_all(options: Options, state: bytes) -> None:
 def served_states(options: Options) -> None:
     """Services write the replies of the table, and leave its states, which are read and written as they stand."""
     for name, served in SERVED.items():
-        with Folder() as folder:
-            opening = "--state" if served.opening.startswith(b"firm state") else "--roster"
-            words = [opening, folder.file("opening", served.opening)]
+        with program.opening(served.opening) as words:
             written, state = output_of([options.firm, *words], served.lines), state_after(options, words, served.lines)
         require(written == served.replies, f"{name}: {written[-400:]!r}")
         require(state == served.state, f"{name}: {state!r}")
@@ -427,6 +432,11 @@ def cut_states(options: Options, count: int) -> None:
         wanted = StateFault(13, 1 + max(1, front.count(b"\n"))) if b"firm state 1" in front else StateFault(1, 1)
         found = fault_of(options, front, by_firm_state_alone=place not in told_alike)
         require(found == wanted, f"{place}: {found}, and not {wanted}")
+    for place in range(len(HEADING), len(EXTENDED_HEADING) + 1):
+        front = EXTENDED_HEADING[:place]
+        wanted = StateFault(13, 2) if front.rstrip() == EXTENDED_HEADING.rstrip() else StateFault(1, 1)
+        found = fault_of(options, front)
+        require(found == wanted, f"{front!r}: {found}, and not {wanted}")
 
 
 def changed_states(options: Options, count: int) -> None:
@@ -451,6 +461,26 @@ def changed_state(options: Options, seed: int) -> bytes:
     else:
         lines[place], lines[-1 - place] = lines[-1 - place], lines[place]
     return b"".join(lines)
+
+
+def plain_and_extended(options: Options) -> None:
+    """Joined states are extended if any of them is, and so is each part; lines are judged before the join."""
+    one, other, both = small_tenant(b"a"), small_tenant(b"b"), [*small_tenant(b"a"), *small_tenant(b"b")]
+    for first, second in product((HEADING, EXTENDED_HEADING), repeat=2):
+        heading = EXTENDED_HEADING if EXTENDED_HEADING in (first, second) else HEADING
+        with Folder() as folder:
+            merged = ["--merge", folder.file("other", with_rows(other, second))]
+            opened = ["--state", folder.file("one", with_rows(one, first)), *merged]
+            joined = state_after(options, opened, b"")
+            require(joined == with_rows(both, heading), joined)
+            left = part_of(options, folder.file("joined", joined), [b"a"])
+            require(left == with_rows([*one, b"place admissions 1"], heading), left)
+            comes = state_after(options, opened, b"+ admit c,2,0,1,0,0,0,3\n")
+            require((b"tenant c" in comes) == (first == EXTENDED_HEADING), comes)
+            rosters = {EXTENDED_HEADING: HEADING_OF_EIGHT + b"a,2,0,1,0,0,0,1000000\n"}
+            roster = rosters.get(first, HEADING_OF_SIX + b"a,2,0,1,0,0\n")
+            found = state_after(options, ["--roster", folder.file("roster.csv", roster), *merged], b"")
+            require(found == joined, found)
 
 
 def joins_are_refused(options: Options) -> None:
@@ -556,6 +586,7 @@ def checks(options: Options) -> dict[str, Check]:
         "cut states": partial(cut_states, options, 20),
         "changed states": partial(changed_states, options, 40 if quick else 2000),
         "refused memory": partial(refused_memory, options, 5 if quick else 1),
+        "plain and extended": partial(plain_and_extended, options),
         "joins that are refused": partial(joins_are_refused, options),
         "parts": partial(parts_are_whole, options, 20 if quick else 1000),
         "random streams": partial(random_streams, options, 40 if quick else 10_000),

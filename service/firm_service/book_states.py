@@ -7,19 +7,19 @@ from dataclasses import fields, replace
 
 from .books import Book, Task
 from .kept_books import read_books, rows_of
-from .roster import LONGEST_PATIENCE
-from .states import TenantRows
+from .states import EXTENDED_HEADING, HEADING, TenantRows
 
 
 def text_of(book: Book) -> str:
-    """The state of a service that has this tenant alone, at the first place."""
+    """The state of a service that has this tenant alone, at the first place; it is extended if the tenant needs it."""
+    heading = EXTENDED_HEADING if book.limits.has_patience else HEADING
     rows = ["place admissions 1", *rows_in(rows_of(book))]
-    return "\n".join(["firm state 1", *rows, f"rows {len(rows)}", ""])
+    return heading.decode() + "\n".join([*rows, f"rows {len(rows)}", ""])
 
 
 def rows_in(tenant: TenantRows) -> Iterator[str]:
     limits = tenant.limits
-    named = fields(limits)[1:] if limits.patience < LONGEST_PATIENCE else fields(limits)[1:-1]
+    named = fields(limits)[1:] if limits.has_patience else fields(limits)[1:-1]
     numbers = (f"{field.name} {getattr(limits, field.name)}" for field in named)
     yield " ".join(["tenant", limits.tenant, *numbers, "commands", str(tenant.commands)])
     yield " ".join(["costs", *map(str, tenant.costs)])

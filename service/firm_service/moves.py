@@ -8,7 +8,8 @@ the move, by a name that no other move has:
         state is this. It stays so over restarts, by the file `moving` or etcd's key, until `give` or `release`.
     {"ask": "pause", "tenant": T, "move": M} -> {"number": N}: the same without its state, for one who carries its rows;
         N is that of its last reply.
-    {"ask": "take", "tenant": T, "move": M, "state": TEXT} -> {}: the tenant is here, and stays.
+    {"ask": "take", "tenant": T, "move": M, "state": TEXT} -> {}: the tenant is here, and stays. One with a patience is
+        refused by a service whose roster has none (`no-patience`).
     {"ask": "taken", "tenant": T, "move": M} -> {"taken": BOOL}: whether it has come by this move. After false it never
         will.
     {"ask": "give", "tenant": T, "move": M} -> {}: it is retired here, as it has come elsewhere.
@@ -53,7 +54,7 @@ from .rounds import Rounds
 from .snapshots import Snapshot, Unusable, opening_of
 from .snapshotting import Change, Snapshots
 from .state import State
-from .states import Opening, Part, StateError, TenantRows, digest, fold, state_file, tenants_of
+from .states import Opening, Part, StateError, TenantRows, digest, fold, plain, state_file, tenants_of
 from .stream import Stopping, Stream
 
 if TYPE_CHECKING:
@@ -386,11 +387,12 @@ class Moves:
             raise Refused("refused", "this move has been given up")
         if tenant.encode() in self._parts.register:
             raise Refused("tenant-exists", f"there is a tenant {tenant} already")
+        part = part_for(state, asked, text)
         snapshot = self._snapshots.last()
         if self._is_far(snapshot, tenant.encode()):
             snapshot = self._snapshots.behind_all()
         former = former_of(state, snapshot, self._parts.shared is not None)
-        joined, merged, book = joined_of(asked, former, text)
+        joined, merged, book = joined_of(asked, former, part)
         commit = partial(self._require_silent, tenant.encode())
         on_switch = partial(self._join, book)
         self._snapshots.join(joined, merged, Change(joined.opening(self._folder), former.base, commit, on_switch))
@@ -432,6 +434,18 @@ def speaks_of(found: Found, tenant: bytes) -> bytes | None:
     return None
 
 
+def part_for(state: State, asked: Held, text: bytes) -> bytes:
+    """Return the tenant's state with the heading of this service, which no move changes; raise `Refused`."""
+    rows = tenants_of(text)
+    if [tenant.limits.tenant for tenant in rows] != [asked.tenant]:
+        raise Refused("bad-state", f"the state is not that of {asked.tenant} alone")
+    if state.is_extended:
+        return text
+    if rows[0].limits.has_patience:
+        raise Refused("no-patience", f"{asked.tenant} has a patience, and the roster of this service has none")
+    return plain(text)
+
+
 class Former(NamedTuple):
     """What a service goes on from before a tenant joins it."""
 
@@ -460,8 +474,6 @@ def former_of(state: State, snapshot: Snapshot | None, is_replica: bool) -> Form
 def joined_of(asked: Held, former: Former, part: bytes) -> tuple[Joined, bytes, Book]:
     """What it goes on from then, the state's text, and the tenant's book."""
     rows = tenants_of(part)
-    if [tenant.limits.tenant for tenant in rows] != [asked.tenant]:
-        raise Refused("bad-state", f"the state is not that of {asked.tenant} alone")
     with state_file(part) as one:
         text = fold(former.opening, (), Part(merged=(one.path,)))
     if by_name(tenants_of(text)) != by_name(former.rows + rows):

@@ -36,10 +36,15 @@ class Limits:
         """From the fields of a record that firm has accepted."""
         return cls(fields[0], *map(int, fields[1:]))
 
+    @property
+    def has_patience(self) -> bool:
+        """Whether the tenant's patience is not the default; only extended services allow that."""
+        return self.patience < LONGEST_PATIENCE
+
     def row(self) -> str:
         """The record, as a roster with `remote` and an operator's line have it; the longest patience is left out."""
         fields = astuple(self)
-        return ",".join(map(str, fields if self.patience < LONGEST_PATIENCE else fields[:-1]))
+        return ",".join(map(str, fields if self.has_patience else fields[:-1]))
 
 
 RANGES = {
@@ -92,6 +97,12 @@ def records_of(data: bytes) -> Iterator[Record]:
         if fields:
             yield Record(line, fields)
         line = reader.line_num + 1
+
+
+def is_extended(data: bytes) -> bool:
+    """Return whether the heading has a patience, so that operators may set it too."""
+    heading = next(records_of(data[:MOST_BYTES]), None)  # the csv module refuses longer fields
+    return heading is not None and heading.fields == FULL_HEADING
 
 
 def faults_of_fields(record: Record) -> Iterator[Fault]:

@@ -24,7 +24,7 @@ from .files import PRIVATE, make_folder, replace_synced, require_room
 from .records import Base, sealed
 from .recovery import extent_path, read_header, segment_path
 from .state import StateFolder
-from .states import Opening, digest
+from .states import Opening, digest, is_extended
 
 VERSION = 1
 KIND = b"firm-snapshot %d" % VERSION
@@ -135,6 +135,8 @@ def of_journal(state: StateFolder, segment: int) -> Snapshot:
         raise Unusable(f"{path} is not what follows the snapshot {segment:08}: that is of another journal")
     if snapshot.roster != state.roster_sum:
         raise Unusable(f"the snapshot {segment:08} is of a service that began with other tenants")
+    if is_extended(snapshot.state) != state.is_extended:
+        raise Unusable(f"the snapshot {segment:08} has another heading than {state.opening.path}")
     return snapshot
 
 

@@ -15,6 +15,7 @@ from dataclasses import dataclass
 from pathlib import Path
 from zlib import crc32
 
+from . import roster, states
 from .faults import RESTORE, Exit, Fault, reason
 from .files import PRIVATE, replace_synced, sync_folder, write_synced
 from .joined import Joined, require_same
@@ -53,7 +54,8 @@ class StateFolder:
         self.id_path, self.restored_path, self.snapshots_path = folder / ID, folder / RESTORED, folder / SNAPSHOTS
         self.had_roster = self.first.path.exists()  # so a start came as far as the journal
         self.joined = read_joined(folder)  # what it goes on from, if a tenant has joined it
-        self.roster_sum = 0  # of what it began with, or goes on from since a tenant has joined it, once that is read
+        # Checksum of the opening, once that is read, and whether it lets tenants have a patience.
+        self.roster_sum, self.is_extended = 0, False
         self.id = self._read_id()  # None before the first start is through
 
     @property
@@ -82,12 +84,17 @@ class StateFolder:
         text = read(self.opening)
         if self.joined is not None:
             require_same(self.joined, text, self.opening.path)
-        self.roster_sum = crc32(text)
+        self._know(text)
         return text
 
     def go_on_from(self, joined: Joined, text: bytes) -> None:
         """Takes in that a tenant has joined it."""
-        self.joined, self.roster_sum = joined, crc32(text)
+        self.joined = joined
+        self._know(text)
+
+    def _know(self, text: bytes) -> None:
+        """Note the opening's checksum and heading."""
+        self.roster_sum, self.is_extended = crc32(text), is_extended(self.opening, text)
 
     @property
     def is_of_today(self) -> bool:
@@ -122,7 +129,7 @@ class State(StateFolder):
         text = self._choose(given, firm) if common is None else self._take(common, given, firm)
         if self.joined is not None:
             return self.read_opening()
-        self.roster_sum = crc32(text)
+        self._know(text)
         return text
 
     def keep_id(self, name: str) -> None:
@@ -147,11 +154,11 @@ class State(StateFolder):
             self._keep(text, given, firm)
         elif kept != text:
             what = kind_of(given.is_state)
-            raise Fault(
-                Exit.ROSTER,
-                f"changed-{what}: {given.path} is not the {what} that the state began with, {self.first.path};"
-                " admit and retire tenants with the operator's lines, or begin a new state",
-            )
+            cure = "admit and retire tenants with the operator's lines, or begin a new state"
+            if is_extended(given, text) and not is_extended(self.first, kept):
+                cure = "a patience needs a new state: see 'Move a tenant, back up' in docs/OPERATING.md"
+            told = f"changed-{what}: {given.path} is not the {what} that the state began with, {self.first.path}"
+            raise Fault(Exit.ROSTER, f"{told}; {cure}")
         return text
 
     def _take(self, common: Beginning, given: Opening | None, firm: Sequence[str]) -> bytes:
@@ -207,6 +214,11 @@ def try_opening(opening: Opening, given: Path, firm: Sequence[str]) -> None:
         raise Fault(Exit.ROSTER, f"{given}: {said}")
     if done.returncode:
         raise Fault(Exit.FIRM, f"firm ended with status {done.returncode}, and said: {said}")
+
+
+def is_extended(opening: Opening, text: bytes) -> bool:
+    """Return whether an opening lets tenants have a patience."""
+    return states.is_extended(text) if opening.is_state else roster.is_extended(text)
 
 
 def id_of(folder: Path) -> str:

@@ -22,7 +22,8 @@ from .programs import NotBuilt, program_of
 from .roster import Limits
 
 PROGRAM = "firm_state"
-VERSION = b"firm state 1\n"
+HEADING = b"firm state 1\n"
+EXTENDED_HEADING = b"firm state 1 extended\n"  # of a service whose roster has a patience
 DIGEST_BYTES = 16
 CALLER_FAULTS = 3  # the exit status for a faulty roster, state or tenant
 MOST_BYTES = 41_943_040  # of a state: no service's is longer, and no roster either
@@ -190,6 +191,16 @@ def state_file(text: bytes) -> Iterator[Opening]:
 # What a state's text says.
 
 
+def is_extended(text: bytes) -> bool:
+    """Return whether a state is that of a service whose tenants may have a patience."""
+    return text.startswith(EXTENDED_HEADING)
+
+
+def plain(text: bytes) -> bytes:
+    """Return the same state with the heading of a service whose tenants have none."""
+    return HEADING + text.removeprefix(EXTENDED_HEADING) if is_extended(text) else text
+
+
 class TaskRow(NamedTuple):
     name: str
     job: str
@@ -213,7 +224,8 @@ class TenantRows:
 def tenants_of(text: bytes) -> list[TenantRows]:
     """The tenants of a state that firm_state wrote, in the order of their places; raises `ValueError` for any other."""
     rows = text.decode("ascii").split("\n")
-    if not text.startswith(VERSION) or len(rows) < 3 or rows[-2:] != [f"rows {len(rows) - 3}", ""]:
+    is_known = text.startswith((HEADING, EXTENDED_HEADING))
+    if not is_known or len(rows) < 3 or rows[-2:] != [f"rows {len(rows) - 3}", ""]:
         raise ValueError("this is not a whole state of a version that is known here")
     found: list[TenantRows] = []
     for row in rows[1:-2]:  # a start of firmd waits for this: a microsecond a row

@@ -9,12 +9,14 @@ import shlex
 import subprocess
 import tempfile
 import time
+from contextlib import contextmanager
 from dataclasses import dataclass
 from pathlib import Path
 from types import TracebackType
-from typing import IO, Mapping, NamedTuple, Sequence
+from typing import IO, Iterator, Mapping, NamedTuple, Sequence
 
 from harness.checks import compile_source
+from harness.service import is_state
 
 ROOT = Path(__file__).resolve().parents[2]
 OUT = ROOT / "out" / "tests"
@@ -83,7 +85,7 @@ def add_workers(parser: argparse.ArgumentParser, default: str = "") -> None:
 
 
 class Roster:
-    """A roster in a file of its own, for as long as the `with` block lasts."""
+    """A temporary file with a roster or a state, for as long as the `with` block lasts."""
 
     def __init__(self, text: bytes) -> None:
         self.text = text
@@ -96,6 +98,13 @@ class Roster:
 
     def __exit__(self, *_: object) -> None:
         os.unlink(self.path)
+
+
+@contextmanager
+def opening(text: bytes) -> Iterator[list[str]]:
+    """Write a temporary file and give the words that name it to a program."""
+    with Roster(text) as path:
+        yield ["--state" if is_state(text) else "--roster", path]
 
 
 def run(
@@ -212,9 +221,9 @@ def build_refusing(folder: str | Path) -> str:
     return library
 
 
-def keep(name: str, roster: bytes, text: bytes) -> Path:
-    """Keeps a roster and an input under out/, to be run again by hand; gives the path's beginning."""
+def keep(name: str, opened: bytes, text: bytes) -> Path:
+    """Keeps a roster or a state, and an input, under out/, to be run again by hand; gives the path's beginning."""
     OUT.mkdir(parents=True, exist_ok=True)
-    (OUT / f"{name}.csv").write_bytes(roster)
+    (OUT / f"{name}.{'state' if is_state(opened) else 'csv'}").write_bytes(opened)
     (OUT / f"{name}.txt").write_bytes(text)
     return OUT / name

@@ -6,15 +6,20 @@ small books only. Nothing here knows a network, a flow or a price; nothing is sh
 
 from __future__ import annotations
 
+import csv
+import io
 import re
 import sys
 from dataclasses import dataclass, field
-from typing import Callable, Collection, NamedTuple, Sequence
+from typing import Callable, Collection, Iterator, NamedTuple, Sequence
 
 HEADING = b"tenant,nodes,arcs,life,spread,churn".split(b",")
 REMOTE_HEADING = HEADING + [b"remote"]
-FULL_HEADING = REMOTE_HEADING + [b"patience"]
-HEADINGS = (HEADING, REMOTE_HEADING, FULL_HEADING)
+FULL_HEADING = REMOTE_HEADING + [b"patience"]  # that of an extended service
+PLAIN_HEADINGS = (HEADING, REMOTE_HEADING)
+HEADINGS = (*PLAIN_HEADINGS, FULL_HEADING)
+STATE_HEADING = b"firm state 1\n"
+EXTENDED_STATE_HEADING = b"firm state 1 extended\n"
 ROSTER_FAULTS = "header row name number repeated-name count memory".split()
 REFUSALS = (
     "worn bad-command bad-name bad-number machine-exists no-such-machine job-exists no-such-job task-exists"
@@ -340,11 +345,17 @@ class Tenant:
         return best
 
 
+def records_of(text: bytes) -> list[list[bytes]]:
+    """Return the fields of each record of a roster; its quotes must be well formed."""
+    reader = csv.reader(io.StringIO(text.decode("latin-1"), newline=""))
+    return [[field.encode("latin-1") for field in record] for record in reader if record]
+
+
 def read_roster(text: bytes) -> dict[str, Tenant]:
-    """The tenants of a roster without quotes."""
+    """The tenants of a roster."""
     if len(text) > MOST_ROSTER:
         raise RosterFault(2)
-    records = [line.split(b",") for line in re.split(rb"[\r\n]+", text) if line]
+    records = records_of(text)
     if not records or records[0] not in HEADINGS:
         raise RosterFault(1)
     tenants: dict[str, Tenant] = {}
@@ -382,13 +393,13 @@ class Operation(NamedTuple):
     limits: Limits | None
 
 
-def read_operation(words: Sequence[bytes]) -> Operation:
-    """What the words behind the operator's + ask."""
+def read_operation(words: Sequence[bytes], is_extended: bool) -> Operation:
+    """Return what an operator's line asks for; only an extended service takes a row of eight fields."""
     if len(words) != 2 or words[0] not in (b"admit", b"retire"):
         raise Refused(21)
     is_admission = words[0] == b"admit"
     fields = words[1].split(b",") if is_admission else [words[1]]
-    if is_admission and len(fields) not in map(len, HEADINGS):
+    if is_admission and len(fields) not in map(len, HEADINGS if is_extended else PLAIN_HEADINGS):
         raise Refused(22)
     if not is_name(fields[0]):
         raise Refused(23)
@@ -399,17 +410,20 @@ def read_operation(words: Sequence[bytes]) -> Operation:
 
 
 class Service:
-    """The tenants that are there, by name; who has which place, and how often each place was given."""
+    """Tenants by name, the name at each place, and the count of admissions to it.
 
-    def __init__(self, tenants: dict[str, Tenant]) -> None:
-        self.tenants = tenants
+    A service is extended if its roster's heading has eight fields.
+    """
+
+    def __init__(self, tenants: dict[str, Tenant], is_extended: bool = False) -> None:
+        self.tenants, self.is_extended = tenants, is_extended
         self.places: list[str | None] = [*tenants, *[None] * (PLACES - len(tenants))]
         self.admissions = [1] * len(tenants) + [0] * (PLACES - len(tenants))
 
     def operate(self, words: Sequence[bytes], is_memory_refused: bool) -> bytes:
         """The answer to an operator's line."""
         try:
-            name, limits = read_operation(words)
+            name, limits = read_operation(words, self.is_extended)
             if limits is None:
                 self._retire(name)
                 return f"+ ok retired {name}".encode()
@@ -453,8 +467,85 @@ def answer_line(service: Service, line: bytes, is_memory_refused: bool = False) 
     return service.tenants[words[0].decode()].answer(words[1:], is_memory_refused)
 
 
-def serve(roster: bytes, text: bytes, marks: Collection[int] = frozenset()) -> list[bytes]:
+def state_of(service: Service) -> bytes:
+    """Return the text of a service's state."""
+    rows = []
+    for name, count in zip(service.places, service.admissions):
+        if count:
+            rows.append(f"place admissions {count}")
+        if name is not None:
+            rows += rows_of(service.tenants[name])
+    heading = EXTENDED_STATE_HEADING if service.is_extended else STATE_HEADING
+    return heading + "".join(f"{row}\n" for row in [*rows, f"rows {len(rows)}"]).encode()
+
+
+def rows_of(tenant: Tenant) -> Iterator[str]:
+    """Yield a tenant's rows in a state; the default patience is left out."""
+    limits = tenant.limits._asdict()
+    if tenant.limits.patience == LONGEST_PATIENCE:
+        del limits["patience"]
+    numbers = [f"{name} {number}" for name, number in {**limits, "commands": tenant.given}.items()]
+    yield " ".join(["tenant", tenant.name, *numbers])
+    yield " ".join(["costs", *map(str, tenant.costs)])
+    yield from (f"machine {name} {slots}" for name, slots in tenant.machines.items())
+    yield from (f"job {name} {weight}" for name, weight in tenant.jobs.items())
+    for name, task in tenant.tasks.items():
+        where = f"waits {task.waited}" if task.machine is None else f"at {task.machine}"
+        prefers = ["prefers", *task.preferred] if task.preferred else []
+        yield " ".join(["task", task.job, name, where, *prefers])
+
+
+def read_state(text: bytes) -> Service:
+    """Return the service of a valid state."""
+    service = Service({}, text.startswith(EXTENDED_STATE_HEADING))
+    place = -1
+    for row in text.decode().splitlines()[1:-1]:
+        kind, *words = row.split()
+        if kind == "place":
+            place += 1
+            service.admissions[place] = int(words[1])
+        elif kind == "tenant":
+            numbers = dict(zip(words[1::2], map(int, words[2::2])))
+            given = numbers.pop("commands")
+            service.places[place], tenant = words[0], Tenant(words[0], Limits(**numbers), given)
+            service.tenants[words[0]] = tenant
+        else:
+            take_row(tenant, kind, words)
+    return service
+
+
+def take_row(tenant: Tenant, kind: str, words: list[str]) -> None:
+    """Add a row of a state to its tenant."""
+    if kind == "costs":
+        tenant.costs = list(map(int, words))
+    elif kind == "machine":
+        tenant.machines[words[0]] = int(words[1])
+    elif kind == "job":
+        tenant.jobs[words[0]] = int(words[1])
+    else:
+        job, name, where, there, *preferred = words
+        task = Task(job, preferred[1:])
+        if where == "at":
+            task.machine = there
+        else:
+            task.waited = int(there)
+        tenant.tasks[name] = task
+
+
+def is_state(opening: bytes) -> bool:
+    """Return whether a service's opening is a state, and not a roster."""
+    return opening.startswith(STATE_HEADING.rstrip(b"\n"))
+
+
+def opened(opening: bytes) -> Service:
+    """Return the service that a roster or a state opens."""
+    if is_state(opening):
+        return read_state(opening)
+    return Service(read_roster(opening), records_of(opening)[0] == FULL_HEADING)
+
+
+def serve(opening: bytes, text: bytes, marks: Collection[int] = frozenset()) -> list[bytes]:
     """The output lines of an input; memory is refused to the input lines whose places are in `marks`."""
-    service = Service(read_roster(roster))
+    service = opened(opening)
     answers = (answer_line(service, line, place in marks) for place, line in enumerate(lines_of(text)))
     return [answer for answer in answers if answer is not None]

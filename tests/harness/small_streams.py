@@ -1,7 +1,7 @@
 """Random small streams: rosters and inputs that meet every verb, every refusal and every kind of bad line.
 
 They have up to four tenants with six tasks each, all refusals but memory, and names, numbers and lines at the ends of
-their ranges.
+their ranges. The rosters have headings of six, seven and eight fields, and the operator's rows five to nine.
 """
 
 from __future__ import annotations
@@ -9,7 +9,7 @@ from __future__ import annotations
 from random import Random
 from typing import Sequence
 
-from harness.service import FULL_HEADING, HEADING, HEADINGS, REMOTE_HEADING
+from harness.service import HEADINGS
 
 Record = list[bytes]  # the fields of a roster's row
 Held = dict[str, dict[str, str]]  # by kind: the names, and behind a task's its job
@@ -48,6 +48,8 @@ BAD_LINES = [
     b"+ Admit a,2,0,1,0,0",
     b"+" + b" " * 300,
     b'+ admit "a",2,0,1,0,0',
+    b"+ admit ,,,,,,,",
+    b"+ admit new,2,0,1,0,0,0,1000001",
 ]
 BAD_VERBS = [
     b"",
@@ -77,11 +79,16 @@ def roster_of(records: Sequence[Record], heading: Record) -> bytes:
     return b"".join(b",".join(record) + b"\n" for record in [heading, *records])
 
 
+def quoted(draw: Random, record: Record) -> Record:
+    """The record with quotes around some of its fields."""
+    return [b'"%b"' % field if draw.random() < 0.5 else field for field in record]
+
+
 def random_roster(draw: Random) -> tuple[bytes, list[str]]:
     """A roster of some tenants, and their names. The first has much room, as a rule."""
     records: list[Record] = []
     names = draw.sample(["a", "b", "t-1", "abcdefghijklmnop", "0"], draw.choice([1, 1, 1, 2, 4]))
-    heading = draw.choice([HEADING, REMOTE_HEADING, FULL_HEADING, FULL_HEADING])
+    heading = draw.choice(HEADINGS)
     for name in names:
         roomy = draw.random() < 0.8
         nodes = draw.randint(10, 30) if roomy else draw.randint(2, 9)
@@ -94,6 +101,8 @@ def random_roster(draw: Random) -> tuple[bytes, list[str]]:
         numbers = [nodes, arcs, life, spread, churn, remote, patience]
         fields = [name.encode(), *(b"%d" % number for number in numbers)]
         records.append(fields[: len(heading)])
+    if draw.random() < 0.1:
+        heading, *records = [quoted(draw, record) for record in [heading, *records]]
     return roster_of(records, heading), names
 
 
@@ -109,7 +118,7 @@ class Stream:
         self.held = {tenant: nothing_held() for tenant in tenants}
         self.weights = draw.choice([[1, 2, 3], [5, 50], [1, 1000000], [10, 20, 21, 22], [60, 61], [100], [3000]])
         self.slots = draw.choice([[1], [1, 2], [2, 3], [1, 2, 64], [5]])
-        self.operators = draw.choice([0, 0, 0.02, 0.1])  # the part of the lines that is the operator's
+        self.operators = draw.choice([0, 0.02, 0.05, 0.15])  # the part of the lines that is the operator's
 
     def name(self, held: dict[str, str], new: bool) -> str:
         """A name of those that are held, or a new one, as asked most of the time."""
@@ -188,8 +197,8 @@ class Stream:
         """A line of the operator: it retires a tenant, or admits one that is there or not; now and then at fault."""
         draw, name = self.draw, self.draw.choice(self.tenants + ["new", "z"]).encode()
         if draw.random() < 0.1:
-            name = draw.choice(BAD_NAMES[:4] + [b"+"])
-        if draw.random() < 0.4:
+            name = draw.choice([*BAD_NAMES, b"", b'"b"'])
+        if draw.random() < 0.3:
             return b"+ retire " + name
         row = [
             name,
@@ -202,11 +211,11 @@ class Stream:
             b"%d" % draw.choice([0, 2, 1000000]),
         ]
         if draw.random() < 0.15:
-            row[draw.randint(1, 7)] = draw.choice(BAD_NUMBERS + [b""])
+            row[draw.randint(1, 7)] = draw.choice([*BAD_NUMBERS, b"", b'"2"'])
         if name in (b"new", b"z") and draw.random() < 0.5 and name.decode() not in self.tenants:
             self.tenants.append(name.decode())
             self.held[name.decode()] = nothing_held()
-        width = draw.choice([6, 7, 8, 8]) if draw.random() < 0.95 else draw.randint(1, 9)
+        width = draw.choice([6, 7, 8]) if draw.random() < 0.9 else draw.choice([1, 5, 9])
         return b"+ admit " + b",".join([*row, b"0"][:width])
 
     def line(self) -> bytes:

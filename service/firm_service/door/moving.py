@@ -26,6 +26,7 @@ from pathlib import Path
 
 from ..command_line import NO_SERVICE, NOT_THERE, USAGE, Failure, show
 from ..files import open_lock, replace_synced, sync_folder
+from ..roster import FULL_HEADING, RANGES
 from ..tables import Row
 from .table import NOWHERE, Shard, Table, TableError
 from .writing import map_text, read_map
@@ -37,6 +38,7 @@ LOOK_SECONDS = 0.05
 RECEIVED_BYTES = 65_536
 LEADER_SECONDS, PROBE_SECONDS = 30.0, 2.0  # until one of several replicas leads, and for one to say so
 UNKNOWN = "! unknown-tenant"  # firm's reply where a tenant is not there
+NO_SUCH_ROW = "+ no 22 operator-row"  # its reply to a row of eight fields where the roster has fewer
 MOST_TRIES, TRY_SECONDS = 20, 0.5  # of a request whose replica was lost, and between two of them
 LEFT = ("not-leading", "stopping")  # what a replica says that leads no more
 CARRYING, CARRIED = "carrying", "carried"  # of a move by lines: whether the new shard has all rows
@@ -219,14 +221,26 @@ class Move(Asked):
             raise Failure(USAGE, f"the table has no operator of the shard {shard.name}")
         return shard.operators[leading(shard)]
 
-    def require_room(self) -> None:
-        """Asks that the new shard serves, and hasn't the tenant."""
+    def require_room(self, lines: Lines) -> None:
+        """Asks that the new shard serves, hasn't the tenant, and takes its patience, if it has one."""
         (reply,) = ask(self.operator(self.new), [f"{self.tenant} show"])
         if reply != UNKNOWN:
             raise Failure(NOT_THERE, f"the shard {self.new.name} has a tenant {self.tenant} already: {reply}")
         self.operator(self.old)
         if not self.old.states:
             raise Failure(USAGE, f"the table has no state of the shard {self.old.name}")
+        if len(self._rows(lines)["row"].split(",")) == len(FULL_HEADING):
+            self._require_extended()
+
+    def _require_extended(self) -> None:
+        """Ask the new shard to admit an invalid row of eight fields; a refusal of their number means no patience."""
+        (reply,) = ask(self.operator(self.new), [",".join([f"+ admit {self.tenant}", *[""] * len(RANGES)])])
+        if reply == NO_SUCH_ROW:
+            why = f"{self.tenant} has a patience, and the roster of the shard {self.new.name} has none"
+            raise Failure(NOT_THERE, why)
+
+    def _rows(self, lines: Lines) -> Row:
+        return lines(str(self.old.states[leading(self.old)]), self.tenant)
 
     def carry(self, lines: Lines) -> int:
         """Has the old shard hold the tenant, and gives the new one its rows; how many lines they took."""
@@ -241,7 +255,7 @@ class Move(Asked):
     def _settled(self, lines: Lines, number: int) -> Row:
         """The lines of its rows, up to its reply of this number: the reader of the rows may lag."""
         ends = time.monotonic() + MOST_QUIET_SECONDS
-        while (found := lines(str(self.old.states[leading(self.old)]), self.tenant))["number"] != number:
+        while (found := self._rows(lines))["number"] != number:
             if time.monotonic() > ends:
                 raise Failure(NO_SERVICE, f"the rows of {self.tenant} at {self.old.name} are not those of {number}")
             time.sleep(LOOK_SECONDS)
@@ -311,7 +325,7 @@ def move(options: argparse.Namespace, lines: Lines) -> None:
     if now == to:
         return show(options, {"tenant": tenant, "shard": to, "lines": 0}, lambda _: f"{tenant} is at {to}\n")
     moved = Move(tenant, table.shards[now], table.shards[to], secrets.token_hex(8))
-    moved.require_room()
+    moved.require_room(lines)
     if options.by_lines:
         count = move_by_lines(moved, lines, record, proxy)
     else:
