@@ -2,9 +2,9 @@
 
 usage: tools/run tests/explain.py [--quick] [--program FILE] [--explain FILE] [WORD..]
 Reasons of each kind of stream at 3,000 tasks and 1,000 machines are accepted, also with --all, --why, --machine and
---rows, and those of 3,000 random streams and of 400 with noise; 1,000 outputs with one number changed are not, nor by
---claims a comment line removed, doubled, moved or with another word, nor replies changed, cut off or without their
-reasons, nor another placement of the same cost, whatever order is given for it. Numbers that docs/EXPLAIN.md calls
+--rows, and those of 3,000 random streams and of 400 with noise; 1,000 outputs with one number changed are not, nor
+some with a comment line removed, doubled, moved or with another word, with replies changed, cut off or without their
+reasons, or with another placement of the same cost, whatever order is given for it. Numbers that docs/EXPLAIN.md calls
 exact are, by a search over all placements of 300 streams, and the task that a line names decides a tie, in 1,000. Also
 --tenant, statuses, pieces, failed writes, refused and constant memory, and time. With words only the checks whose names
 have one of them. Each check has a line; the exit status is 1 where one failed. The long run takes some ten minutes. It
@@ -31,7 +31,7 @@ from typing import Any, Iterator, Mapping, NamedTuple
 
 import faults
 from harness import kinds, program, service
-from harness.checks import CannotRun, Check, Suite, require, run_script, run_suites
+from harness.checks import CannotRun, Check, Missed, Suite, require, run_script, run_suites
 from harness.small_streams import random_stream, with_noise
 
 WORKED = program.ROOT / "crates" / "firm_explain"  # with the rounds that docs/EXPLAIN.md works by hand
@@ -153,8 +153,8 @@ def explained(options: Options, stream: Stream, *words: str) -> bytes:
 def require_shown(stream: Stream, output: bytes, *words: str) -> None:
     """Asks that the checker takes each round and each word of its reasons, where there are rows by these alone too."""
     count = rounds_in(output)
-    said = [judge(stream, output, "--claims", *words)]
-    said += [judge_alone(output, "--claims", *words)] if "--rows" in words else []
+    said = [judge(stream, output, *words)]
+    said += [judge_alone(output, *words)] if "--rows" in words else []
     require(set(said) == {f"shown first: {count} of {count} rounds"}, said)
 
 
@@ -271,7 +271,7 @@ def changes_are_refused(options: Options, count: int) -> None:
                 tried += 1
                 places = [at for at, (a, b) in enumerate(zip(output.split(b"\n"), other.split(b"\n"))) if a != b]
                 what = f"{kind}, seed {seed}, {words}: {other.splitlines()[places[0]]!r}"
-                require_refused(stream, other, what, "--claims", *words)
+                require_refused(stream, other, what, *words)
 
 
 def worked_stream() -> Stream:
@@ -362,9 +362,9 @@ def wrong_outputs_are_refused(options: Options) -> None:
     stream = worked_stream()
     output = explained(options, stream, *words)
     for old, new in WRONG_WORDS:
-        require_refused(stream, replaced(output, old, new), (old, new), "--claims", *words)
+        require_refused(stream, replaced(output, old, new), (old, new), *words)
     for what, other in wrong_outputs(output):
-        require_refused(stream, other, what, "--claims", *words)
+        require_refused(stream, other, what, *words)
 
 
 def wrong_witnesses_are_refused(options: Options) -> None:
@@ -376,12 +376,13 @@ def wrong_witnesses_are_refused(options: Options) -> None:
     for line in lines:
         for number in (int(line[1]) + 1, int(line[1]) + 12):
             other = output[: line.start(1)] + b"%d" % number + output[line.end(1) :]
-            require_refused(stream, other, f"{line[0]!r} as {number}")
+            require_refused(stream, other, f"{line[0]!r} as {number}", "--why", "w1")
         if line[2]:
-            require_refused(stream, output[: line.start(2)] + output[line.end(2) :], f"{line[0]!r} without changes")
+            other = output[: line.start(2)] + output[line.end(2) :]
+            require_refused(stream, other, f"{line[0]!r} without changes", "--why", "w1")
         for start in (b"# if w9 on ", b"# if w1 on m9 ", b"# if w1 goes "):
             other = output[: line.start()] + start + output[line.start() + len("# if w1 on ") :]
-            require(other == output or judge(stream, other, "--claims", "--why", "w1").startswith("NOT SHOWN"), start)
+            require(other == output or judge(stream, other, "--why", "w1").startswith("NOT SHOWN"), start)
 
 
 WRONG_DECIDERS = [
@@ -399,7 +400,7 @@ WRONG_DECIDERS = [
 
 
 def wrong_deciders_are_refused(options: Options) -> None:
-    """With --claims no line passes that names another task than the one that decides, or names one without a tie."""
+    """No line passes that names another task than the one that decides, or names one without a tie."""
     stream, ties = worked_stream(), set[str]()
     for words in (["--why", name] for name in ("w1", "b1", "b2")):
         output = explained(options, stream, *words)
@@ -410,7 +411,7 @@ def wrong_deciders_are_refused(options: Options) -> None:
             for reason in WRONG_DECIDERS:
                 if reason != own:
                     other = output[: line.end() - len(own)] + reason.encode() + output[line.end() :]
-                    require_refused(stream, other, f"{line[0]!r} with {reason}", "--claims", *words)
+                    require_refused(stream, other, f"{line[0]!r} with {reason}", *words)
     require(len(ties) > 2, ties)
 
 
@@ -427,10 +428,10 @@ def wrong_crowds_are_refused(options: Options) -> None:
     stream = crowded_stream()
     output = explained(options, stream)
     for old, new in WRONG_CROWDS:
-        require_refused(stream, replaced(output, old, new), (old, new), "--claims")
+        require_refused(stream, replaced(output, old, new), (old, new))
     for word in ("", "--all"):
         for what, other in wrong_outputs(explained(options, stream, *word.split())):
-            require_refused(stream, other, what, "--claims", *word.split())
+            require_refused(stream, other, what, *word.split())
 
 
 def crowded_stream() -> Stream:
@@ -441,8 +442,8 @@ def crowded_stream() -> Stream:
     return Stream(roster, rows + tasks + b"alpha round\n" * 2)
 
 
-def proofs_stand_alone(options: Options) -> None:
-    """Without --claims the checker looks at what shows the round, and takes no other number of the reasons."""
+def wrong_sums_are_refused(options: Options) -> None:
+    """No output passes with other rents or another sum by them, nor with another placement."""
     stream = worked_stream()
     output = explained(options, stream)
     require(judge(stream, output) == "shown first: 3 of 3 rounds", judge(stream, output))
@@ -469,8 +470,6 @@ def wrong_replies(output: bytes) -> Iterator[tuple[str, bytes]]:
         if not line.startswith(b"#"):
             words = line.split()
             for at, word in enumerate(words):
-                if at and words[at - 1] in (b"nodes", b"arcs"):
-                    continue  # how full the arena is stands in no row
                 other = b"%d" % (int(word) + 1) if word.isdigit() else word + b"s"
                 yield f"{other!r} in {line!r}", before + b" ".join(
                     [*words[:at], other, *words[at + 1 :]]
@@ -481,7 +480,7 @@ def wrong_replies(output: bytes) -> Iterator[tuple[str, bytes]]:
 
 
 def wrong_replies_are_refused(options: Options) -> None:
-    """Without --claims no output passes that lacks a reply's word, a round's reasons or its end."""
+    """No output passes that lacks a reply's word, a round's reasons or its end."""
     replies = (
         b"alpha where w1\nalpha costs\nalpha show\nalpha where nobody\nalpha drain m1\nbeta show\n+ retire alpha\n"
     )
@@ -490,9 +489,11 @@ def wrong_replies_are_refused(options: Options) -> None:
     output = explained(options, stream)
     for what, other in wrong_replies(output):
         require_refused(stream, other, what)
-    admitted = Stream(b"tenant,nodes,arcs,life,spread,churn,remote,patience\n", b"+ admit b,2,0,1,0,0,0,3\n")
+    patient = b"tenant,nodes,arcs,life,spread,churn,remote,patience\na,2,0,1,0,0,0,3\n"
+    admitted = Stream(patient, b"+ admit b,2,0,1,0,0,0,3\n")
     require(judge(admitted, b"+ ok admitted b\n") == "shown first: 0 of 0 rounds", "a patience")
-    require_refused(admitted._replace(roster=b"tenant,nodes,arcs,life,spread,churn\n"), b"+ ok admitted b\n", "one")
+    plain = b"tenant,nodes,arcs,life,spread,churn\na,2,0,1,0,0\n"
+    require_refused(admitted._replace(roster=plain), b"+ ok admitted b\n", "a patience beside a plain heading")
 
 
 def least_placements(tenant: Any, cost: int) -> Iterator[dict[str, Choice]]:
@@ -517,17 +518,19 @@ def least_placements(tenant: Any, cost: int) -> Iterator[dict[str, Choice]]:
 
 
 def random_order(draw: random.Random, places: list[str]) -> str:
-    """An order of these places."""
-    cuts = sorted(draw.sample(range(1, len(places)), draw.randrange(len(places))))
-    groups = [" ".join(places[low:high]) for low, high in zip([0, *cuts], [*cuts, len(places)])]
-    return " < ".join(groups) if cuts else "clear"
+    """An order of these places, which are in order of addition."""
+    of = [draw.randrange(len(places)) for _ in places]
+    groups = ([place for place, at in zip(places, of) if at == group] for group in range(len(places)))
+    order = " < ".join(" ".join(names) for names in groups if names)
+    return order if " < " in order else "clear"
 
 
 def passes_as_first(found: Any, line: str) -> bool:
     """Whether the checker takes this line for the round."""
+    forged = found._replace(comments=[*found.comments[:-1], line])
     try:
-        found._replace(comments=[*found.comments[:-1], line]).check_first()
-    except SystemExit:
+        forged.check_first(forged.proof(forged.comments[1]))
+    except Missed:
         return False
     return True
 
@@ -548,7 +551,7 @@ def forged_orders_are_refused(options: Options, count: int) -> None:
                         continue
                     forged += 1
                     places = [*found.tenant.slots, "waiting"]
-                    orders = [random_order(draw, draw.sample(places, len(places))) for _ in range(5)]
+                    orders = [random_order(draw, places) for _ in range(5)]
                     for line in [found.comments[-1], *(f"# first: {order}" for order in orders)]:
                         require(not passes_as_first(found._replace(to=other), line), f"seed {seed}: {other}: {line}")
     print(f"{forged} forged placements", flush=True)
@@ -838,10 +841,10 @@ def one_tenant(options: Options) -> None:
     )
     both, one = explained(options, stream), run_timed([options.explain, "--tenant", "b"], stream).output
     require(without_comments(one) == without_comments(both), "other replies")
-    said = judge(stream, one, "--claims", "--tenant", "b")
+    said = judge(stream, one, "--tenant", "b")
     require(said == "shown first: 1 of 2 rounds", said)
-    require_refused(stream, both, "reasons that are not asked for", "--claims", "--tenant", "b")
-    require_refused(stream, one, "reasons that are missing", "--claims")
+    require_refused(stream, both, "reasons that are not asked for", "--tenant", "b")
+    require_refused(stream, one, "reasons that are missing")
 
 
 def is_of_constant_size(options: Options) -> None:
@@ -977,7 +980,7 @@ def checks(options: Options) -> dict[str, Check]:
         "wrong orders": partial(wrong_orders_are_refused, options),
         "wrong witnesses": partial(wrong_witnesses_are_refused, options),
         "wrong deciders": partial(wrong_deciders_are_refused, options),
-        "proofs alone": partial(proofs_stand_alone, options),
+        "wrong sums": partial(wrong_sums_are_refused, options),
         "wrong replies": partial(wrong_replies_are_refused, options),
         "forged orders": partial(forged_orders_are_refused, options, 30 if quick else 1000),
     }
