@@ -291,6 +291,7 @@ def has_least_weight(book: Book, name: str) -> bool:
     names = list(now.tasks)
     require(reasons.cost == placement.cost, reasons)
     require(reasons.machine == placement.machines[names.index(name)], reasons)
+    require(all((choice.more == 0) == (choice.tie is not None) for choice in reasons.others), f"ties: {reasons}")
     if reasons.machine is None and reasons.cheapest:
         require(reasons.cheapest.cost > reasons.pays, f"dearer than waiting: {reasons}")
     least = reasons.heavier
@@ -353,7 +354,7 @@ from weight 12 on it would run on m; a would wait
         "c",
         """\
 a round now would cost 6, and start it on m
-it pays 0 there; as much, though ranked later, to wait
+it pays 0 there; as much to wait, though ranked later
 """,
     ),
     (
@@ -402,7 +403,7 @@ from weight 30 on it would run on m; b would wait
         "b",
         """\
 a round now would cost 1, and move it to n
-it pays 1 there; as much on m; at least 10 more to wait
+it pays 1 there; as much on m, but a, submitted earlier, would be on n; at least 10 more to wait
 """,
     ),
     (
@@ -431,7 +432,8 @@ by no weight up to 1,000,000 would it run
         "d",
         """\
 a round now would cost 9, and leave it waiting
-to wait costs it 9 (weight 9, rounds 0); to run would cost as much on m, n
+to wait costs it 9 (weight 9, rounds 0); to run would cost as much on m, but a, submitted earlier, would be on n; \
+as much on n, but c, submitted earlier, would wait
 slots 3, none free
 from weight 10 on it would run on n; c would wait
 """,

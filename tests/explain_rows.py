@@ -23,6 +23,7 @@ from explain import (
     has_roster,
     judge,
     judge_alone,
+    require_refused,
     run_timed,
     small_stream,
     worked_stream,
@@ -31,7 +32,6 @@ from harness import program
 from harness.checks import Check, Suite, require, run_script, run_suites
 from harness.service import EXTENDED_STATE_HEADING, STATE_HEADING
 
-NO_STATE = b""  # is what firm answers where no state has the rows
 NUMBER = re.compile(rb"(?<![\w-])\d+(?![\w-])")
 
 
@@ -105,8 +105,7 @@ def rounds_stand_alone(options: Options) -> None:
     """Rounds of which the rows have each word that a row can have."""
     for stream in (rows_stream(), worked_stream()):
         output = explained(options, stream, "--rows", "--all")
-        stand_alone(options, output)
-        stand_alone(options, output, "--claims", "--all")
+        stand_alone(options, output, "--all")
 
 
 def random_rounds_stand_alone(options: Options, count: int) -> None:
@@ -117,7 +116,7 @@ def random_rounds_stand_alone(options: Options, count: int) -> None:
         if has_roster(stream):
             output = explained(options, stream, "--rows")
             rounds += len(rounds_of(output))
-            stand_alone(options, output, "--claims")
+            stand_alone(options, output)
     require(rounds > count, rounds)
 
 
@@ -132,17 +131,17 @@ def changes_are_refused(options: Options) -> None:
             rows, start = rows_in(found), found.index(b"#")
             end = start + sum(map(len, rows))
             for what, other in numbers_changed(found[:start]):
-                require_refused_alone(other + found[start:], what)
+                require_refused_alone(other + found[start:], what, "--all")
             for what, other in numbers_changed(found[end:]):
-                require_refused_alone(found[:end] + other, what, "--claims", "--all")
+                require_refused_alone(found[:end] + other, what, "--all")
             for what, other in numbers_changed(b"".join(rows)):
-                if judge_alone(found[:start] + other + found[end:], "--claims", "--all").startswith("NOT SHOWN"):
+                if judge_alone(found[:start] + other + found[end:], "--all").startswith("NOT SHOWN"):
                     refused += 1
                 else:
-                    require(answered_alone(options, found[:start] + other) in (found[:start], NO_STATE), what)
+                    require(answered_alone(options, found[:start] + other) == found[:start], what)
             for what, others in rows_changed(rows):
                 if not what.startswith("later"):
-                    require_refused_alone(found[:start] + b"".join(others) + found[end:], what)
+                    require_refused_alone(found[:start] + b"".join(others) + found[end:], what, "--all")
     print(f"{refused} changed numbers of rows refused", flush=True)
     require(refused > 100, refused)
 
@@ -172,9 +171,8 @@ def whole_outputs_have_their_rows(options: Options) -> None:
         others = [(what, b"".join(changed)) for what, changed in rows_changed(rows)]
         for what, other in [*others, *numbers_changed(text), ("no rows", b"")]:
             changed = output.replace(found, found.replace(text, other, 1), 1)
-            words = ["--claims", "--rows"] if what == "no rows" else []
-            require(judge(stream, changed, *words).startswith("NOT SHOWN"), what)
-    require(judge(stream, output, "--claims").startswith("NOT SHOWN"), "rows that are not asked for")
+            require_refused(stream, changed, what, "--rows")
+    require_refused(stream, output, "rows that are not asked for")
 
 
 def one_tenant(options: Options) -> None:
@@ -183,7 +181,7 @@ def one_tenant(options: Options) -> None:
     text = b"".join(b"%c machine m 1\n%c job j 5\n%c task j t\n%c round\n" % (name, name, name, name) for name in b"ab")
     stream = Stream(roster, text)
     output = run_timed([options.explain, "--tenant", "b", "--rows"], stream).output
-    for said in (judge(stream, output, "--claims", "--rows", "--tenant", "b"), judge_alone(output, "--tenant", "b")):
+    for said in (judge(stream, output, "--rows", "--tenant", "b"), judge_alone(output, "--tenant", "b")):
         require(said == "shown first: 1 of 2 rounds", said)
     require_refused_alone(output, "a round without rows")
 

@@ -7,7 +7,7 @@ by bisection would take twenty.
 from __future__ import annotations
 
 import re
-from collections.abc import Iterator, Sequence
+from collections.abc import Iterator, Mapping, Sequence
 from dataclasses import dataclass
 
 from .books import Book
@@ -16,7 +16,9 @@ from .roster import slot_cost
 from .trials import MOST_WEIGHT, Change, Trial, after, after_round, changes, of_weight, round_of
 
 CHANGES = {word: word for word in ("starts", "stays", "moves", "waits")} | {"preempted": "stops"}
-CLAIM = re.compile(r"(.*) (?:at least ([0-9]+) more|as much(, ranks after)?)")
+CLAIM = re.compile(r"(.*) (?:at least ([0-9]+) more|as much, (ranks after|an earlier task decides))")
+# A placement of the same cost in which the task has another choice, and why the round's comes before it.
+TIE = re.compile(r"if [a-z0-9-]+ (?:on ([a-z0-9-]+)|waits): 0 more(?:: [^;]+)?; (.+)")
 
 
 @dataclass(frozen=True, slots=True)
@@ -25,7 +27,8 @@ class Choice:
 
     machine: str | None  # None: to wait
     more: int  # what the cheapest placement with it costs more
-    ranks_after: bool  # the task's own choice, and costs as much
+    ranks_after: bool  # what the round gives the task, and costs as much
+    tie: str | None  # if it costs as much: "b, submitted earlier, would wait", "m1 ranks before m2"
 
 
 @dataclass(frozen=True, slots=True)
@@ -85,7 +88,8 @@ def reasons(state: str, book: Book, name: str) -> Reasons:
     own = comments[next(place for place, line in enumerate(comments, 1) if line.startswith(f"{name}'s rents: "))]
     said, *claims = own.removeprefix(f"{name} ").split("; ")
     what, _, pays = said.partition(": ")
-    others = [choice for claim in claims for choice in choices(claim, book.tasks[name].machine)]
+    ties = {found[1]: found[2] for found in map(TIE.fullmatch, comments) if found}
+    others = [choice for claim in claims for choice in choices(claim, book.tasks[name].machine, ties)]
     if machine is None:
         try:
             least = heavier(book, later, name, others)
@@ -115,14 +119,14 @@ def about(comments: Sequence[str], name: str) -> Iterator[str]:
     return (line for line in comments if line.split(" ", 1)[0] in first_words or line.startswith(f"if {name} "))
 
 
-def choices(claim: str, home: str | None) -> Iterator[Choice]:
+def choices(claim: str, home: str | None, ties: Mapping[str | None, str]) -> Iterator[Choice]:
     """Other choices that cost the same, as `m1, m2 at least 3 more`, of a task that ran at home before the round."""
     found = CLAIM.fullmatch(claim)
     if found is None:
         raise Refused("unknown-reason", f"firm_explain says {claim!r}")
     for word in found[1].split(", "):
         machine = {"to wait": None, "to stay": home}.get(word, word)
-        yield Choice(machine, int(found[2] or 0), found[3] is not None)
+        yield Choice(machine, int(found[2] or 0), found[3] == "ranks after", ties.get(machine))
 
 
 def cheapest_free(book: Book, later: Book, name: str) -> Free | None:

@@ -2,8 +2,9 @@
 
 from __future__ import annotations
 
+from collections import defaultdict
 from collections.abc import Iterator, Sequence
-from itertools import groupby
+from itertools import islice
 
 from .tables import Row
 from .trials import MOST_WEIGHT, Change
@@ -36,7 +37,8 @@ def sentences(found: Reasons, known: Row, past: int | None) -> Iterator[str]:
     to_wait = f"to wait costs it {found.pays} ({parts})"
     machines = [choice for choice in found.others if choice.machine is not None]
     if machines:
-        yield f"{to_wait}; to run would cost {next(claims(machines))}"
+        cheapest = [choice for choice in machines if choice.more == machines[0].more]
+        yield f"{to_wait}; to run would cost {'; '.join(claims(cheapest))}"
         yield slots(found, past is not None)
         yield heavier(found, past is not None)
     else:
@@ -45,17 +47,22 @@ def sentences(found: Reasons, known: Row, past: int | None) -> Iterator[str]:
 
 def claims(others: Sequence[Choice]) -> Iterator[str]:
     """What other choices would cost: machines, the cheapest first, and then to wait."""
-    machines = [choice for choice in others if choice.machine is not None]
-    for place, (more, alike) in enumerate(groupby(machines, claim)):
-        if place < MOST_COSTS:
-            yield f"{more} on {listed([str(choice.machine) for choice in alike], MOST_NAMES)}"
-    yield from (f"{claim(choice)} to wait" for choice in others if choice.machine is None)
+    alike = defaultdict[str, list[str]](list)
+    for choice in others:
+        if choice.machine is not None:
+            alike[claim(choice)].append(choice.machine)
+    for words, machines in islice(alike.items(), MOST_COSTS):
+        yield words.format(f"on {listed(machines, MOST_NAMES)}")
+    yield from (claim(choice).format("to wait") for choice in others if choice.machine is None)
 
 
 def claim(choice: Choice) -> str:
+    """The cost of another choice, with braces for the choice, and at equal cost what decides against it."""
     if choice.more:
-        return f"at least {choice.more} more"
-    return "as much, though ranked later," if choice.ranks_after else "as much"
+        return f"at least {choice.more} more {{}}"
+    if choice.tie and "submitted earlier" in choice.tie:
+        return f"as much {{}}, but {choice.tie}"
+    return f"as much {{}}, {'though ranked later' if choice.ranks_after else 'but an earlier task decides'}"
 
 
 def listed(names: Sequence[str], most: int) -> str:

@@ -7,6 +7,7 @@ the rents in the lines of an output, writes the lines anew, and compares them as
 from __future__ import annotations
 
 import argparse
+import re
 from collections import Counter
 from itertools import groupby, zip_longest
 from typing import Callable, Iterator, Mapping, NamedTuple, Protocol, Sequence
@@ -147,9 +148,12 @@ def why_lines(found: Round, name: str) -> Iterator[str]:
     yield market.task_line(name, market.all_claims(name))
     yield f"# least by {name}'s rents: cost {found.reply[5]} = {market.sum_text(rents)}"
     for other in market.rivals(name):
-        # Of several placements with this choice that cost as much, tests/certificates takes any.
         start = f"# if {name} {f'on {other}' if other else 'waits'}: {market.more(name, other)} more"
-        yield next((line for line in found.comments if line == start or line.startswith(f"{start}: ")), start)
+        line = next((line for line in found.comments if re.match(f"{start}(?:[:;] |$)", line)), start)
+        # Of several placements with this choice that cost as much, tests/certificates takes any.
+        changes = line.removeprefix(start).partition("; ")[0]
+        reason = "" if market.more(name, other) else f"; {market.decider(name, other, changes.removeprefix(': '))}"
+        yield start + changes + reason
 
 
 class Market:
@@ -234,7 +238,7 @@ class Market:
         if best[crowd[0]] is None:
             return line
         more = min(self.more(name, best[name]) for name in crowd)
-        return line + (f"; each machine at least {more} more" if more else "; a machine as much")
+        return line + (f"; each machine at least {more} more" if more else "; a machine as much, earlier tasks decide")
 
     def claims(self, name: str, best: Choice) -> Iterator[str]:
         """What stands in the line of a task on its other choices: waiting, its own machine and the best other one."""
@@ -250,7 +254,7 @@ class Market:
     def rivals(self, name: str) -> list[Choice]:
         """All other choices: those that cost least more first, of these those that rank after the task's choice."""
         others = [choice for choice in [*self.places, None] if choice != self.to[name]]
-        return sorted(others, key=lambda other: (self.more(name, other), self.claim(name, other) == "as much"))
+        return sorted(others, key=lambda other: (self.more(name, other), "decides" in self.claim(name, other)))
 
     def task_line(self, name: str, claims: Iterator[str]) -> str:
         """What a task does and pays, and what other choices would cost more."""
@@ -274,11 +278,28 @@ class Market:
         return "to stay" if other == self.tenant.tasks[name].home else other
 
     def claim(self, name: str, other: Choice) -> str:
-        """How much more another choice of a task costs; where it is nothing, whether the order may have decided."""
+        """The additional cost of another choice of a task; for a tie what decides it, as far as the rents show."""
         more = self.more(name, other)
         if more:
             return f"at least {more} more"
-        return "as much, ranks after" if self.rank(name, self.to[name]) < self.rank(name, other) else "as much"
+        # By the task's own rents all numbers are exact, by both other tables those of tasks that wait.
+        is_exact = len(self.tables) == 1 or None in (self.to[name], other)
+        if self.rank(name, self.to[name]) < self.rank(name, other):
+            return "as much, ranks after" if is_exact else "at least as much, ranks after"
+        return "as much, an earlier task decides" if is_exact else "at least as much"
+
+    def decider(self, name: str, other: Choice, changes: str) -> str:
+        """Why the round's placement comes before one in which a task has another choice, and others these changes."""
+        # The changes of other tasks are `U waits, V on m2`.
+        to = {name: other} | {
+            task: where[-1] if where[0] == "on" else None
+            for task, *where in (change.split(" ") for change in changes.split(", ") if change)
+        }
+        first = next(task for task in self.to if task in to)
+        if first == name:
+            return f"{self.to[name] or 'waiting'} ranks before {other or 'waiting'}"
+        place = to[first]
+        return f"{first}, submitted earlier, would {f'be on {place}' if place else 'wait'}"
 
     def rank(self, name: str, choice: Choice) -> tuple[bool, bool, int]:
         """The order of a task's choices: its own machine, the others by their places, waiting."""

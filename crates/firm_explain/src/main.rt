@@ -43,8 +43,8 @@
 //! The rents of `--why` are checked as well; if they fail, `# NOT SHOWN to be least by T's rents` replaces that task's
 //! lines. Where `is_ladder` doesn't take the ladder that was found, or none was, the last line is `# first: not shown
 //! here`; a choice for which no witness was found has no line of its own. No contract covers the order and the words of
-//! the lines, the commonest rent, the least and the greatest number of a crowd, the text of a ladder, and that the case
-//! and the rows behind it are of one round.
+//! the lines, the commonest rent, the least and the greatest number of a crowd, which task decided a tie, the text of a
+//! ladder, and that case and rows are of one round.
 //!
 //! # How it works
 //!

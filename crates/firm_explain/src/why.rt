@@ -184,7 +184,7 @@ fn choice_of(rival: Rival) -> Choice {
 fn put_end_of(page: &mut Page, before: Option<Rival>, next: Option<Rival>) {
     match (before, next) {
         (Some(last), Some(rival)) if rival.is_like(last) => return page.put(b", "),
-        (Some(last), _) => put_more(page, last.more, !last.ranks_before),
+        (Some(last), _) => put_more(page, last.more, true, !last.ranks_before),
         _ => {}
     }
     if next.is_some() {

@@ -1,8 +1,10 @@
-//! Witnesses: of the placements in which a task has another choice one that costs least, told by what else changes.
+//! Witnesses: of the placements in which a task has another choice one that costs least, described by what else changes;
+//! if it costs no more, also by what puts the round's before it.
 
 use crate::market::Market;
 use crate::moves::Moves;
 use crate::numbers::{NONE, at, set};
+use crate::order_line::put_place;
 use crate::page::Page;
 use firm_rules::Choice;
 use std::alloc::{AllocError, Global};
@@ -97,7 +99,7 @@ impl<'a> Witnesses<'a> {
         false
     }
 
-    // What the task has, how much more it costs, and which other tasks have something else.
+    // Adds the other choice, its additional cost, the changes of other tasks, and for a tie the task that decides.
     fn put_line(&self, page: &mut Page, market: &Market<'_>, placement: &[Choice], more: u64) {
         put_placed(page, market, b"# if ", placement, self.task);
         page.put_number(b": ", more);
@@ -109,7 +111,41 @@ impl<'a> Witnesses<'a> {
                 before = b", ";
             }
         }
+        if more == 0 {
+            self.put_decider(page, market, placement);
+        }
         page.put(b"\n");
+    }
+
+    // Adds why the round's placement comes before one of equal cost: by the first task on which they differ.
+    fn put_decider(&self, page: &mut Page, market: &Market<'_>, placement: &[Choice]) {
+        for task in 0..placement.len() {
+            if placement[task] != market.choice_of(task) {
+                return if task == self.task {
+                    self.put_rank(page, market, placement[task])
+                } else {
+                    put_earlier(page, market, task, placement[task])
+                };
+            }
+        }
+    }
+
+    // Adds that the task's choice ranks before the other.
+    fn put_rank(&self, page: &mut Page, market: &Market<'_>, other: Choice) {
+        page.put(b"; ");
+        put_place(page, market, self.has);
+        page.put(b" ranks before ");
+        put_place(page, market, self.moves.place_of(other));
+    }
+}
+
+// Adds the other choice of an earlier task, which ranks after its choice in the round.
+fn put_earlier(page: &mut Page, market: &Market<'_>, task: usize, other: Choice) {
+    page.put_task(b"; ", market.rows, task);
+    page.put(b", submitted earlier, would ");
+    match other {
+        Choice::On(place) => page.put_at(b"be on ", market.rows, place),
+        Choice::Wait => page.put(b"wait"),
     }
 }
 
