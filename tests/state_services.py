@@ -49,7 +49,7 @@ OF_EIGHT = Served(
     b"gamma show\n",
     UNKNOWN,
     b"""\
-firm state 1
+firm state 1 extended
 place admissions 1
 tenant alpha nodes 9 arcs 24 life 100 spread 1 churn 2 remote 7 patience 0 commands 0
 costs
@@ -186,7 +186,7 @@ rows 13
 )
 
 ADMISSIONS = Served(
-    HEADING + b"a,2,0,1,0,0\n",
+    HEADING_OF_EIGHT + b"a,2,0,1,0,0,0,1000000\n",
     b"+ admit b,2,0,5,0,0\n"
     b"+ admit c,3,2,5,0,0,0\n"
     b"\t+  admit\td,2,0,5,0,0 \n"
@@ -210,7 +210,7 @@ ADMISSIONS = Served(
 + ok admitted h
 """,
     b"""\
-firm state 1
+firm state 1 extended
 place admissions 1
 tenant a nodes 2 arcs 0 life 1 spread 0 churn 0 remote 0 commands 0
 costs
@@ -247,6 +247,35 @@ costs
 rows 33
 """,
 )
+
+# The roster's heading alone decides whether a row of eight fields admits a tenant, also once all tenants have left and
+# the service has gone on from its state.
+EIGHT_FIELDS = b"+ admit b,2,0,5,0,0,7,4\n"
+NO_ROW = b"+ no 22 operator-row\n"
+ALL_GONE = b"place admissions 1\nrows 1\n"
+PLAIN_GONE, EXTENDED_GONE = b"firm state 1\n" + ALL_GONE, b"firm state 1 extended\n" + ALL_GONE
+RETIRED = b"+ ok retired a\n"
+
+HEADINGS = {
+    "six fields": Served(HEADING + b"a,2,0,1,0,0\n", EIGHT_FIELDS + b"+ retire a\n", NO_ROW + RETIRED, PLAIN_GONE),
+    "seven fields": Served(
+        HEADING_OF_SEVEN + b"a,2,0,1,0,0,7\n", EIGHT_FIELDS + b"+ retire a\n", NO_ROW + RETIRED, PLAIN_GONE
+    ),
+    "eight fields": Served(HEADING_OF_EIGHT + b"a,2,0,1,0,0,7,4\n", b"+ retire a\n", RETIRED, EXTENDED_GONE),
+    "seven fields, gone on": Served(PLAIN_GONE, EIGHT_FIELDS, NO_ROW, PLAIN_GONE),
+    "eight fields, gone on": Served(
+        EXTENDED_GONE,
+        EIGHT_FIELDS,
+        b"+ ok admitted b\n",
+        b"""\
+firm state 1 extended
+place admissions 2
+tenant b nodes 2 arcs 0 life 5 spread 0 churn 0 remote 7 patience 4 commands 0
+costs
+rows 3
+""",
+    ),
+}
 
 # Two of three tasks run by the first round; the second leaves the third waiting, which would cost 3 to exchange.
 TWO_ROUNDS = Served(
@@ -323,7 +352,7 @@ alpha 8 ok round cost 3
 alpha 9 ok round cost 3
 """,
     b"""\
-firm state 1
+firm state 1 extended
 place admissions 1
 tenant alpha nodes 9 arcs 30 life 100 spread 0 churn 2 remote 0 patience 2 commands 9
 costs 1 2 3 3 3
@@ -517,6 +546,7 @@ SERVED = {
     "commands that remove": COMMANDS_THAT_REMOVE,
     "preferences": PREFERENCES,
     "admissions": ADMISSIONS,
+    **HEADINGS,
     "two rounds": TWO_ROUNDS,
     "equals": EQUALS,
     "equals, from their state": EQUALS_GO_ON,

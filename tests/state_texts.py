@@ -29,8 +29,10 @@ LINES = [
 ]
 STATE = b"".join(LINES)
 
+PLAIN, EXTENDED = LINES[0], b"firm state 1 extended\n"  # the first line, and that of a service with eight fields
+
 OF_PATIENCE = b"""\
-firm state 1
+firm state 1 extended
 place admissions 1
 tenant a nodes 9 arcs 0 life 1 spread 0 churn 0 remote 0 patience 0 commands 0
 costs
@@ -75,6 +77,11 @@ CHANGES = [
     (1, b"", StateFault(1, 1)),
     (1, b"firm state 2\n", StateFault(1, 1)),
     (1, b"firm state 1 \n", StateFault(1, 1)),
+    (1, b"firm state 1 plain\n", StateFault(1, 1)),
+    (1, b"firm state 1  extended\n", StateFault(1, 1)),
+    (1, b"firm state 1 extended \n", StateFault(1, 1)),
+    (1, b"firm state 2 extended\n", StateFault(1, 1)),
+    (1, b"firm state 1 extended\n\n", StateFault(2, 2)),
     (1, b"firm state 1\r\n", StateFault(1, 1)),
     (1, b"firm state 1\n\n", StateFault(2, 2)),
     (2, b"", StateFault(2, 2)),
@@ -107,11 +114,6 @@ CHANGES = [
     (3, b"tenant a nodes 8 arcs 20 life 9 spread 1 churn 2 remote 7 commands 6\n", StateFault(11, 9)),
     (3, b"tenant a nodes 6 arcs 20 life 9 spread 1 churn 2 remote 7 commands 9\n", StateFault(9, 9)),
     (3, b"tenant a nodes 8 arcs 12 life 9 spread 1 churn 2 remote 7 commands 9\n", StateFault(10, 9)),
-    (3, b"tenant a nodes 8 arcs 20 life 9 spread 1 churn 2 remote 7 patience 1000000 commands 9\n", StateFault(2, 3)),
-    (3, b"tenant a nodes 8 arcs 20 life 9 spread 1 churn 2 remote 7 patience 1000001 commands 9\n", StateFault(4, 3)),
-    (3, b"tenant a nodes 8 arcs 20 life 9 spread 1 churn 2 remote 7 patience commands 9\n", StateFault(4, 3)),
-    (3, b"tenant a nodes 8 arcs 20 life 9 spread 1 churn 2 remote 7 commands 9 patience 3\n", StateFault(2, 3)),
-    (3, b"tenant a nodes 8 arcs 20 life 9 spread 1 churn 2 remote 7 patience 1 commands 9\n", StateFault(4, 9)),
     (4, b"", StateFault(2, 4)),
     (4, b"costs\n", StateFault(15, 8)),
     (4, b"costs 5 12\ncosts 5 12\n", StateFault(2, 5)),
@@ -178,6 +180,25 @@ CHANGES = [
 ]
 
 
+# What a tenant names behind its other limits, and the first fault in a plain state and in an extended one.
+PATIENCES = [
+    (b"patience 1000000 commands 9", StateFault(2, 3), StateFault(2, 3)),
+    (b"patience 1000001 commands 9", StateFault(2, 3), StateFault(4, 3)),
+    (b"patience 999999 commands 9", StateFault(2, 3), None),
+    (b"patience 2 commands 9", StateFault(2, 3), None),
+    (b"patience 1 commands 9", StateFault(2, 3), StateFault(4, 9)),
+    (b"patience 02 commands 9", StateFault(2, 3), StateFault(2, 3)),
+    (b"patience commands 9", StateFault(4, 3), StateFault(4, 3)),
+    (b"commands 9 patience 3", StateFault(2, 3), StateFault(2, 3)),
+    (b"commands 9", None, None),
+]
+
+
+def with_patience(first: bytes, words: bytes) -> bytes:
+    """The state with this first line, whose tenant ends so."""
+    return with_line(1, first).replace(b"commands 9", words)
+
+
 def after_commands(number: int, cost: int) -> bytes:
     """The state after so many commands, where the last round cost this."""
     text = STATE.replace(b"commands 9", b"commands %d" % number)
@@ -214,7 +235,12 @@ def of_places(count: int) -> bytes:
 # Texts, each with its first fault, or None where it is a state.
 TEXTS: list[tuple[bytes, StateFault | None]] = [
     *((with_line(number, line), fault) for number, line, fault in CHANGES),
+    *((with_patience(PLAIN, words), fault) for words, fault, _ in PATIENCES),
+    *((with_patience(EXTENDED, words), fault) for words, _, fault in PATIENCES),
     (STATE, None),
+    (EXTENDED + b"rows 0\n", StateFault(12, 2)),
+    (EXTENDED + b"place admissions 1\nrows 1\n", None),
+    (EXTENDED[:-1], StateFault(13, 2)),
     (of_places(0), StateFault(12, 2)),
     (of_places(1), None),
     (of_places(64), None),
@@ -222,6 +248,7 @@ TEXTS: list[tuple[bytes, StateFault | None]] = [
     (b"firm state 1\nplace admissions 32768\nrows 1\n", None),
     (statuses.STATE, None),
     (OF_PATIENCE, None),
+    (OF_PATIENCE.replace(b" extended", b"", 1), StateFault(2, 3)),
     (OF_THE_GREATEST, None),
     # Each row and each round took a command, and a life has no more.
     (after_commands(7, 0), None),

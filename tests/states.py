@@ -26,7 +26,7 @@ from harness import kinds, program
 from harness.checks import Check, Missed, Suite, require, run_script, run_suites
 from harness.small_streams import random_stream, with_noise
 from state_services import SERVED
-from state_texts import STATE, TEXTS, StateFault
+from state_texts import EXTENDED, PLAIN, STATE, TEXTS, StateFault
 
 FIRM_STATE = program.built("firm_state")
 WORKERS = ("1", "2", "8")
@@ -453,6 +453,31 @@ def changed_state(options: Options, seed: int) -> bytes:
     return b"".join(lines)
 
 
+def small_state(first: bytes, name: bytes) -> bytes:
+    """The state of this first line with one tenant, of this name."""
+    return with_rows(small_tenant(name)).replace(PLAIN, first, 1)
+
+
+def headings_are_kept(options: Options) -> None:
+    """A state that is cut keeps its heading; joined states are extended if one of them is."""
+    plain, extended = WORKED, small_state(EXTENDED, b"b")
+    cases = [
+        (plain, ["--tenant", "alpha"], PLAIN),
+        (extended, ["--tenant", "b"], EXTENDED),
+        (plain, ["--merge", "plain"], PLAIN),
+        (plain, ["--merge", "extended"], EXTENDED),
+        (extended, ["--merge", "plain"], EXTENDED),
+        (plain, ["--merge", "extended", "--tenant", "alpha"], EXTENDED),
+    ]
+    for text, words, first in cases:
+        with Folder() as folder:
+            other = small_state(PLAIN, b"c")
+            files = {"plain": folder.file("c", other), "extended": folder.file("d", small_state(EXTENDED, b"d"))}
+            asked = ["--state", folder.file("state", text), *(files.get(word, word) for word in words)]
+            state = state_after(options, asked, b"")
+            require(state.startswith(first), f"{words}: {state!r}")
+
+
 def joins_are_refused(options: Options) -> None:
     """A tenant of both states, want of a place, and a name that is not there are faults; nothing is written."""
     full = with_rows([row for number in range(MOST_PLACES) for row in small_tenant(b"t%d" % number)])
@@ -557,6 +582,7 @@ def checks(options: Options) -> dict[str, Check]:
         "changed states": partial(changed_states, options, 40 if quick else 2000),
         "refused memory": partial(refused_memory, options, 5 if quick else 1),
         "joins that are refused": partial(joins_are_refused, options),
+        "headings": partial(headings_are_kept, options),
         "parts": partial(parts_are_whole, options, 20 if quick else 1000),
         "random streams": partial(random_streams, options, 40 if quick else 10_000),
         **{f"kind, {kind}": partial(kind_goes_on, options, kind) for kind in kinds_of(quick)},

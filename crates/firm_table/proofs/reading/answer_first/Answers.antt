@@ -1,7 +1,9 @@
 use Rattle.std.proofs.Common.{◌≡◌, ◌∙◌, refl, rules, sym, ap, take, drop, List, ℕ, [], ◌∷◌, ◌++◌, append-nil, true}
 use Rattle.std.proofs.lemmas.List.{append_cancel_right, take-append-drop}
 use Rattle.std.specs.List.{position_or_len}
-use Rattle.firm_text.specs.Inputs.{input_lines}
+use Rattle.std.specs.Str.Lines.{strip_carriage_return}
+use Rattle.firm_text.specs.Inputs.{input_lines, line_under}
+use Rattle.firm_text.specs.declared.headings.Heading.{Heading}
 use Rattle.firm_text.specs.Lines.{is_line_feed}
 use Rattle.firm_text.specs.declared.inputs.Line.{Line}
 use Rattle.firm_table.proofs.Pieces.{cut_at, both_ended, ended_more, halts_at, input_more}
@@ -21,8 +23,9 @@ returns-in-Err-clause-halted g c =
     written _ h.both whole
     (ended_more h.text (h.rest ++ bytes) h.ended stands.in_line).ends
     (c.in-Err.ensures.begins h.text (h.text ++ ((h.rest ++ bytes) ++ 10 ∷ [])) written
-    (input_more h.text (h.rest ++ bytes) h.ended stands.in_line
-    ∙ ap (λ (l : Line). input_lines h.text ++ l ∷ []) (sym (c.take-line.ensures.line (h.rest ++ bytes) stands)))
+    (input_more (g.C.Clerk.opening c.args.clerk.now).heading h.text (h.rest ++ bytes) h.ended stands.in_line
+    ∙ ap (λ (l : Line). input_lines (g.C.Clerk.opening c.args.clerk.now).heading h.text ++ l ∷ []) (ap (λ (k : Heading). line_under k (strip_carriage_return (h.rest ++ bytes))) (sym c.heading.ensures)
+    ∙ sym (c.take_under-line.ensures.line (h.rest ++ bytes) stands)))
     h.told)
 
 pub returns-in-Ok-clause-heard : goal.returns-in-Ok-clause-heard
@@ -41,11 +44,12 @@ returns-in-Ok-clause-heard g c heard front written cut h =
       rest = [];
       both = both_ended heard h.text h.rest bytes front h.both same ∙ sym (append-nil _);
       ended = ended_more h.text (h.rest ++ bytes) h.ended stands.in_line;
-      stands = c.take-line.ensures.stands;
+      stands = c.take_under-line.ensures.stands;
       told = c.in-Ok.ensures.told h.text (h.text ++ ((h.rest ++ bytes) ++ 10 ∷ [])) written
-          (input_more h.text (h.rest ++ bytes) h.ended stands.in_line
-          ∙ ap (λ (l : Line). input_lines h.text ++ l ∷ [])
-          (sym (c.take-line.ensures.line (h.rest ++ bytes) stands)))
+          (input_more (g.C.Clerk.opening c.args.clerk.now).heading h.text (h.rest ++ bytes) h.ended stands.in_line
+          ∙ ap (λ (l : Line). input_lines (g.C.Clerk.opening c.args.clerk.now).heading h.text ++ l ∷ [])
+          (ap (λ (k : Heading). line_under k (strip_carriage_return (h.rest ++ bytes))) (sym c.heading.ensures)
+    ∙ sym (c.take_under-line.ensures.line (h.rest ++ bytes) stands)))
           h.told;
     }
 

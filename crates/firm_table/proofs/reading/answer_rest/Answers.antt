@@ -1,6 +1,8 @@
 use Rattle.std.proofs.Common.{◌≡◌, ◌∙◌, rules, sym, ap, subst, List, ℕ, [], ◌∷◌, ◌++◌, append-nil, true, false}
 use Rattle.std.proofs.lemmas.Result.{on_ok_weaker, on_err_weaker}
-use Rattle.firm_text.specs.Inputs.{input_lines}
+use Rattle.std.specs.Str.Lines.{strip_carriage_return}
+use Rattle.firm_text.specs.Inputs.{input_lines, line_under}
+use Rattle.firm_text.specs.declared.headings.Heading.{Heading}
 use Rattle.firm_text.specs.declared.inputs.Line.{Line}
 use Rattle.firm_table.specs.Service.{BeginsAnswersFrom}
 use Rattle.firm_table.proofs.Pieces.{input_last, rest_none}
@@ -20,8 +22,9 @@ returns-clause-told g c =
     subst (λ (l : List ℕ). g.C.Clerk.told c.answer.new.self l written (g.W.Sink.written c.answer.new.writer))
     (sym h.both)
     (told h.text (h.text ++ h.rest) written
-    (input_last h.text h.rest h.ended h.stands.in_line (sym (c.rest.ensures h.rest h.stands) ∙ some)
-    ∙ ap (λ (l : Line). input_lines h.text ++ l ∷ []) (sym (c.take-line.ensures.line h.rest h.stands))) h.told))
+    (input_last (g.C.Clerk.opening c.args.clerk.now).heading h.text h.rest h.ended h.stands.in_line (sym (c.rest.ensures h.rest h.stands) ∙ some)
+    ∙ ap (λ (l : Line). input_lines (g.C.Clerk.opening c.args.clerk.now).heading h.text ++ l ∷ []) (ap (λ (k : Heading). line_under k (strip_carriage_return h.rest)) (sym c.heading.ensures)
+    ∙ sym (c.take_under-line.ensures.line h.rest h.stands))) h.told))
     c.answer.ensures.told
 
 pub returns-clause-begins : goal.returns-clause-begins
@@ -31,6 +34,7 @@ returns-clause-begins g c =
     subst (λ (l : List ℕ). BeginsAnswersFrom (g.C.Clerk.opening c.args.clerk.now) l written
     (g.W.Sink.written c.answer.new.writer)) (sym h.both)
     (begins h.text (h.text ++ h.rest) written
-    (input_last h.text h.rest h.ended h.stands.in_line (sym (c.rest.ensures h.rest h.stands) ∙ some)
-    ∙ ap (λ (l : Line). input_lines h.text ++ l ∷ []) (sym (c.take-line.ensures.line h.rest h.stands))) h.told))
+    (input_last (g.C.Clerk.opening c.args.clerk.now).heading h.text h.rest h.ended h.stands.in_line (sym (c.rest.ensures h.rest h.stands) ∙ some)
+    ∙ ap (λ (l : Line). input_lines (g.C.Clerk.opening c.args.clerk.now).heading h.text ++ l ∷ []) (ap (λ (k : Heading). line_under k (strip_carriage_return h.rest)) (sym c.heading.ensures)
+    ∙ sym (c.take_under-line.ensures.line h.rest h.stands))) h.told))
     c.answer.ensures.begins
