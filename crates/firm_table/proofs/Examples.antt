@@ -1,6 +1,7 @@
 -- The answers, computed at worked examples.
 use Rattle.std.proofs.Common.{◌≡◌, ℕ, ◌+◌, true, false, List, [], ◌∷◌, ◌++◌, refl, codes}
 use Rattle.std.specs.Prelude.{◌/◌, ◌%◌, map, pos}
+use Rattle.std.specs.Fmt.{digits}
 use Rattle.std.specs.List.{flat_map, range_with_len}
 use Rattle.firm_rules.specs.declared.commands.Command.TheVariants.{Show, Round}
 use Rattle.firm_rules.specs.declared.replies.Outcome.{Outcome}
@@ -139,6 +140,7 @@ extended_admits : output (roster_with Extended one_tenant) eight_fields ≡ code
 extended_admits = refl
 
 plain_refuses : output (roster_with Plain one_tenant) eight_fields ≡ codes "+ no 22 operator-row\n"
+unfolding digits
 plain_refuses = refl
 
 extended_goes_on : granted_output (opened_state (state_after (opened_roster (roster_with Extended one_tenant))
@@ -147,4 +149,5 @@ extended_goes_on = refl
 
 plain_goes_on : granted_output (opened_state (state_after (opened_roster (roster_with Plain one_tenant))
     (lines_of (codes "+ retire a" ∷ [])))) eight_fields ≡ codes "+ no 22 operator-row\n"
+unfolding digits
 plain_goes_on = refl

@@ -1,5 +1,6 @@
-use Rattle.std.proofs.Common.{◌∙◌, ap, sym, subst}
+use Rattle.std.proofs.Common.{◌≡◌, ◌∙◌, ◌++◌, ◌∷◌, [], ap, sym, subst}
 use Rattle.std.proofs.lemmas.Result.{on_ok_weaker, on_err_weaker}
+use Rattle.firm_text.specs.Inputs.{input_lines}
 use Rattle.firm_table.specs.Openings.{opened}
 use Rattle.firm_table.specs.declared.serving.Service.{Service}
 use Rattle.firm_table.specs.inner.Granting.{ToldAs}
@@ -12,7 +13,10 @@ returns-in-Ok-clause-told g c =
     let before =
     subst (λ (s : Service). ToldAs s.all_granted (state_of s) text written (g.W.Sink.written c.args.writer.now))
     (sym c.show_before.ensures.same) told in
-    shown after written (c.in-Ok.ensures.told text after written more before))
+    let grown =
+    subst (λ (s : Service). input_lines (opened s.opening).heading after
+    ≡ input_lines (opened s.opening).heading text ++ c.args.line ∷ []) (sym c.show_before.ensures.same) more in
+    shown after written (c.in-Ok.ensures.told text after written grown before))
     c.show_after.ensures.told
 
 pub returns-in-Ok-clause-begins : goal.returns-in-Ok-clause-begins
@@ -22,7 +26,10 @@ returns-in-Ok-clause-begins g c =
     let before =
     subst (λ (s : Service). ToldAs s.all_granted (state_of s) text written (g.W.Sink.written c.args.writer.now))
     (sym c.show_before.ensures.same) told in
-    rw before_opened at (begins after written (c.in-Ok.ensures.told text after written more before)))
+    let grown =
+    subst (λ (s : Service). input_lines (opened s.opening).heading after
+    ≡ input_lines (opened s.opening).heading text ++ c.args.line ∷ []) (sym c.show_before.ensures.same) more in
+    rw before_opened at (begins after written (c.in-Ok.ensures.told text after written grown before)))
     c.show_after.ensures.begins
 
 pub returns-in-Ok-clause-cause : goal.returns-in-Ok-clause-cause
@@ -45,7 +52,10 @@ returns-in-Err-clause-begins g c text after written more told =
     let before =
     subst (λ (s : Service). ToldAs s.all_granted (state_of s) text written (g.W.Sink.written c.args.writer.now))
     (sym c.show_before.ensures.same) told in
-    rw before_opened at (c.in-Err.ensures.begins text after written more before)
+    let grown =
+    subst (λ (s : Service). input_lines (opened s.opening).heading after
+    ≡ input_lines (opened s.opening).heading text ++ c.args.line ∷ []) (sym c.show_before.ensures.same) more in
+    rw before_opened at (c.in-Err.ensures.begins text after written grown before)
 
 pub returns-in-Err-clause-cause : goal.returns-in-Err-clause-cause
 returns-in-Err-clause-cause g c = c.in-Err.ensures.cause
