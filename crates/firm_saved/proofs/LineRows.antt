@@ -345,7 +345,8 @@ row_back heading r h =
     ) refl
 
 -- a line that is read as a row is the row's line
-pub row_read : (heading : Heading) (line : List ℕ) (r : Row) → row_of heading line ≡ Ok r → words_text (row_words r) ≡ line
+pub row_read : (heading : Heading) (line : List ℕ) (r : Row) → row_of heading line ≡ Ok r
+    → words_text (row_words r) ≡ line
 row_read heading line r e = read (words_row heading (words_of line)) e
   where
     read : (told : Result Row FaultKind) → (told >>= own_row line) ≡ Ok r → words_text (row_words r) ≡ line

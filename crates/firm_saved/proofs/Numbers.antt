@@ -38,7 +38,8 @@ ends heading nodes arcs life spread churn remote words = do
   Ok (patient, patience.1)
 
 -- the limits are what follows the six numbers
-pub six_read : {X : Type 0} (heading : Heading) (words : X → List (List ℕ)) (start : X) (r1 r2 r3 r4 r5 r6 : Result X FaultKind)
+pub six_read : {X : Type 0} (heading : Heading) (words : X → List (List ℕ)) (start : X)
+    (r1 r2 r3 r4 r5 r6 : Result X FaultKind)
     (n1 n2 n3 n4 n5 n6 : ℕ) → Passed words (Ok start) n1 r1 → Passed words r1 n2 r2 → Passed words r2 n3 r3
     → Passed words r3 n4 r4 → Passed words r4 n5 r5 → Passed words r5 n6 r6
     → limits_at heading (words start) ≡ (told words r6 >>= λ w. ends heading n1 n2 n3 n4 n5 n6 w)

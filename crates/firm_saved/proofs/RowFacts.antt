@@ -112,7 +112,8 @@ module _ (book : Book) (sound : IsSoundBook book) where
               (recursion_from_All (λ j. IsRow heading (row.Job j)) book.rows.jobs
               (λ k d below. let weights = sound.rows.weights k d below in
               (sound.form.jobs k d below, weights.0, weights.1)))))
-              (rows_of (IsRow heading) row.Task book.rows.tasks (recursion_from_All IsTaskRow book.rows.tasks tasks_are)),
+              (rows_of (IsRow heading) row.Task book.rows.tasks
+              (recursion_from_All IsTaskRow book.rows.tasks tasks_are)),
         ),
       )
 
@@ -179,7 +180,8 @@ place_read heading place counted sound fits = by place.tenant sound fits
 
 each_read : (heading : Heading) (places : List SavedPlace) → AllByRecursion IsCounted (register_of places)
     → AllByRecursion IsSoundPlace places → AllByRecursion (PlaceFits heading) places
-    → AllByRecursion (IsRow heading) (flat_map place_rows places) × (length (flat_map place_rows places) ≤ length places * 4201)
+    → AllByRecursion (IsRow heading) (flat_map place_rows places)
+    × (length (flat_map place_rows places) ≤ length places * 4201)
 each_read heading [] counted sound fit = (tt, omega arith)
 each_read heading (place ∷ places) counted sound fit =
     let one = place_read heading place counted.0 sound.0 fit.0 in

@@ -244,7 +244,8 @@ places_fit heading (place ∷ rest) fit = (
 )
   where
     by : (tenant : Option (List ℕ × Book))
-        → AllByRecursion (RowFits heading) ((row.Place place.admissions ∷ tenant_rows tenant) ++ flat_map place_rows rest)
+        → AllByRecursion (RowFits heading)
+        ((row.Place place.admissions ∷ tenant_rows tenant) ++ flat_map place_rows rest)
         → PlaceFits heading (record { admissions = place.admissions; tenant = tenant })
     by None fit = tt
     by (Some tenant) fit = fit.1.0

@@ -58,13 +58,16 @@ rows_from-cons heading line d bytes [] some = absurd (omega arith)
 rows_from-cons heading line d bytes (next ∷ rest) some = refl
 
 -- the lines of rows that are taken are read
-pub lines_run : (heading : Heading) (line : ℕ) (d : Draft) (rows : List Row) (d2 : Draft) (next : List ℕ) (more : List (List ℕ))
+pub lines_run : (heading : Heading) (line : ℕ) (d : Draft) (rows : List Row) (d2 : Draft) (next : List ℕ)
+    (more : List (List ℕ))
     → AllByRecursion (IsRow heading) rows → list_all is_inner rows ≡ true → dsteps d rows ≡ Ok d2
-    → rows_from heading line d (map row_line rows ++ next ∷ more) ≡ rows_from heading (line + length rows) d2 (next ∷ more)
+    → rows_from heading line d (map row_line rows ++ next ∷ more)
+    ≡ rows_from heading (line + length rows) d2 (next ∷ more)
 lines_run heading line d [] d2 next more each inner e =
     let same : d ≡ d2 = cc in
     let none : line ≡ line + length {A = Row} [] = omega arith in
-    ap (λ (x : Draft). rows_from heading line x (next ∷ more)) same ∙ ap (λ n. rows_from heading n d2 (next ∷ more)) none
+    ap (λ (x : Draft). rows_from heading line x (next ∷ more)) same
+    ∙ ap (λ n. rows_from heading n d2 (next ∷ more)) none
 lines_run heading line d (r ∷ rows) d2 next more each inner e =
     let rest : List (List ℕ) = map row_line rows ++ next ∷ more in
     let parts = and_parts (is_inner r) (list_all is_inner rows) inner in
@@ -85,7 +88,8 @@ lines_run heading line d (r ∷ rows) d2 next more each inner e =
     some (r ∷ rows) = omega arith
 
 -- the rows that were read of lines that make a state
-pub record AreRead (heading : Heading) (line : ℕ) (d : Draft) (pieces : List (List ℕ)) (places : List SavedPlace) : Type 0 where
+pub record AreRead (heading : Heading) (line : ℕ) (d : Draft) (pieces : List (List ℕ))
+    (places : List SavedPlace) : Type 0 where
   pub rows : List Row
   pub last : Draft
   pub cut : pieces ≡ map row_line rows ++ row_line (row.Rows (line + length rows - 2)) ∷ [] ∷ []
@@ -160,7 +164,8 @@ stepped_last d (row.Job job) d2 count e = absurd (taken_none d (row.Job job) d2 
 stepped_last d (row.Task task) d2 count e = absurd (taken_none d (row.Task task) d2 count e)
 
 -- lines that make a state are those of its rows
-pub lines_read : (heading : Heading) (line : ℕ) (d : Draft) (pieces : List (List ℕ)) (places : List SavedPlace) → IsOrderly d
+pub lines_read : (heading : Heading) (line : ℕ) (d : Draft) (pieces : List (List ℕ)) (places : List SavedPlace)
+    → IsOrderly d
     → rows_from heading line d pieces ≡ Ok places → AreRead heading line d pieces places
 lines_read heading line d [] places orderly e = absurd cc
 lines_read heading line d (last ∷ []) places orderly e = absurd cc
@@ -242,7 +247,8 @@ module _ (heading : Heading) (line : ℕ) (d : Draft) (pieces : List (List ℕ))
     -- a line that goes on, ends the state or is at fault
     pub line_goes : (d2 : Draft) → line_read heading d bytes ≡ Ok (d2, None)
         → rows_from heading line d pieces ≡ rows_from heading (line + 1) d2 rest
-    line_goes d2 e = read ∙ ap (λ (r : Result (Draft × Option ℕ) FaultKind). at_line line r >>= behind heading line rest) e
+    line_goes d2 e =
+        read ∙ ap (λ (r : Result (Draft × Option ℕ) FaultKind). at_line line r >>= behind heading line rest) e
 
     pub line_ends : (d2 : Draft) (count : ℕ) → line_read heading d bytes ≡ Ok (d2, Some count)
         → rows_from heading line d pieces ≡ last_row line d2 count rest
@@ -251,4 +257,5 @@ module _ (heading : Heading) (line : ℕ) (d : Draft) (pieces : List (List ℕ))
 
     pub line_faults : (kind : FaultKind) → line_read heading d bytes ≡ Err kind
         → rows_from heading line d pieces ≡ Err (fault_at line kind)
-    line_faults kind e = read ∙ ap (λ (r : Result (Draft × Option ℕ) FaultKind). at_line line r >>= behind heading line rest) e
+    line_faults kind e =
+        read ∙ ap (λ (r : Result (Draft × Option ℕ) FaultKind). at_line line r >>= behind heading line rest) e

@@ -103,7 +103,8 @@ first n x xs (y ∷ ys) alike =
         le-ltb n (length xs) few ∙ sym (le-ltb n (length ys) (omega arith))
 
 -- no fault is of an earlier line
-fault_late : (heading : Heading) (line : ℕ) (d : Draft) (xs : List (List ℕ)) (f : StateFault) → rows_from heading line d xs ≡ Err f → line ≤ f.line
+fault_late : (heading : Heading) (line : ℕ) (d : Draft) (xs : List (List ℕ)) (f : StateFault)
+    → rows_from heading line d xs ≡ Err f → line ≤ f.line
 fault_late heading line d [] f e =
     let own = ap (λ (x : StateFault). x.line)
     (err_is {A = List SavedPlace} (fault_at line fault.Rows) f e) in omega arith
@@ -138,7 +139,8 @@ end_alike [] (r ∷ rest) [] alike e =
 end_alike [] (r ∷ rest) (o ∷ other) alike e = refl
 
 -- lines that begin alike have the same fault
-pub same_fault : (heading : Heading) (line : ℕ) (d : Draft) (xs ys : List (List ℕ)) (f : StateFault) (n : ℕ) → rows_from heading line d xs ≡ Err f
+pub same_fault : (heading : Heading) (line : ℕ) (d : Draft) (xs ys : List (List ℕ)) (f : StateFault) (n : ℕ)
+    → rows_from heading line d xs ≡ Err f
     → f.line + 1 ≡ line + n → Alike n xs ys → rows_from heading line d ys ≡ Err f
 same_fault heading line d [] ys f n e at alike =
     let own = ap (λ (x : StateFault). x.line) (err_is {A = List SavedPlace} (fault_at line fault.Rows) f e) in

@@ -24,7 +24,8 @@ use Rattle.firm_saved.specs.Saved.{AreSoundSaved, IsSoundPlace, IsSoundSaved, Pl
 use Rattle.firm_saved.specs.Saved.{register_of, saved_with, tenant_name, untouched}
 use Rattle.firm_rules.specs.SlotCosts.{LaterSlotsCostNoLess}
 use Rattle.firm_rules.specs.SoundBook.{IsSoundBook, book_fault}
-use Rattle.firm_saved.specs.StateText.{book_rows, first_line, given_places, place_rows, row_text, state_rows, state_text}
+use Rattle.firm_saved.specs.StateText.{book_rows, first_line, given_places, place_rows, row_text, state_rows}
+use Rattle.firm_saved.specs.StateText.{state_text}
 use Rattle.firm_saved.specs.StateText.{tenant_rows}
 use Rattle.firm_saved.specs.declared.faults.FaultKind.{FaultKind}
 use Rattle.firm_saved.specs.declared.faults.FaultKind.TheVariants as fault

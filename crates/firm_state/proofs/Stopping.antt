@@ -119,7 +119,8 @@ stops_unwritten asked reader fault written failed writes none =
 
 -- what a service that came to the end says of the state after it
 pub folds_served : (opened : Opened) (reader writer : Device) (after : TenantsState)
-    → ServedTo opened most_input reader writer after → Folds opened reader (saved_with opened.heading (tenants_state after))
+    → ServedTo opened most_input reader writer after
+    → Folds opened reader (saved_with opened.heading (tenants_state after))
 folds_served opened reader writer after ended = record {
   input = ended.served.input;
   read = ended.served.read;

@@ -1,5 +1,6 @@
 -- The limits of each tenant fit the heading of its service.
-use Rattle.std.proofs.Common.{◌≡◌, ◌∙◌, ℕ, ◌-◌, Bool, true, false, List, [], ◌∷◌, ◌++◌, Option, Some, None, Result, Ok, Err}
+use Rattle.std.proofs.Common.{◌≡◌, ◌∙◌, ℕ, ◌-◌, Bool, true, false, List, [], ◌∷◌, ◌++◌, Option, Some, None, Result}
+use Rattle.std.proofs.Common.{Ok, Err}
 use Rattle.std.proofs.Common.{All, length, map, refl, sym, ap, subst}
 use Rattle.std.specs.Prelude.{IfSome, bytes_eq, option_map, replicate, set, if◌then◌else◌}
 use Rattle.std.specs.List.{AllByRecursion}
@@ -43,7 +44,8 @@ all_mapped P Q f each xs all =
     All-from_recursion Q (map f xs) (mapped P Q f each xs (recursion_from_All P xs all))
 
 -- a roster's places fit its heading where its rows do
-pub roster_fits : (heading : Heading) (rows : List RosterRow) → All (λ (row : RosterRow). FitsHeading heading row.1) rows
+pub roster_fits : (heading : Heading) (rows : List RosterRow)
+    → All (λ (row : RosterRow). FitsHeading heading row.1) rows
     → All (StayFits heading) (opening_places rows)
 roster_fits heading rows fit =
     All-append (StayFits heading) (map place_of_row rows) (replicate (most_places - length rows) unused_place)

@@ -34,7 +34,8 @@ module _ (all_granted : Bool) where
         granted = λ all.
             told.1 ∙ ap (λ (mark : Bool). p.told.lines ++ (line, mark) ∷ []) (a.granted all)
             ∙ ap (λ (lines : List MarkedLine). lines ++ unmarked line ∷ []) (p.granted all)
-            ∙ sym (map-append unmarked (input_lines state.opening.heading text) (line ∷ [])) ∙ ap (map unmarked) (sym more);
+            ∙ sym (map-append unmarked (input_lines state.opening.heading text) (line ∷ []))
+            ∙ ap (map unmarked) (sym more);
       }
 
   -- all that was to be written was

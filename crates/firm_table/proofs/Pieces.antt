@@ -74,7 +74,8 @@ ends_behind xs some = grind (arith, common_steps)
 
 -- one line more has ended
 pub input_more : (heading : Heading) (text rest : List ℕ) → HasEnded text → list_any is_line_feed rest ≡ false
-    → input_lines heading (text ++ (rest ++ 10 ∷ [])) ≡ input_lines heading text ++ line_under heading (strip_carriage_return rest) ∷ []
+    → input_lines heading (text ++ (rest ++ 10 ∷ []))
+    ≡ input_lines heading text ++ line_under heading (strip_carriage_return rest) ∷ []
 input_more heading text rest ended none =
     ended.parts heading (rest ++ 10 ∷ [])
     ∙ ap (λ (ls : List (List ℕ)). input_lines heading text ++ map (line_under heading) ls) (lines_ended rest [] none)
@@ -87,16 +88,30 @@ ended_more text rest ended none = record {
       ap (input_lines heading) (append_assoc text (rest ++ 10 ∷ []) more
       ∙ ap (λ (l : List ℕ). text ++ l) (append_assoc rest (10 ∷ []) more))
       ∙ ended.parts heading (rest ++ 10 ∷ more)
-      ∙ ap (λ (ls : List (List ℕ)). input_lines heading text ++ map (line_under heading) ls) (lines_ended rest more none)
-      ∙ sym (append_assoc (input_lines heading text) (line_under heading (strip_carriage_return rest) ∷ []) (input_lines heading more))
+      ∙ ap (λ (ls : List (List ℕ)). input_lines heading text ++ map (line_under heading) ls)
+      (lines_ended rest more none)
+      ∙ sym (append_assoc (input_lines heading text) (line_under heading (strip_carriage_return rest) ∷ [])
+      (input_lines heading more))
       ∙ ap (λ (ls : List Line). ls ++ input_lines heading more) (sym (input_more heading text rest ended none));
 }
 
 -- the rest of the input is a line too
-pub input_last : (heading : Heading) (text rest : List ℕ) → HasEnded text → list_any is_line_feed rest ≡ false → is_filled rest ≡ true
-    → input_lines heading (text ++ rest) ≡ input_lines heading text ++ line_under heading (strip_carriage_return rest) ∷ []
+pub input_last : (heading : Heading) (text rest : List ℕ) → HasEnded text → list_any is_line_feed rest ≡ false
+    → is_filled rest ≡ true
+    → input_lines heading (text ++ rest)
+    ≡ input_lines heading text ++ line_under heading (strip_carriage_return rest) ∷ []
 input_last heading text rest ended none filled =
-    ended.parts heading rest ∙ ap (λ (ls : List (List ℕ)). input_lines heading text ++ map (line_under heading) ls) (lines_alone rest none filled)
+    ended.parts heading rest ∙ ap (λ (ls : List (List ℕ)). input_lines heading text ++ map (line_under heading) ls)
+    (lines_alone rest none filled)
+
+-- so it is as a clerk's heading has it
+pub taken_line : (heading told : Heading) (text rest : List ℕ) (line : Line) → told ≡ heading
+    → line ≡ line_under told (strip_carriage_return rest)
+    → input_lines heading text ++ line_under heading (strip_carriage_return rest) ∷ []
+    ≡ input_lines heading text ++ line ∷ []
+taken_line heading told text rest line same taken =
+    ap (λ (l : Line). input_lines heading text ++ l ∷ [])
+    (ap (λ (h : Heading). line_under h (strip_carriage_return rest)) (sym same) ∙ sym taken)
 
 pub rest_none : (rest : List ℕ) → is_filled rest ≡ false → rest ≡ []
 rest_none [] e = refl

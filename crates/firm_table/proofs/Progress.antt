@@ -90,7 +90,8 @@ one_more state text after written now tenants pending line p more a =
             ap (λ (l : List ℕ). p.sent ++ l) a.text
             ∙ sym (append_assoc p.sent state.pending (text_of_answer a.answer))
             ∙ ap (λ (l : List ℕ). l ++ text_of_answer a.answer) p.whole
-            ∙ ap (λ (l : List ℕ). output_from state.opening.places p.lines ++ l) (sym (append-nil (text_of_answer a.answer))
+            ∙ ap (λ (l : List ℕ). output_from state.opening.places p.lines ++ l)
+            (sym (append-nil (text_of_answer a.answer))
             ∙ ap (λ (x : LineAnswer). flat_map text_of_answer (x ∷ [])) (sym here))
             ∙ sym (output_from-append state.opening.places p.lines (given ∷ []));
       },
@@ -152,8 +153,9 @@ last_of_text : (heading : Heading) (texts : List (List ℕ)) (before : List Line
 last_of_text heading [] [] line e = cc
 last_of_text heading [] (first ∷ before) line e = cc
 last_of_text heading (text ∷ rest) [] line e = (heading, text, cc)
-last_of_text heading (text ∷ rest) (first ∷ before) line e = let more : map (line_under heading) rest ≡ before ++ line ∷ [] =
-    cc in last_of_text heading rest before line more
+last_of_text heading (text ∷ rest) (first ∷ before) line e =
+    let more : map (line_under heading) rest ≡ before ++ line ∷ [] = cc in
+    last_of_text heading rest before line more
 
 -- the answer to one line more was not made
 pub one_more_begins : UnmarkedStepsAreGranted → RefusesForTheForm → OneMoreBegins
@@ -164,7 +166,8 @@ one_more_begins granted formal state text after written now line p more =
     begins_with state.opening after written now (p.lines ++ others) p.sent (state.pending ++ behind)
     (lines_more state.opening text after p.lines others p.are_lines more
     (ap (λ (b : Bool). b ∷ [])
-    (sym (unmarked_answer granted formal places line (last_of_text state.opening.heading (lines after) (input_lines state.opening.heading text) line more)))))
+    (sym (unmarked_answer granted formal places line
+    (last_of_text state.opening.heading (lines after) (input_lines state.opening.heading text) line more)))))
     p.wrote
     (output_from-append state.opening.places p.lines others ∙ ap (λ (l : List ℕ). l ++ behind) (sym p.whole)
     ∙ append_assoc p.sent state.pending behind)

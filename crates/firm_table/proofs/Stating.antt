@@ -113,7 +113,8 @@ state_added heading (Ok done) old new saved given count same is added =
     ++ row_text (row.Rows n)) is
     ∙ parts_joined old (first_line heading) (flat_map row_text (flat_map place_rows given))
     (row_text (row.Rows (length (flat_map place_rows given))))
-    ∙ ap (λ (places : List SavedPlace). old ++ (first_line heading ++ 10 ∷ [] ++ flat_map row_text (flat_map place_rows places)
+    ∙ ap (λ (places : List SavedPlace). old
+    ++ (first_line heading ++ 10 ∷ [] ++ flat_map row_text (flat_map place_rows places)
     ++ row_text (row.Rows (length (flat_map place_rows places))))) (sym same)
 
 -- what holds at all events holds on success

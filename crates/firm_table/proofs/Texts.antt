@@ -173,7 +173,8 @@ answers_wide places (given ∷ rest) = ap suc (answers_wide (after_line places g
 
 pub texts_are_cut : TextsAreCut
 texts_are_cut opened text more whole ends are =
-    let p = parted whole (input_lines opened.heading text) (input_lines opened.heading more) (are.each ∙ input_both opened.heading text more ends) in
+    let p = parted whole (input_lines opened.heading text) (input_lines opened.heading more)
+    (are.each ∙ input_both opened.heading text more ends) in
     let marks : map (λ (g : MarkedLine). g.1) p.lines ++ map (λ (g : MarkedLine). g.1) p.later
     ≡ map tells_memory (answers_from opened.places p.lines)
     ++ map tells_memory (answers_from (reopened opened.places p.lines) p.later) =
@@ -194,5 +195,7 @@ texts_are_cut opened text more whole ends are =
 pub outputs_go_on_from : OutputsGoOnFrom
 outputs_go_on_from opened text more ends =
     ap (λ (ls : List Line). output_from opened.places (map unmarked ls)) (input_both opened.heading text more ends)
-    ∙ ap (output_from opened.places) (map-append unmarked (input_lines opened.heading text) (input_lines opened.heading more))
-    ∙ output_both opened.places (map unmarked (input_lines opened.heading text)) (map unmarked (input_lines opened.heading more))
+    ∙ ap (output_from opened.places)
+    (map-append unmarked (input_lines opened.heading text) (input_lines opened.heading more))
+    ∙ output_both opened.places (map unmarked (input_lines opened.heading text))
+    (map unmarked (input_lines opened.heading more))

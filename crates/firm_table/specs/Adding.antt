@@ -32,11 +32,13 @@ NothingIsTold =
 abbrev pub OneMoreIsTold : Type 0
 OneMoreIsTold =
     (state : State) (text after : List ℕ) (written now : Option (List ℕ)) (tenants : TenantsState) (pending : List ℕ)
-    (line : Line) → (before : Told state text written now) → input_lines state.opening.heading after ≡ input_lines state.opening.heading text ++ line ∷ []
+    (line : Line) → (before : Told state text written now)
+    → input_lines state.opening.heading after ≡ input_lines state.opening.heading text ++ line ∷ []
     → (answered : IsAnswer state.tenants tenants line state.pending pending)
     → (told : Told (state_is state.opening tenants pending) after written now)
     × (told.lines ≡ before.lines ++ (line, tells_memory answered.answer) ∷ [])
-    × (answers_from state.opening.places told.lines ≡ answers_from state.opening.places before.lines ++ answered.answer ∷ [])
+    × (answers_from state.opening.places told.lines
+    ≡ answers_from state.opening.places before.lines ++ answered.answer ∷ [])
 
 -- the front of what was to be written was written
 abbrev pub FrontIsWritten : Type 0
@@ -61,7 +63,8 @@ AllIsWritten =
 abbrev pub OneMoreBegins : Type 0
 OneMoreBegins =
     (state : State) (text after : List ℕ) (written now : Option (List ℕ)) (line : Line) → Told state text written now
-    → input_lines state.opening.heading after ≡ input_lines state.opening.heading text ++ line ∷ [] → BeginsAnswersFrom state.opening after written now
+    → input_lines state.opening.heading after ≡ input_lines state.opening.heading text ++ line ∷ []
+    → BeginsAnswersFrom state.opening after written now
 
 -- a command of the tenant at this place is answered by its step
 abbrev pub TenantsAreAnswered : Type 0

@@ -1,5 +1,6 @@
 -- The limits that a row gives fit the heading under which it is read.
-use Rattle.std.proofs.Common.{◌≡◌, ◌∙◌, ℕ, Bool, true, false, List, [], ◌∷◌, Option, Some, None, Result, Ok, Err, length}
+use Rattle.std.proofs.Common.{◌≡◌, ◌∙◌, ℕ, Bool, true, false, List, [], ◌∷◌, Option, Some, None, Result, Ok, Err}
+use Rattle.std.proofs.Common.{length}
 use Rattle.std.proofs.Common.{arith, refl, sym, ap, subst}
 use Rattle.std.specs.Prelude.{IfOk, ◌==◌, nat_le, if◌then◌else◌}
 use Rattle.std.specs.Option.{ok_or}
@@ -16,7 +17,8 @@ use Rattle.firm_text.specs.declared.headings.Heading.{Heading}
 use Rattle.firm_text.specs.declared.headings.Heading.TheVariants.{Plain, Extended}
 
 -- limits that no eighth field gives have the longest patience
-patient : (limits told : TenantLimits) → ok_or {E = RosterFault} (with_patience limits longest_patience) BadNumber ≡ Ok told
+patient : (limits told : TenantLimits)
+    → ok_or {E = RosterFault} (with_patience limits longest_patience) BadNumber ≡ Ok told
     → told.patience ≡ longest_patience
 patient limits told e =
     let same : record limits { patience = longest_patience } ≡ told = cc in
@@ -42,7 +44,8 @@ plain_steps (Ok n) (Ok m) (Ok k) (Ok j) (Ok i) (Err x) told e = absurd (cc)
 plain_steps (Ok n) (Ok m) (Ok k) (Ok j) (Ok i) (Ok h) told e = by (limits_of n m k j i h) e
   where
     by : (limits : Option TenantLimits)
-        → (ok_or {E = RosterFault} limits BadNumber >>= λ l. ok_or (with_patience l longest_patience) BadNumber) ≡ Ok told
+        → (ok_or {E = RosterFault} limits BadNumber >>= λ l. ok_or (with_patience l longest_patience) BadNumber)
+        ≡ Ok told
         → told.patience ≡ longest_patience
     by None e = absurd (cc)
     by (Some limits) e = patient limits told e

@@ -42,7 +42,8 @@ formal_row fault.Repeated = omega arith
 formal_row fault.Count = omega arith
 formal_row fault.Memory = omega arith
 
-formal_admit : (heading : Heading) (rest : List (List ℕ)) → IsFormal heading (Operator (line_or_fault (admit_line heading rest)))
+formal_admit : (heading : Heading) (rest : List (List ℕ))
+    → IsFormal heading (Operator (line_or_fault (admit_line heading rest)))
 formal_admit heading [] = omega arith
 formal_admit heading (row ∷ []) = told (told_under heading (slice_split is_comma row)) refl
   where
@@ -53,7 +54,8 @@ formal_admit heading (row ∷ []) = told (told_under heading (slice_split is_com
     told (Err found) is = formal_row found
 formal_admit heading (row ∷ word ∷ rest) = omega arith
 
-formal_retire : (heading : Heading) (rest : List (List ℕ)) → IsFormal heading (Operator (line_or_fault (retire_line rest)))
+formal_retire : (heading : Heading) (rest : List (List ℕ))
+    → IsFormal heading (Operator (line_or_fault (retire_line rest)))
 formal_retire heading [] = omega arith
 formal_retire heading (tenant ∷ []) = named (name_of tenant)
   where
@@ -79,7 +81,8 @@ formal_words heading [] = tt
 formal_words heading (first ∷ rest) = chosen (bytes_eq first operator_word) (name_of first)
   where
     chosen : (operator : Bool) (name : Option (List ℕ))
-        → IsFormal heading (if operator then Operator (operator_line_of heading rest) else command_for name (command_of rest))
+        → IsFormal heading (if operator then Operator (operator_line_of heading rest) else command_for name
+        (command_of rest))
     chosen true name = formal_verb heading rest
     chosen false None = tt
     chosen false (Some name) = tt

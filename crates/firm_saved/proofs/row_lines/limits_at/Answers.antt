@@ -11,7 +11,8 @@ words rest = words_behind rest.now
 
 pub returns-in-Err : goal.returns-in-Err
 returns-in-Err c =
-    six_read c.args.heading words c.args.behind c.number_in-nodes.result.1 c.number_in-arcs.result.1 c.number_in-life.result.1
+    six_read c.args.heading words c.args.behind c.number_in-nodes.result.1 c.number_in-arcs.result.1
+    c.number_in-life.result.1
     c.number_in-spread.result.1 c.number_in-churn.result.1 c.number_in-remote.result.1 c.number_in-nodes.result.0
     c.number_in-arcs.result.0 c.number_in-life.result.0 c.number_in-spread.result.0 c.number_in-churn.result.0
     c.number_in-remote.result.0 c.number_in-nodes.ensures c.number_in-arcs.ensures c.number_in-life.ensures
@@ -22,7 +23,8 @@ returns-in-Err c =
 
 pub returns-in-Err-patience_at : goal.returns-in-Err-patience_at
 returns-in-Err-patience_at c =
-    six_read c.args.heading words c.args.behind c.number_in-nodes.result.1 c.number_in-arcs.result.1 c.number_in-life.result.1
+    six_read c.args.heading words c.args.behind c.number_in-nodes.result.1 c.number_in-arcs.result.1
+    c.number_in-life.result.1
     c.number_in-spread.result.1 c.number_in-churn.result.1 c.number_in-remote.result.1 c.number_in-nodes.result.0
     c.number_in-arcs.result.0 c.number_in-life.result.0 c.number_in-spread.result.0 c.number_in-churn.result.0
     c.number_in-remote.result.0 c.number_in-nodes.ensures c.number_in-arcs.ensures c.number_in-life.ensures
@@ -34,7 +36,8 @@ returns-in-Err-patience_at c =
 
 pub returns-in_default : goal.returns-in_default
 returns-in_default c =
-    six_read c.args.heading words c.args.behind c.number_in-nodes.result.1 c.number_in-arcs.result.1 c.number_in-life.result.1
+    six_read c.args.heading words c.args.behind c.number_in-nodes.result.1 c.number_in-arcs.result.1
+    c.number_in-life.result.1
     c.number_in-spread.result.1 c.number_in-churn.result.1 c.number_in-remote.result.1 c.number_in-nodes.result.0
     c.number_in-arcs.result.0 c.number_in-life.result.0 c.number_in-spread.result.0 c.number_in-churn.result.0
     c.number_in-remote.result.0 c.number_in-nodes.ensures c.number_in-arcs.ensures c.number_in-life.ensures
@@ -46,7 +49,8 @@ returns-in_default c =
 
 pub returns-in_default-with_patience : goal.returns-in_default-with_patience
 returns-in_default-with_patience c =
-    six_read c.args.heading words c.args.behind c.number_in-nodes.result.1 c.number_in-arcs.result.1 c.number_in-life.result.1
+    six_read c.args.heading words c.args.behind c.number_in-nodes.result.1 c.number_in-arcs.result.1
+    c.number_in-life.result.1
     c.number_in-spread.result.1 c.number_in-churn.result.1 c.number_in-remote.result.1 c.number_in-nodes.result.0
     c.number_in-arcs.result.0 c.number_in-life.result.0 c.number_in-spread.result.0 c.number_in-churn.result.0
     c.number_in-remote.result.0 c.number_in-nodes.ensures c.number_in-arcs.ensures c.number_in-life.ensures
@@ -58,7 +62,8 @@ returns-in_default-with_patience c =
 
 pub returns : goal.returns
 returns c =
-    six_read c.args.heading words c.args.behind c.number_in-nodes.result.1 c.number_in-arcs.result.1 c.number_in-life.result.1
+    six_read c.args.heading words c.args.behind c.number_in-nodes.result.1 c.number_in-arcs.result.1
+    c.number_in-life.result.1
     c.number_in-spread.result.1 c.number_in-churn.result.1 c.number_in-remote.result.1 c.number_in-nodes.result.0
     c.number_in-arcs.result.0 c.number_in-life.result.0 c.number_in-spread.result.0 c.number_in-churn.result.0
     c.number_in-remote.result.0 c.number_in-nodes.ensures c.number_in-arcs.ensures c.number_in-life.ensures

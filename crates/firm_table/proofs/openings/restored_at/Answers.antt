@@ -13,13 +13,15 @@ bounds-places-place c =
 pub returns-in_ok-restore-in-Some : goal.returns-in_ok-restore-in-Some
 returns-in_ok-restore-in-Some c =
     let here : c.index-places-place.result ≡ get_or c.args.saved.now.places c.args.place untouched =
-    saved_found c.args.saved.now.places _ c.args.place _ c.places.ensures.places c.places.ensures.sound.places.register c.requires
+    saved_found c.args.saved.now.places _ c.args.place _ c.places.ensures.places
+    c.places.ensures.sound.places.register c.requires
     c.index-places-place.is in
     rw (← here) (search rules)
 
 pub returns-in-None : goal.returns-in-None
 returns-in-None c =
     let here : c.index-places-place.result ≡ get_or c.args.saved.now.places c.args.place untouched =
-    saved_found c.args.saved.now.places _ c.args.place _ c.places.ensures.places c.places.ensures.sound.places.register c.requires
+    saved_found c.args.saved.now.places _ c.args.place _ c.places.ensures.places
+    c.places.ensures.sound.places.register c.requires
     c.index-places-place.is in
     rw (← here) (search rules)

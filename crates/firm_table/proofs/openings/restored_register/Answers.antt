@@ -33,7 +33,8 @@ pub restored-requires : goal.restored-requires
 restored-requires c =
     let register = c.places-places.ensures.sound.places.register in
     subst IsRegister
-    (sym (entered c.args.saved.now.places c.loop-at.entries c.loop-at.at (omega arith) register c.loop-at.invariant)) register
+    (sym (entered c.args.saved.now.places c.loop-at.entries c.loop-at.at (omega arith) register c.loop-at.invariant))
+    register
 
 pub returns : goal.returns
 returns c =

@@ -14,7 +14,8 @@ pub loop-place-preserved : goal.loop-place-preserved
 loop-place-preserved c =
     let few : length c.args.roster.now.rows ≤ most_places = omega (arith, c.len.ensures.few, c.len.ensures.length) in
     let added : c.push.new.self.items
-    ≡ c.loop-place.seats.items ++ first_seat (slice_get c.args.roster.now.rows c.loop-place.place) ∷ [] = search rules in
+    ≡ c.loop-place.seats.items ++ first_seat (slice_get c.args.roster.now.rows c.loop-place.place) ∷ [] = search rules
+    in
     added ∙ ap (λ (seats : List Seat). seats ++ first_seat
     (slice_get c.args.roster.now.rows c.loop-place.place) ∷ []) c.loop-place.invariant
     ∙ ap (λ (seat : Seat). take c.loop-place.place (opening_seats c.args.roster.now.rows) ++ seat ∷ [])

@@ -7,5 +7,6 @@ use Rattle.firm_text.proofs.roster_text.own_tenant.Goals as goal
 
 pub returns : goal.returns
 returns c =
-    let read : c.told_tenant.result ≡ own_tenant c.args.width (fields_of c.args.row.now) = grind (arith, common_steps) in
+    let read : c.told_tenant.result
+    ≡ own_tenant c.args.width (fields_of c.args.row.now) = grind (arith, common_steps) in
     record { value = read; fits = own_result_fits c.args.width (fields_of c.args.row.now) c.told_tenant.result read }

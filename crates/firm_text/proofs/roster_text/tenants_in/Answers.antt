@@ -35,7 +35,8 @@ loop-row-preserved c =
       few = let same_length = ap length pushed in let seen_length = ap length seen in omega arith;
       differ = subst NamesDiffer (sym pushed) (names_differ_push earlier tenant c.loop-row.invariant.differ new);
       fit = subst (All (λ (row : RosterRow). FitsHeading (heading_of c.args.width) row.1)) (sym pushed)
-          (All-push (λ (row : RosterRow). FitsHeading (heading_of c.args.width) row.1) earlier tenant c.loop-row.invariant.fit c.in_ok-tenant.ensures.fits);
+          (All-push (λ (row : RosterRow). FitsHeading (heading_of c.args.width) row.1) earlier tenant
+          c.loop-row.invariant.fit c.in_ok-tenant.ensures.fits);
     }
 
 pub returns-in_err-tenant-clause-refused : goal.returns-in_err-tenant-clause-refused
