@@ -9,7 +9,7 @@ use Rattle.clap.specs.declared.builder.arg.Arg.{Arg}
 use Rattle.clap.specs.declared.builder.command.Command.{Command}
 use Rattle.clap.specs.declared.parser.matches.ArgMatches.{ArgMatches}
 use Rattle.firm_rules.specs.Names.{is_name}
-use Rattle.firm_table.specs.Places.{Place}
+use Rattle.firm_table.specs.Opened.{Opened}
 use Rattle.firm_table.specs.Service.{Device, ServedFrom, StoppedFrom}
 use Rattle.firm_table.specs.declared.faults.ServeFault.{ServeFault}
 use Rattle.firm_program.specs.Faults.{status_of}
@@ -92,19 +92,19 @@ misasked given fault (NoTenantNamed none status) = status
 misasked given fault (NoTaskNamed none status) = status
 
 -- what becomes of a service that opened with the file that is named
-pub explains_or_stops : (named : Named) (reader replies : Device) (places : List Place) → Opens named places
+pub explains_or_stops : (named : Named) (reader replies : Device) (opened : Opened) → Opens named opened
     → (served : Result Bool ServeFault) {A : Type 0} (result : Result A Fault)
-    → OnOk served (ServedFrom places (2 ^ 32) reader replies)
-    → IfErr served (StoppedFrom places (2 ^ 32) reader replies) → EndsAs served result
+    → OnOk served (ServedFrom opened (2 ^ 32) reader replies)
+    → IfErr served (StoppedFrom opened (2 ^ 32) reader replies) → EndsAs served result
     → MatchResult result (λ _. ServesFile named reader replies) (StopsExplaining named reader replies)
-explains_or_stops named reader replies places opens (Ok has_lost) (Ok done) serves stops ends =
-    record { places = places; opens = opens; served = serves }
-explains_or_stops named reader replies places opens (Ok has_lost) (Err fault) serves stops ends =
-    LosesReasons ends.1 (record { places = places; opens = opens; served = serves })
-explains_or_stops named reader replies places opens (Err cause) (Ok done) serves stops ends = absurd ends
-explains_or_stops named reader replies places opens (Err cause) (Err fault) serves stops ends =
+explains_or_stops named reader replies opened opens (Ok has_lost) (Ok done) serves stops ends =
+    record { opened = opened; opens = opens; served = serves }
+explains_or_stops named reader replies opened opens (Ok has_lost) (Err fault) serves stops ends =
+    LosesReasons ends.1 (record { opened = opened; opens = opens; served = serves })
+explains_or_stops named reader replies opened opens (Err cause) (Ok done) serves stops ends = absurd ends
+explains_or_stops named reader replies opened opens (Err cause) (Err fault) serves stops ends =
     StopsServing (NotServed (record {
-      places = places;
+      opened = opened;
       opens = opens;
       stopped = record { cause = cause; is = ends; stopped = stops };
     }))

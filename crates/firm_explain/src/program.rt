@@ -2,7 +2,7 @@
 
 ghost use Rattle.std.specs.Prelude.{◌≡◌, ◌^◌, false, OnOk, IfErr, MatchResult, map};
 ghost use Rattle.firm_program.specs.Runs.{ServesFile};
-ghost use Rattle.firm_table.specs.Openings.{places_opened};
+ghost use Rattle.firm_table.specs.Openings.{opened};
 ghost use Rattle.firm_table.specs.Service.{ServedFrom, StoppedFrom, device};
 ghost use Rattle.firm_explain.specs.Program.{Exits, StopsExplaining};
 ghost use Rattle.firm_explain.specs.inner.Asking.{EndsAs};
@@ -115,10 +115,10 @@ fn serve_opening<I: Source, O: Sink, C: Sink, F: Sink>(
 ) -> Result<bool, ServeFault>
     requires reader { I.read_failed reader.old ≡ false }
     requires replies { O.write_failed sinks.old.replies ≡ false }
-    ensures served { OnOk result (ServedFrom (places_opened opening.entry) (2 ^ 32)
+    ensures served { OnOk result (ServedFrom (opened opening.entry) (2 ^ 32)
         (device (I.left reader.old) (I.left reader.new) (I.read_failed reader.new))
         (device (O.written sinks.old.replies) (O.written sinks.new.replies) (O.write_failed sinks.new.replies))) }
-    ensures stopped { IfErr result (StoppedFrom (places_opened opening.entry) (2 ^ 32)
+    ensures stopped { IfErr result (StoppedFrom (opened opening.entry) (2 ^ 32)
         (device (I.left reader.old) (I.left reader.new) (I.read_failed reader.new))
         (device (O.written sinks.old.replies) (O.written sinks.new.replies) (O.write_failed sinks.new.replies))) }
 {

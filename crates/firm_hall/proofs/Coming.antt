@@ -4,6 +4,7 @@ use Rattle.std.proofs.Common.{◌∙◌, subst, arith}
 use Rattle.std.specs.Prelude.{Bool, map, Option, Some, None, true, false}
 use Rattle.std.proofs.Math.Seq.{map-set_same}
 use Rattle.std.proofs.lemmas.List.{set-get_or}
+use Rattle.firm_table.specs.Opened.{Opened}
 use Rattle.firm_rules.specs.Book.{Book}
 use Rattle.firm_rules.specs.declared.commands.Command.{Command}
 use Rattle.firm_rules.specs.declared.commands.Command.TheVariants.{Round}
@@ -11,7 +12,6 @@ use Rattle.firm_rules.specs.declared.replies.Reply.{Reply}
 use Rattle.firm_tenant.specs.Step.{step, is_memory}
 use Rattle.firm_text.specs.Rosters.{most_places}
 use Rattle.firm_text.specs.declared.registers.Entry.{Entry}
-use Rattle.firm_table.specs.Places.{Place}
 use Rattle.firm_rounds.specs.Rounds.{weigh}
 use Rattle.firm_rounds.specs.Passes.{QueueId}
 use Rattle.firm_hall.specs.Desks.{DeskIs, IsStep}
@@ -44,7 +44,7 @@ pub stays_open : {id : QueueId} {old new : ServingIs} → Follows old new → Is
 stays_open follows before = follows.same_hall ∙ before
 
 -- a command that waits is done: its reply is the one that a mark tells
-module _ (opening : List Place) (register : List Entry) (desk_states after : List DeskState)
+module _ (opening : Opened) (register : List Entry) (desk_states after : List DeskState)
     (answers : List HeldAnswer) (output : List ℕ) (place : ℕ) where
   pub fill_told : (mark : Mark) (command : Command) (reply : Reply) (book later : Book) (more : ℕ)
       → FirstIs place command answers → get_or (map book_at desk_states) place None ≡ Some book
@@ -101,7 +101,7 @@ module _ (queue : QueueId) (register : List Entry) (desk_states : List DeskState
       → ((other : ℕ) (desk_state : DeskState) → other ≢ place → DeskStateIs queue other held.answers desk_state
       → DeskStateIs queue other later desk_state)
       → ArePlaced later → length later ≡ length held.answers
-      → ((opening : List Place) (text : List ℕ) (written now : Option (List ℕ))
+      → ((opening : Opened) (text : List ℕ) (written now : Option (List ℕ))
       → TellsParts opening register desk_states held.answers held.output text written now
       → TellsParts opening register (set desk_states place last) later held.output text written now)
       → Moved (serving_is queue register desk_states held)

@@ -5,8 +5,8 @@ use Rattle.std.specs.Prelude.{false, map, Option, Result, Ok, Err, OnErr, OnOk}
 use Rattle.std.proofs.Math.Seq.{take-length}
 use Rattle.std.specs.Io.KnownBytes.{Appends}
 use Rattle.std.proofs.KnownBytes.{Appends-nil}
+use Rattle.firm_table.specs.Opened.{Opened}
 use Rattle.firm_text.specs.declared.registers.Entry.{Entry}
-use Rattle.firm_table.specs.Places.{Place}
 use Rattle.firm_table.specs.Service.{AnswersFrom}
 use Rattle.firm_rounds.specs.Rounds.{weigh}
 use Rattle.firm_rounds.specs.Passes.{QueueId}
@@ -48,7 +48,7 @@ abbrev unmarked : ℕ → Mark
 unmarked at = (false, false)
 
 -- and its text is still to be written
-pub popped_tells : (opening : List Place) (register : List Entry) (desk_states : List DeskState)
+pub popped_tells : (opening : Opened) (register : List Entry) (desk_states : List DeskState)
     (answers rest : List HeldAnswer)
     (answer : HeldAnswer) (output later : List ℕ) → answers ≡ answer ∷ rest → FirstIsKnown answers
     → later ≡ output ++ known_text answer
@@ -78,7 +78,7 @@ front_is desk_states answers output marks =
     ∙ reckon_front output marks (before_held desk_states []) answers
 
 -- some of that was written
-pub partly : (opening : List Place) (register : List Entry) (desk_states : List DeskState)
+pub partly : (opening : Opened) (register : List Entry) (desk_states : List DeskState)
     (answers : List HeldAnswer)
     (output text : List ℕ) (written now later : Option (List ℕ)) (count : ℕ)
     → Appends now later (take count output) → TellsParts opening register desk_states answers output text written now
@@ -90,7 +90,7 @@ partly opening register desk_states answers output text written now later count 
     (subst (λ (r : Reckoned). TellsReckoned opening register r text written now)
     (front_is desk_states answers output unmarked) (told unmarked)) refl wrote
 
-pub wholly : (opening : List Place) (register : List Entry) (desk_states : List DeskState)
+pub wholly : (opening : Opened) (register : List Entry) (desk_states : List DeskState)
     (answers : List HeldAnswer)
     (output text : List ℕ) (written now later : Option (List ℕ))
     → Appends now later output → TellsParts opening register desk_states answers output text written now
@@ -100,7 +100,7 @@ wholly opening register desk_states answers output text written now later wrote 
     (subst (Appends now later) (sym (take-length output)) wrote) told
 
 -- or none yet
-pub begun : (opening : List Place) (register : List Entry) (desk_states : List DeskState) (answers : List HeldAnswer)
+pub begun : (opening : Opened) (register : List Entry) (desk_states : List DeskState) (answers : List HeldAnswer)
     (output text : List ℕ) (written now : Option (List ℕ))
     → TellsParts opening register desk_states answers output text written now
     → Begun opening text written now
@@ -108,7 +108,7 @@ begun opening register desk_states answers output text written now told =
     partly opening register desk_states answers output text written now now 0 (Appends-nil now) told
 
 -- or all
-pub written_all : (opening : List Place) (register : List Entry) (desk_states : List DeskState)
+pub written_all : (opening : Opened) (register : List Entry) (desk_states : List DeskState)
     (answers : List HeldAnswer)
     (output held text : List ℕ) (written now later : Option (List ℕ)) → held ≡ []
     → Appends now later output → TellsParts opening register desk_states answers output text written now
@@ -123,7 +123,7 @@ written_all opening register desk_states answers output held text written now la
     (front_is desk_states answers output marks) (told marks)) refl wrote)
 
 -- nothing is still to be written: what was is the output
-pub answers_all : (opening : List Place) (register : List Entry) (desk_states : List DeskState)
+pub answers_all : (opening : Opened) (register : List Entry) (desk_states : List DeskState)
     (answers : List HeldAnswer)
     (output text : List ℕ) (written now : Option (List ℕ)) → answers ≡ [] → output ≡ []
     → TellsParts opening register desk_states answers output text written now → AnswersFrom opening text written now

@@ -4,6 +4,7 @@ use Rattle.std.proofs.Common.{arith}
 use Rattle.std.specs.Prelude.{Bool, true, false, map, Option, Some, None, Ok, Err}
 use Rattle.std.specs.Option.{ok_or}
 use Rattle.std.proofs.lemmas.List.{map-set, set-get_or}
+use Rattle.firm_table.specs.Opened.{Opened}
 use Rattle.firm_rules.specs.Limits.{TenantLimits}
 use Rattle.firm_rules.specs.Book.{Book, opening_book}
 use Rattle.firm_text.specs.Registers.{IsRegister, admissions_at, occupied, place_for, place_in, vacant}
@@ -17,7 +18,6 @@ use Rattle.firm_text.specs.declared.operator.OperatorRefusal.TheVariants.{NoSuch
 use Rattle.firm_text.specs.declared.operator.OperatorReply.{OperatorReply}
 use Rattle.firm_text.specs.declared.operator.OperatorReply.TheVariants.{Admitted, Retired, Refused}
 use Rattle.firm_text.specs.declared.registers.Entry.{Entry}
-use Rattle.firm_table.specs.Places.{Place}
 use Rattle.firm_table.specs.declared.answers.LineAnswer.TheVariants.{ToOperator}
 use Rattle.firm_table.specs.Tenants.{tenants_are}
 use Rattle.firm_table.specs.Adding.{OneMoreIsTold, AdmissionsAreAnswered, AdmissionsFindNoMemory}
@@ -37,13 +37,13 @@ use Rattle.firm_hall.proofs.DeskStates.{asked_set, books_set, desk_states_set}
 use Rattle.firm_hall.proofs.Taking.{Tells, changed_told, known_told}
 
 -- what is held once the operator has its reply: one line more is told
-abbrev pub Told : List Place → List Entry → List Entry → List DeskState → List DeskState → List HeldAnswer → List ℕ
+abbrev pub Told : Opened → List Entry → List Entry → List DeskState → List DeskState → List HeldAnswer → List ℕ
     → OperatorLine → OperatorReply → Type 0
 Told opening register later desk_states after answers output request reply =
     Tells opening register later desk_states after answers (answers ++ Known (ToOperator reply) ∷ []) output
     (Operator request)
 
-module _ (one_more : OneMoreIsTold) (opening : List Place) (register : List Entry) (desk_states : List DeskState)
+module _ (one_more : OneMoreIsTold) (opening : Opened) (register : List Entry) (desk_states : List DeskState)
     (answers : List HeldAnswer) (output : List ℕ) where
   -- a line of the operator that asks for nothing
   pub faulty_told : (refusal : OperatorRefusal)

@@ -4,8 +4,8 @@ use Rattle.std.proofs.Common.{length-append, arith, inl}
 use Rattle.std.specs.Prelude.{Bool, false, Option}
 use Rattle.std.specs.Io.KnownBytes.{Appends}
 use Rattle.std.proofs.KnownBytes.{Appends-nil, Appends-kept, Consumes-nil}
+use Rattle.firm_table.specs.Opened.{Opened}
 use Rattle.firm_text.specs.declared.registers.Entry.{Entry}
-use Rattle.firm_table.specs.Places.{Place}
 use Rattle.firm_table.specs.Output.{output_from}
 use Rattle.firm_table.specs.Service.{Device, device, ServedFrom, StoppedFrom}
 use Rattle.firm_table.specs.Telling.{ToldToTheEnd}
@@ -19,7 +19,7 @@ use Rattle.firm_hall.specs.declared.desk_states.DeskState.{DeskState}
 use Rattle.firm_held.specs.declared.held.HeldAnswer.{HeldAnswer}
 
 -- nothing was read yet
-pub unread : (opening : List Place) (most : ℕ) (left written : Option (List ℕ)) (read_failed write_failed : Bool)
+pub unread : (opening : Opened) (most : ℕ) (left written : Option (List ℕ)) (read_failed write_failed : Bool)
     → read_failed ≡ false → write_failed ≡ false
     → StoppedFrom opening most (device left left read_failed) (device written written write_failed) Memory
 unread opening most left written read_failed write_failed reads writes = record {
@@ -38,7 +38,7 @@ unread opening most left written read_failed write_failed reads writes = record 
 }
 
 -- all was read, and nothing is still to be written
-pub served_with : (opening : List Place) (register : List Entry) (desk_states : List DeskState)
+pub served_with : (opening : Opened) (register : List Entry) (desk_states : List DeskState)
     (answers : List HeldAnswer)
     (output : List ℕ) (most : ℕ) (reader writer : Device) → answers ≡ [] → output ≡ []
     → ToldToTheEnd (TellsParts opening register desk_states answers output) most reader writer
@@ -50,7 +50,7 @@ served_with opening register desk_states answers output most reader writer none_
     subst (λ (xs : List HeldAnswer). TellsReckoned opening register (reckon marks (before_held desk_states output) xs)
     end.input writer.before end.told.until) none_held (end.told.told marks) in
     let t = tells.told in
-    let whole : t.sent ≡ output_from opening t.lines =
+    let whole : t.sent ≡ output_from opening.places t.lines =
     sym (append-nil t.sent) ∙ ap (λ (l : List ℕ). t.sent ++ l) (sym none) ∙ t.whole in
     let counted = tells.counted in
     record {
@@ -62,7 +62,7 @@ served_with opening register desk_states answers output most reader writer none_
         answers = record {
           lines = t.lines;
           are_lines = t.are_lines;
-          wrote = Appends-kept writer.before end.told.until writer.after (output_from opening t.lines)
+          wrote = Appends-kept writer.before end.told.until writer.after (output_from opening.places t.lines)
               (subst (Appends writer.before end.told.until) whole t.wrote) end.told.kept;
         };
         reads = served.reads;
@@ -73,7 +73,7 @@ served_with opening register desk_states answers output most reader writer none_
     }
 
 -- the same, of the places that a body knows to be these, and of a count that it knows
-pub served_by : (opening own now : List Place) (register : List Entry) (desk_states : List DeskState)
+pub served_by : (opening own now : Opened) (register : List Entry) (desk_states : List DeskState)
     (answers : List HeldAnswer)
     (output : List ℕ) (most asked : ℕ) (reader writer : Device) → own ≡ opening → now ≡ own
     → asked ≡ weigh asked_at desk_states → answers ≡ [] → output ≡ []
@@ -84,8 +84,8 @@ served_by opening own now register desk_states answers output most asked reader 
     served =
     let here : ServedWithFrom now most reader writer (weigh asked_at desk_states) =
     served_with now register desk_states answers output most reader writer none_held none end
-    (subst (λ (r : List Place). ServedFrom r most reader writer) (sym same) served) in
-    subst (λ (r : List Place). ServedWithFrom r most reader writer asked) (same ∙ is)
+    (subst (λ (r : Opened). ServedFrom r most reader writer) (sym same) served) in
+    subst (λ (r : Opened). ServedWithFrom r most reader writer asked) (same ∙ is)
     (subst (λ (n : ℕ). ServedWithFrom now most reader writer n) (sym all) here)
 
 -- a pass for each worker

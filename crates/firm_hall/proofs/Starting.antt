@@ -4,6 +4,7 @@ use Rattle.std.proofs.Common.{add-one, append_assoc, sym, ap, ◌∙◌, subst, 
 use Rattle.std.specs.Prelude.{Bool, map, Option, Some, None, IsSome, option_map}
 use Rattle.std.specs.Option.{is_some}
 use Rattle.std.proofs.lemmas.List.{drop_more}
+use Rattle.firm_table.specs.Opened.{Opened}
 use Rattle.firm_rules.specs.Book.{Book}
 use Rattle.firm_text.specs.Rosters.{most_places}
 use Rattle.firm_rounds.specs.Rounds.{weigh}
@@ -146,25 +147,26 @@ desk_states_open id places desk_states answers all is none =
     })
 
 pub tells_open : NothingIsTold
-    → (id : QueueId) (places : List Place) (desk_states : List DeskState) (answers : List HeldAnswer)
+    → (id : QueueId) (opening : Opened) (desk_states : List DeskState) (answers : List HeldAnswer)
     (output : List ℕ)
-    → desk_states ≡ opening_states id 0 places → answers ≡ [] → output ≡ []
-    → (written : Option (List ℕ)) → TellsParts places (register_of places) desk_states answers output []
+    → desk_states ≡ opening_states id 0 opening.places → answers ≡ [] → output ≡ []
+    → (written : Option (List ℕ)) → TellsParts opening (register_of opening.places) desk_states answers output []
     written written
-tells_open nothing id places desk_states answers output is none empty written marks =
-    let n = nothing places written in
+tells_open nothing id opening desk_states answers output is none empty written marks =
+    let places : List Place = opening.places in
+    let n = nothing opening written in
     let zero_lines : Counted 0 n.0.lines (answers_from places n.0.lines) =
     subst (λ (ls : List MarkedLine). Counted 0 ls (answers_from places ls)) (sym n.1)
     (record { least = omega arith; most = omega arith }) in
-    let t : Tells (state_is places (tenants_at places) []) 0 [] written written =
+    let t : Tells (state_is opening (tenants_at places) []) 0 [] written written =
     record { told = n.0; counted = zero_lines } in
     rw (is, none, empty)
     (subst (λ (k : ℕ). Tells
-    (state_is places (tenants_are (register_of places) (map book_at (opening_states id 0 places))) []) k
+    (state_is opening (tenants_are (register_of places) (map book_at (opening_states id 0 places))) []) k
     [] written written)
     (sym (asked_open id 0 places))
     (subst (λ (bs : List (Option Book)). Tells
-    (state_is places (tenants_are (register_of places) bs) []) 0 [] written written)
+    (state_is opening (tenants_are (register_of places) bs) []) 0 [] written written)
     (sym (books_open id places)) t))
 
 -- where no answer is held, each desk of this hall is home

@@ -4,6 +4,7 @@ use Rattle.std.proofs.Common.{subst, arith, append-nil, ne_eqb}
 use Rattle.std.specs.Prelude.{Bool, true, false, map, Option, Some, None}
 use Rattle.std.proofs.Math.Seq.{map-set_same}
 use Rattle.std.proofs.lemmas.List.{length-map}
+use Rattle.firm_table.specs.Opened.{Opened}
 use Rattle.firm_rules.specs.Book.{Book}
 use Rattle.firm_rules.specs.declared.commands.Command.{Command}
 use Rattle.firm_rules.specs.declared.commands.Command.TheVariants.{Round}
@@ -16,7 +17,6 @@ use Rattle.firm_text.specs.Rosters.{most_places}
 use Rattle.firm_text.specs.declared.inputs.Line.{Line}
 use Rattle.firm_text.specs.declared.inputs.Line.TheVariants.{Nothing, For}
 use Rattle.firm_text.specs.declared.registers.Entry.{Entry}
-use Rattle.firm_table.specs.Places.{Place}
 use Rattle.firm_table.specs.declared.answers.LineAnswer.{LineAnswer}
 use Rattle.firm_table.specs.declared.answers.LineAnswer.TheVariants.{Silent, UnknownTenant, Replied}
 use Rattle.firm_table.specs.Tenants.{tenants_are}
@@ -51,10 +51,10 @@ pub record LineStep (register later_register : List Entry) (before after : Recko
   pub adds : AddsAnswer before.asked after.asked line answer.answer
 
 pub one_told : OneMoreIsTold
-    → (opening : List Place) (register later_register : List Entry) (before after : Reckoned) (line : Line)
+    → (opening : Opened) (register later_register : List Entry) (before after : Reckoned) (line : Line)
     → LineStep register later_register before after line
     → (text text_after : List ℕ) (written now : Option (List ℕ))
-    → input_lines text_after ≡ input_lines text ++ line ∷ []
+    → input_lines opening.heading text_after ≡ input_lines opening.heading text ++ line ∷ []
     → TellsReckoned opening register before text written now
     → TellsReckoned opening later_register after text_after written now
 one_told one_more opening register later_register before after line s text text_after written now more told =
@@ -62,16 +62,16 @@ one_told one_more opening register later_register before after line s text text_
     before.asked after.asked text text_after written now more s.answer s.adds told
 
 -- one more line is told
-abbrev pub Tells : List Place → List Entry → List Entry → List DeskState → List DeskState → List HeldAnswer
+abbrev pub Tells : Opened → List Entry → List Entry → List DeskState → List DeskState → List HeldAnswer
     → List HeldAnswer → List ℕ → Line → Type 0
 Tells opening register later_register desk_states after answers later output line =
     (text text_after : List ℕ) (written now : Option (List ℕ))
-    → input_lines text_after ≡ input_lines text ++ line ∷ []
+    → input_lines opening.heading text_after ≡ input_lines opening.heading text ++ line ∷ []
     → TellsParts opening register desk_states answers output text written now
     → TellsParts opening later_register after later output text_after written now
 
 -- a line that no tenant answers
-module _ (one_more : OneMoreIsTold) (opening : List Place) (register : List Entry) (desk_states : List DeskState)
+module _ (one_more : OneMoreIsTold) (opening : Opened) (register : List Entry) (desk_states : List DeskState)
     (answers : List HeldAnswer) (output : List ℕ) (line : Line) where
   pub nothing_told : line ≡ Nothing
       → Tells opening register register desk_states desk_states answers answers output line
@@ -85,7 +85,7 @@ module _ (one_more : OneMoreIsTold) (opening : List Place) (register : List Entr
           text = sym (append-nil before.text);
         };
         adds = record { least = omega arith; most = omega arith };
-      }) text text_after written now (more ∙ ap (λ (l : Line). input_lines text ++ l ∷ []) is) (told marks)
+      }) text text_after written now (more ∙ ap (λ (l : Line). input_lines opening.heading text ++ l ∷ []) is) (told marks)
 
   -- and which changes the book of a place for which no command waits
   pub changed_told : (later_register : List Entry) (after : List DeskState) (answer : LineAnswer) (place : ℕ)
@@ -135,7 +135,7 @@ module _ (one_more : OneMoreIsTold) (opening : List Place) (register : List Entr
 
 -- a command of a tenant that is not there
 pub stranger_told : OneMoreIsTold → StrangersAreAnswered
-    → (opening : List Place) (register : List Entry) (desk_states : List DeskState) (answers : List HeldAnswer)
+    → (opening : Opened) (register : List Entry) (desk_states : List DeskState) (answers : List HeldAnswer)
     (output name : List ℕ) (command : Command) → place_in register name ≡ None
     → Tells opening register register desk_states desk_states answers (answers ++ Known UnknownTenant ∷ []) output
     (For name command)
@@ -175,7 +175,7 @@ waiting_step known tell register mark place name command before book sound named
     (command_step known tell register mark place name command before book sound named found)
 
 pub waiting_told : OneMoreIsTold → TenantsAreAnswered → RepliesTellTheirMarks
-    → (opening : List Place) (register : List Entry) (desk_states : List DeskState) (answers : List HeldAnswer)
+    → (opening : Opened) (register : List Entry) (desk_states : List DeskState) (answers : List HeldAnswer)
     (output : List ℕ) (place : ℕ) (name : List ℕ) (command : Command) (book : Book)
     → IsRegister register → place_in register name ≡ Some place → place < length desk_states
     → get_or (map book_at desk_states) place None ≡ Some book
@@ -226,7 +226,7 @@ module _ (one_more : OneMoreIsTold) (known : TenantsAreAnswered) (tell : Replies
       → desk_state_counts last ≡ desk_state_counts before
       → DeskStateIs queue place (held.answers ++ answer ∷ []) last
       → ((other : ℕ) → other ≢ place → waits_for other answer ≡ false) → IsPlaced answer
-      → ((opening : List Place) → Tells opening register register desk_states (set desk_states place last) held.answers
+      → ((opening : Opened) → Tells opening register register desk_states (set desk_states place last) held.answers
       (held.answers ++ answer ∷ []) held.output (For name command))
       → Took (serving_is queue register desk_states held)
       (serving_is queue register (set desk_states place last) (held_is (held.answers ++ answer ∷ []) held.output))
@@ -247,7 +247,7 @@ module _ (one_more : OneMoreIsTold) (known : TenantsAreAnswered) (tell : Replies
 
   -- its answer is held, as one that waits
   waits_told : (before last : DeskState) (book : Book) → before ≡ get_or desk_states place default
-      → book_at before ≡ Some book → (opening : List Place)
+      → book_at before ≡ Some book → (opening : Opened)
       → Tells opening register register desk_states desk_states held.answers
       (held.answers ++ Waiting place name command ∷ []) held.output (For name command)
   waits_told before last book at found opening =

@@ -7,9 +7,10 @@ use Rattle.std.specs.Io.KnownBytes.{Appends}
 use Rattle.std.proofs.KnownBytes.{Appends-trans}
 use Rattle.std.proofs.lemmas.List.{length-map, take-append-drop}
 use Rattle.std.proofs.Math.Seq.{take-append_seam}
+use Rattle.firm_table.specs.Opened.{Opened}
 use Rattle.firm_text.specs.Inputs.{input_lines}
 use Rattle.firm_text.specs.declared.inputs.Line.{Line}
-use Rattle.firm_table.specs.Places.{MarkedLine, Place}
+use Rattle.firm_table.specs.Places.{MarkedLine}
 use Rattle.firm_table.specs.Answers.{tells_memory}
 use Rattle.firm_table.specs.declared.answers.LineAnswer.{LineAnswer}
 use Rattle.firm_table.specs.Output.{answers_from, output_from}
@@ -46,23 +47,23 @@ pub record AddsAnswer (asked later : ℕ) (line : Line) (answer : LineAnswer) : 
 
 pub tells_more : OneMoreIsTold
     → (state : State) (tenants : TenantsState) (pending : List ℕ) (line : Line) (asked later : ℕ) (text after : List ℕ)
-    (written now : Option (List ℕ)) → input_lines after ≡ input_lines text ++ line ∷ []
+    (written now : Option (List ℕ)) → input_lines state.opening.heading after ≡ input_lines state.opening.heading text ++ line ∷ []
     → (a : IsAnswer state.tenants tenants line state.pending pending) → AddsAnswer asked later line a.answer
     → Tells state asked text written now → Tells (state_is state.opening tenants pending) later after written now
 tells_more one_more state tenants pending line asked later text after written now more a adds tells =
     let q = one_more state text after written now tenants pending line tells.told more a in
     let old = tells.told.lines in
-    let answers = answers_from state.opening old in
+    let answers = answers_from state.opening.places old in
     let given : MarkedLine = (line, tells_memory a.answer) in
     let long : length old ≡ length answers =
     sym (length-map old (λ (g : MarkedLine). g.1)) ∙ ap length tells.told.are_lines.marks
     ∙ length-map answers tells_memory in
-    let rounds : rounds_in q.0.lines (answers_from state.opening q.0.lines)
+    let rounds : rounds_in q.0.lines (answers_from state.opening.places q.0.lines)
     ≡ rounds_in old answers + round_of line a.answer =
-    ap (λ (ls : List MarkedLine). rounds_in ls (answers_from state.opening q.0.lines)) q.1
+    ap (λ (ls : List MarkedLine). rounds_in ls (answers_from state.opening.places q.0.lines)) q.1
     ∙ ap (λ (xs : List LineAnswer). rounds_in (old ++ given ∷ []) xs) q.2
     ∙ rounds_more old answers given a.answer long in
-    let refusals : refusals_in (answers_from state.opening q.0.lines) ≡ refusals_in answers + refusal_in a.answer =
+    let refusals : refusals_in (answers_from state.opening.places q.0.lines) ≡ refusals_in answers + refusal_in a.answer =
     ap refusals_in q.2 ∙ refusals_more answers a.answer in
     let counted = tells.counted in
     record {
@@ -97,13 +98,13 @@ tells_begins state asked text written now later count front held tells both wrot
     }
 
 -- what was written begins the output for the answered lines
-pub begun_answers : (opening : List Place) (text : List ℕ) (written now : Option (List ℕ))
+pub begun_answers : (opening : Opened) (text : List ℕ) (written now : Option (List ℕ))
     → Begun opening text written now → BeginsAnswersFrom opening text written now
 begun_answers opening text written now begun =
     let t = begun.told in
-    let front : take (length t.sent) (output_from begun.state.opening t.lines) ≡ t.sent =
+    let front : take (length t.sent) (output_from begun.state.opening.places t.lines) ≡ t.sent =
     ap (take (length t.sent)) (sym t.whole) ∙ take-append_seam t.sent begun.state.pending in
-    subst (λ (places : List Place). BeginsAnswersFrom places text written now) begun.opened
+    subst (λ (o : Opened). BeginsAnswersFrom o text written now) begun.opened
     (record {
       lines = t.lines;
       are_lines = t.are_lines;
@@ -113,11 +114,11 @@ begun_answers opening text written now begun =
 
 -- and that for one more line
 pub begun_more : OneMoreBegins
-    → (opening : List Place) (text after : List ℕ) (written now : Option (List ℕ)) (line : Line)
-    → input_lines after ≡ input_lines text ++ line ∷ [] → Begun opening text written now
+    → (opening : Opened) (text after : List ℕ) (written now : Option (List ℕ)) (line : Line)
+    → input_lines opening.heading after ≡ input_lines opening.heading text ++ line ∷ [] → Begun opening text written now
     → BeginsAnswersFrom opening after written now
 begun_more short opening text after written now line more begun =
-    subst (λ (places : List Place). BeginsAnswersFrom places after written now) begun.opened
+    subst (λ (o : Opened). BeginsAnswersFrom o after written now) begun.opened
     (short begun.state text after written now line begun.told more)
 
 -- the front of it was

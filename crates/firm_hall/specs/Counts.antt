@@ -8,9 +8,10 @@ use Rattle.firm_rules.specs.declared.replies.Refusal.TheVariants.{Worn}
 use Rattle.firm_tenant.specs.Step.{is_memory}
 use Rattle.firm_text.specs.declared.inputs.Line.{Line}
 use Rattle.firm_text.specs.declared.inputs.Line.TheVariants.{Nothing, Long, Nameless, For, Operator}
-use Rattle.firm_text.specs.Rosters.{RosterRow}
+use Rattle.firm_text.specs.Rosters.{RosterIs}
 use Rattle.firm_table.specs.Interleaving.{is_round}
-use Rattle.firm_table.specs.Places.{MarkedLine, Place, opening_places}
+use Rattle.firm_table.specs.Opened.{Opened, opened_roster}
+use Rattle.firm_table.specs.Places.{MarkedLine}
 use Rattle.firm_table.specs.Output.{answers_from}
 use Rattle.firm_table.specs.Service.{Device, ServedFrom}
 use Rattle.firm_table.specs.declared.answers.LineAnswer.{LineAnswer}
@@ -64,12 +65,12 @@ pub record Counted (asked : ℕ) (lines : List MarkedLine) (answers : List LineA
 
 -- What Ok says of a service: what was written is the output for all that was read; and this many rounds were asked, all
 -- that the lines ask for if no reply of a tenant says that memory was refused.
-pub record ServedWithFrom (places : List Place) (most : ℕ) (reader writer : Device) (asked : ℕ) : Type 0 where
-  pub served : ServedFrom places most reader writer
-  pub counted : Counted asked served.answers.lines (answers_from places served.answers.lines)
-  pub exact : refusals_in (answers_from places served.answers.lines) ≡ 0
-      → asked ≡ rounds_in served.answers.lines (answers_from places served.answers.lines)
+pub record ServedWithFrom (opened : Opened) (most : ℕ) (reader writer : Device) (asked : ℕ) : Type 0 where
+  pub served : ServedFrom opened most reader writer
+  pub counted : Counted asked served.answers.lines (answers_from opened.places served.answers.lines)
+  pub exact : refusals_in (answers_from opened.places served.answers.lines) ≡ 0
+      → asked ≡ rounds_in served.answers.lines (answers_from opened.places served.answers.lines)
 
 -- the same for a service of a roster
-abbrev pub ServedWith : List RosterRow → ℕ → Device → Device → ℕ → Type 0
-ServedWith roster = ServedWithFrom (opening_places roster)
+abbrev pub ServedWith : RosterIs → ℕ → Device → Device → ℕ → Type 0
+ServedWith roster = ServedWithFrom (opened_roster roster)

@@ -1,7 +1,7 @@
 //! The hall as a clerk: lines are answered while rounds are away.
 ghost use Rattle.std.specs.Prelude.{◌≡◌, ℕ, ◌+◌, ◌≤◌, ◌^◌, All, IfOk, List, Option, [], false, length, vec_capacity};
 ghost use Rattle.firm_text.specs.Rosters.{most_places};
-ghost use Rattle.firm_table.specs.Openings.{places_opened};
+ghost use Rattle.firm_table.specs.Openings.{opened};
 ghost use Rattle.firm_table.specs.Service.{between};
 ghost use Rattle.firm_rounds.specs.Passes.{QueueIs, new_puts};
 ghost use Rattle.firm_hall.specs.inner.Ending.{AreOf, Ran};
@@ -19,7 +19,7 @@ use crate::waiting::{End, Input, Turn};
 use firm_held::Held;
 use firm_rounds::PutPass;
 use firm_table::{Clerk, Opening, ServeFault, answers_add_up, serve_lines};
-use firm_text::{Line, PLACES, Sink, Source};
+use firm_text::{Heading, Line, PLACES, Sink, Source};
 use std::alloc::AllocError;
 use std::snapshot::Snapshot;
 use std::sync::Wait;
@@ -27,7 +27,7 @@ use std::sync::Wait;
 /// A serving hall, and the room reserved for its desks at the end.
 pub(crate) struct HallClerk<'h, R: Wait> {
     pub(crate) setting: Setting<'h, R>,
-    // What the service opened with; only clauses read it.
+    // What the service opened with.
     pub(crate) opening: Opening<'h>,
     pub(crate) serving: Serving,
     pub(crate) desks: Vec<Desk>,
@@ -64,10 +64,9 @@ impl<'h, R: Wait> HallClerk<'h, R> {
         requires unused { All (λ p. p.put ≡ 0) passes.items }
         ensures open { IfOk result (λ clerk. IsOpen clerk.setting.hall.now.id clerk.serving) }
         ensures told { IfOk result (λ clerk. (written : Option (List ℕ))
-            → TellsAll (places_opened clerk.opening) clerk.serving [] written written) }
+            → TellsAll (opened clerk.opening) clerk.serving [] written written) }
         ensures hall { IfOk result (λ clerk. clerk.setting.hall.now ≡ setting.entry.hall.now) }
-        ensures opening { IfOk result (λ clerk. places_opened clerk.opening
-            ≡ places_opened opening.entry) }
+        ensures opening { IfOk result (λ clerk. opened clerk.opening ≡ opened opening.entry) }
     {
         // A law: before the first line nothing is told.
         answers_add_up();
@@ -101,11 +100,11 @@ impl<'h, R: Wait> HallClerk<'h, R> {
     ) -> Result<Ended, ServeFault>
         requires open { IsOpen self.setting.hall.now.id self.serving }
         requires told { (written : Option (List ℕ))
-            → TellsAll (places_opened self.opening) self.serving [] written written }
+            → TellsAll (opened self.opening) self.serving [] written written }
         requires most { most ≤ 2 ^ 32 }
         requires reader { S.read_failed reader.old ≡ false }
         requires writer { W.write_failed writer.old ≡ false }
-        ensures ran { Ran (places_opened self.entry.opening) most
+        ensures ran { Ran (opened self.entry.opening) most
             (between S.left S.read_failed reader.old reader.new)
             (between W.written W.write_failed writer.old writer.new) result }
         ensures desks { IfOk result
@@ -129,16 +128,20 @@ impl<'h, R: Wait> Clerk for HallClerk<'h, R> {
 
     ghost kept = { λ clerk. clerk.setting.hall.now };
 
-    ghost opening = { λ clerk. places_opened clerk.opening };
+    ghost opening = { λ clerk. opened clerk.opening };
 
     ghost is_open = { λ clerk. IsOpen clerk.setting.hall.now.id clerk.serving };
 
     ghost told = { λ clerk text written now.
-        TellsAll (places_opened clerk.opening) clerk.serving text written now };
+        TellsAll (opened clerk.opening) clerk.serving text written now };
 
     ghost is_written_out = { λ clerk. IsWrittenOut clerk.serving };
 
     ghost is_finished = { λ clerk. IsFinished clerk.serving };
+
+    fn heading(&self) -> Heading {
+        self.opening.heading()
+    }
 
     fn answer<W: Sink>(&mut self, writer: &mut W, line: Line) -> Result<(), ServeFault> {
         // Laws: of one more line.

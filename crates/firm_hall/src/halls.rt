@@ -66,10 +66,10 @@ impl Hall {
     ) -> Result<(Hall, Vec<Desk>, Vec<WorkerPass>, Vec<EmptyDesk>), AllocError>
         requires { (1 ≤ workers) × (workers ≤ 8) }
         ensures counts { IfOk result (λ r. (r.0.puts ≡ most_places) × (r.0.pops ≡ workers)) }
-        ensures desks { IfOk result (λ r. r.1.items ≡ opening_desks r.0.id 0 roster.now) }
+        ensures desks { IfOk result (λ r. r.1.items ≡ opening_desks r.0.id 0 roster.now.rows) }
         ensures passes { IfOk result (λ r. r.2.items ≡ new_pops r.0.id workers) }
         ensures empty { IfOk result
-            (λ r. r.3.items ≡ unused_places r.0.id (length roster.now) (most_places - length roster.now)) }
+            (λ r. r.3.items ≡ unused_places r.0.id (length roster.now.rows) (most_places - length roster.now.rows)) }
         ensures of_this { IfOk result
             (λ r. All (λ d. d.queue ≡ r.0.id) r.1.items × All (λ p. p.queue ≡ r.0.id) r.2.items) }
         ensures empty_of_this { IfOk result (λ r. All (λ e. e.queue ≡ r.0.id) r.3.items) }
@@ -152,12 +152,12 @@ fn open_hall(
     workers: usize,
 ) -> Result<(Hall, Vec<Desk>, Vec<WorkerPass>, Vec<EmptyDesk>), AllocError>
     requires workers { (1 ≤ workers) × (workers ≤ 8) }
-    requires places { (length roster.now ≤ places) × (places ≤ most_places) }
+    requires places { (length roster.now.rows ≤ places) × (places ≤ most_places) }
     ensures counts { IfOk result (λ r. (r.0.puts ≡ places) × (r.0.pops ≡ workers)) }
-    ensures desks { IfOk result (λ r. r.1.items ≡ opening_desks r.0.id 0 roster.now) }
+    ensures desks { IfOk result (λ r. r.1.items ≡ opening_desks r.0.id 0 roster.now.rows) }
     ensures passes { IfOk result (λ r. r.2.items ≡ new_pops r.0.id workers) }
     ensures empty { IfOk result
-        (λ r. r.3.items ≡ unused_places r.0.id (length roster.now) (places - length roster.now)) }
+        (λ r. r.3.items ≡ unused_places r.0.id (length roster.now.rows) (places - length roster.now.rows)) }
     ensures of_this { IfOk result
         (λ r. All (λ d. d.queue ≡ r.0.id) r.1.items × All (λ p. p.queue ≡ r.0.id) r.2.items) }
     ensures empty_of_this { IfOk result (λ r. All (λ e. e.queue ≡ r.0.id) r.3.items) }
@@ -174,16 +174,16 @@ fn open_places(
     roster: &Roster,
     passes: Vec<PutPass>,
 ) -> Result<(Vec<Desk>, Vec<EmptyDesk>), AllocError>
-    requires count { length roster.now ≤ length passes.items }
+    requires count { length roster.now.rows ≤ length passes.items }
     requires unused { All (λ p. p.put ≡ 0) passes.items }
     ensures desks { IfOk result (λ r. (id : _) (places : _)
-        → length roster.now ≤ places
+        → length roster.now.rows ≤ places
         → passes.items ≡ new_puts id places
-        → r.0.items ≡ opening_desks id 0 roster.now) }
+        → r.0.items ≡ opening_desks id 0 roster.now.rows) }
     ensures empty { IfOk result (λ r. (id : _) (places : _)
-        → length roster.now ≤ places
+        → length roster.now.rows ≤ places
         → passes.items ≡ new_puts id places
-        → r.1.items ≡ unused_places id (length roster.now) (places - length roster.now)) }
+        → r.1.items ≡ unused_places id (length roster.now.rows) (places - length roster.now.rows)) }
 {
     let mut first = passes;
     let rest = first.split_off(roster.len())?;
@@ -194,11 +194,11 @@ fn open_places(
 
 // A desk for each row of the roster, in order.
 fn open_desks(alloc: Global, roster: &Roster, passes: Vec<PutPass>) -> Result<Vec<Desk>, AllocError>
-    requires count { length passes.items ≡ length roster.now }
+    requires count { length passes.items ≡ length roster.now.rows }
     requires unused { All (λ p. p.put ≡ 0) passes.items }
     ensures { IfOk result (λ desks. (id : _)
-        → passes.items ≡ new_puts id (length roster.now)
-        → desks.items ≡ opening_desks id 0 roster.now) }
+        → passes.items ≡ new_puts id (length roster.now.rows)
+        → desks.items ≡ opening_desks id 0 roster.now.rows) }
 {
     let mut desks = Vec::with_capacity(alloc, roster.len())?;
     for pass in passes {

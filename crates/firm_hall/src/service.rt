@@ -1,7 +1,7 @@
 //! The service: a hall, its desks and one to eight workers, from the first byte to the last.
 ghost use Rattle.std.specs.Prelude.{◌≡◌, ℕ, ◌+◌, ◌≤◌, ◌^◌, List, Option, [], All, IfOk, IfErr, OnOk, false, length};
 ghost use Rattle.std.specs.Thread.{IsSync};
-ghost use Rattle.firm_table.specs.Openings.{places_opened};
+ghost use Rattle.firm_table.specs.Openings.{opened};
 ghost use Rattle.firm_table.specs.Service.{Stopped, StoppedFrom, between, device};
 ghost use Rattle.firm_text.specs.Rosters.{most_places};
 ghost use Rattle.firm_hall.specs.Counts.{ServedWith, ServedWithFrom};
@@ -80,10 +80,10 @@ pub fn serve_from<S: Source, W: Sink, R: Threads + Wait + Sync, G: Gate + Sync>(
     requires most { most ≤ 2 ^ 32 }
     requires reader { S.read_failed reader.old ≡ false }
     requires writer { W.write_failed writer.old ≡ false }
-    ensures served { IfOk result (λ totals. ServedWithFrom (places_opened setup.entry.opening) most
+    ensures served { IfOk result (λ totals. ServedWithFrom (opened setup.entry.opening) most
         (device (S.left reader.old) (S.left reader.new) (S.read_failed reader.new))
         (device (W.written writer.old) (W.written writer.new) (W.write_failed writer.new)) totals.rounds) }
-    ensures stopped { IfErr result (StoppedFrom (places_opened setup.entry.opening) most
+    ensures stopped { IfErr result (StoppedFrom (opened setup.entry.opening) most
         (device (S.left reader.old) (S.left reader.new) (S.read_failed reader.new))
         (device (W.written writer.old) (W.written writer.new) (W.write_failed writer.new))) }
 {
@@ -135,11 +135,11 @@ fn serve_with<S: Source, W: Sink, R: Threads + Wait + Sync, G: Gate + Sync>(
 ) -> (Result<Ended, ServeFault>, Vec<Report>)
     requires open { IsOpen clerk.setting.hall.now.id clerk.serving }
     requires told { (written : Option (List ℕ))
-        → TellsAll (places_opened clerk.opening) clerk.serving [] written written }
+        → TellsAll (opened clerk.opening) clerk.serving [] written written }
     requires most { most ≤ 2 ^ 32 }
     requires reader { S.read_failed reader.old ≡ false }
     requires writer { W.write_failed writer.old ≡ false }
-    ensures ran { Ran (places_opened clerk.entry.opening) most
+    ensures ran { Ran (opened clerk.entry.opening) most
         (between S.left S.read_failed reader.old reader.new)
         (between W.written W.write_failed writer.old writer.new) result.0 }
     ensures desks { IfOk result.0 (λ ended. AreOf clerk.entry.setting.hall.now.id ended.desks.items ended.empty.items) }
@@ -154,13 +154,13 @@ fn serve_with<S: Source, W: Sink, R: Threads + Wait + Sync, G: Gate + Sync>(
             requires threads { IsSync R.row × IsSync G.row }
             requires open { IsOpen clerk.setting.hall.now.id clerk.serving }
             requires told { (written : Option (List ℕ))
-                → TellsAll (places_opened clerk.opening) clerk.serving [] written written }
+                → TellsAll (opened clerk.opening) clerk.serving [] written written }
             requires most { most ≤ 2 ^ 32 }
             requires reader { S.read_failed reader.now ≡ false }
             requires writer { W.write_failed writer.now ≡ false }
             ensures reads { result.2.ghost_name ≡ reader.entry.ghost_name }
             ensures writes { result.3.ghost_name ≡ writer.entry.ghost_name }
-            ensures ran { Ran (places_opened clerk.entry.opening) most
+            ensures ran { Ran (opened clerk.entry.opening) most
                 (between S.left S.read_failed reader.entry.now result.2.now)
                 (between W.written W.write_failed writer.entry.now result.3.now) result.0 }
             ensures desks { IfOk result.0

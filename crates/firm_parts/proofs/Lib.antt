@@ -1,3 +1,4 @@
 pub mod Parts
 pub mod Settling
 pub mod Books
+pub mod Joined

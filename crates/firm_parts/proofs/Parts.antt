@@ -3,7 +3,7 @@ use Rattle.std.proofs.Common.{◌≡◌, ◌∙◌, ◌<◌, ◌+◌, ◌++◌, 
 use Rattle.std.proofs.Common.{refl, sym}
 use Rattle.std.proofs.Common.{ap}
 use Rattle.std.proofs.Common.{subst, length, get_or, take, drop, drop-cons, cond, bytes_eq, is_some, Option, Some, None}
-use Rattle.std.specs.Prelude.{AllPairs, IsSome, map, option_map, set}
+use Rattle.std.specs.Prelude.{All, AllPairs, IsSome, map, option_map, set}
 use Rattle.std.proofs.Math.ListN.{get_or-map}
 use Rattle.std.proofs.Math.Seq.{drop-length}
 use Rattle.std.proofs.lemmas.List.{append_assoc, append-nil, get_or_default, length-map, length-take-le, map-append}
@@ -16,7 +16,9 @@ use Rattle.firm_text.specs.Registers.{AreApart, IsCounted, admissions_at}
 use Rattle.firm_text.specs.declared.registers.Entry.{Entry}
 use Rattle.firm_parts.specs.Parts.{book_in, cut_to, kept_place, kept_tenant}
 use Rattle.firm_parts.specs.Laws.{CutsKeepBooks}
-use Rattle.firm_saved.specs.Saved.{IsSoundPlace, IsSoundSaved, entry_of, register_of, untouched}
+use Rattle.firm_text.specs.Rosters.{FitsHeading}
+use Rattle.firm_text.specs.declared.headings.Heading.{Heading}
+use Rattle.firm_saved.specs.Saved.{AreSoundSaved, IsSoundPlace, PlaceFits, entry_of, register_of, untouched}
 use Rattle.firm_saved.specs.declared.saved.SavedPlace.{SavedPlace}
 use Rattle.firm_parts.specs.inner.Seats.{is_seated}
 
@@ -142,9 +144,9 @@ cut_as_often names [] at = refl
 cut_as_often names (place ∷ places) zero = refl
 cut_as_often names (place ∷ places) (suc at) = cut_as_often names places at
 
--- a cut state is sound
-pub cut_sound : (names : List (List ℕ)) (places : List SavedPlace) → IsSoundSaved places
-    → IsSoundSaved (cut_to names places)
+-- the places of a cut state are sound
+pub cut_sound : (names : List (List ℕ)) (places : List SavedPlace) → AreSoundSaved places
+    → AreSoundSaved (cut_to names places)
 cut_sound names places sound = record {
   register = record {
     all = length-map (cut_to names places) entry_of ∙ length-map places (kept_place names)
@@ -165,6 +167,22 @@ cut_sound names places sound = record {
   books = All-map IsSoundPlace (kept_place names) places
       (λ k d within. kept_sound names (get_or places k d) (sound.books k d within));
 }
+
+-- and fit the heading
+kept_fits : (heading : Heading) (names : List (List ℕ)) (place : SavedPlace) → PlaceFits heading place
+    → PlaceFits heading (kept_place names place)
+kept_fits heading names place fits = by place.tenant fits
+  where
+    by : (tenant : Option (List ℕ × Book)) → PlaceFits heading (place_is 0 tenant)
+        → PlaceFits heading (place_is 0 (kept_tenant names tenant))
+    by None fits = tt
+    by (Some tenant) fits = elim (is_among names tenant.0) as
+        (λ b. PlaceFits heading (place_is 0 (cond b (Some tenant) None))) [ true ↦ fits | false ↦ tt ]
+
+pub cut_fits : (heading : Heading) (names : List (List ℕ)) (places : List SavedPlace) → All (PlaceFits heading) places
+    → All (PlaceFits heading) (cut_to names places)
+cut_fits heading names places fit = All-map (PlaceFits heading) (kept_place names) places
+    (λ k d within. kept_fits heading names (get_or places k d) (fit k d within))
 
 at_middle : {X : Type 0} (xs ys : List X) (y d : X) → get_or (xs ++ y ∷ ys) (length xs) d ≡ y
 at_middle [] ys y d = refl

@@ -2,12 +2,12 @@
 ghost use Rattle.std.specs.Prelude.{◌≡◌, All, Some, OnOk};
 ghost use Rattle.firm_text.specs.Registers.{IsRegister};
 ghost use Rattle.firm_saved.specs.Saved.{AreGivenInOrder, entry_of, IsSoundPlace, register_of};
-ghost use Rattle.firm_parts.specs.Parts.{joined, joined_by};
+ghost use Rattle.firm_parts.specs.Parts.{either_heading, joined, joined_by, joined_state};
 ghost use Rattle.firm_parts.specs.inner.Joining.{Comes};
 
 use firm_rules::{Book, Name};
 use firm_saved::{Saved, SavedPlace, places_are_given_in_order};
-use firm_text::{Entry, OperatorRefusal, PLACES, Register};
+use firm_text::{Entry, Heading, OperatorRefusal, PLACES, Register};
 
 /// A tenant that finds no place in another state, and why.
 #[derive(Clone, Copy, Debug, PartialEq, Eq)]
@@ -18,14 +18,25 @@ pub struct JoinFault {
 }
 
 /// The state once the tenants of another have come with their books, in the order of their places. Each gets the first
-/// empty place that has an admission left, as if the operator had admitted it.
+/// empty place that has an admission left, as if the operator had admitted it. It is extended if one of the two is.
 pub fn join(saved: Saved, other: Saved) -> Result<Saved, JoinFault>
-    ensures { result ≡ joined saved other }
+    ensures { result ≡ joined_state saved other }
 {
+    let heading = either_heading(saved.heading(), other.heading());
     let mut places = saved.into_places();
     match settle_all(&mut places, other.into_places()) {
-        Ok(()) => Ok(Saved::of(places)),
+        Ok(()) => Ok(Saved::of(heading, places)),
         Err(fault) => Err(fault),
+    }
+}
+
+// The heading of two states that are joined.
+fn either_heading(first: Heading, second: Heading) -> Heading
+    ensures { result ≡ either_heading first second }
+{
+    match first {
+        Heading::Plain => second,
+        Heading::Extended => Heading::Extended,
     }
 }
 

@@ -1,13 +1,12 @@
--- What the file that a program opens with was read as, and with which places it opens.
+-- What the file that a program opens with was read as, and what a service opens with.
 use Rattle.std.specs.Prelude.{◌≡◌, ℕ, List, Ok, Err}
-use Rattle.firm_saved.specs.Saved.{IsSoundSaved}
+use Rattle.firm_saved.specs.Saved.{IsSoundSaved, SavedIs}
 use Rattle.firm_saved.specs.Reading.{state_of}
 use Rattle.firm_saved.specs.StateText.{state_text}
 use Rattle.firm_saved.specs.declared.faults.StateFault.{StateFault}
-use Rattle.firm_saved.specs.declared.saved.SavedPlace.{SavedPlace}
-use Rattle.firm_table.specs.Places.{Place, opening_places, restored_places}
+use Rattle.firm_table.specs.Opened.{Opened, opened_roster, opened_state}
 use Rattle.firm_table.specs.declared.faults.ServeFault.TheVariants.{Memory}
-use Rattle.firm_text.specs.Rosters.{RosterRow, roster_of}
+use Rattle.firm_text.specs.Rosters.{RosterIs, roster_of}
 use Rattle.firm_text.specs.declared.faults.RosterFault.{RosterFault}
 use Rattle.firm_program.specs.declared.faults.Fault.{Fault}
 use Rattle.firm_program.specs.declared.faults.Fault.TheVariants.{UnreadableRoster, Roster, Service}
@@ -16,7 +15,7 @@ use Rattle.firm_program.specs.declared.words.Named.{Named}
 use Rattle.firm_program.specs.declared.words.Named.TheVariants.{Roster as RosterAt, State as StateAt}
 
 -- a text is this roster
-pub record IsReadRoster (roster : List RosterRow) : Type 0 where
+pub record IsReadRoster (roster : RosterIs) : Type 0 where
   pub text : List ℕ
   pub judged : roster_of text ≡ Ok roster
 
@@ -28,7 +27,7 @@ pub data RefusesRoster (fault : Fault) : Type 0 where
   NoRosterMemory : fault ≡ Service Memory → RefusesRoster fault
 
 -- a text is that of this state
-pub record IsReadState (saved : List SavedPlace) : Type 0 where
+pub record IsReadState (saved : SavedIs) : Type 0 where
   pub text : List ℕ
   pub sound : IsSoundSaved saved
   pub told : text ≡ state_text saved
@@ -40,23 +39,23 @@ pub data RefusesState (fault : Fault) : Type 0 where
       → RefusesState fault
   NoStateMemory : fault ≡ Service Memory → RefusesState fault
 
--- a text was a roster, and these are the places of its tenants
-pub record OpensRoster (places : List Place) : Type 0 where
+-- a text was a roster, with which a service opens so
+pub record OpensRoster (opened : Opened) : Type 0 where
   pub text : List ℕ
-  pub roster : List RosterRow
+  pub roster : RosterIs
   pub judged : roster_of text ≡ Ok roster
-  pub places_are : places ≡ opening_places roster
+  pub opened_is : opened ≡ opened_roster roster
 
--- these are the places of a sound state
-pub record OpensState (places : List Place) : Type 0 where
-  pub saved : List SavedPlace
+-- a service opens so with a sound state
+pub record OpensState (opened : Opened) : Type 0 where
+  pub saved : SavedIs
   pub sound : IsSoundSaved saved
-  pub places_are : places ≡ restored_places saved
+  pub opened_is : opened ≡ opened_state saved
 
--- the places that a service opens with, by the file that is named
-abbrev pub Opens : Named → List Place → Type 0
-Opens (RosterAt path) places = OpensRoster places
-Opens (StateAt path) places = OpensState places
+-- what a service opens with, by the file that is named
+abbrev pub Opens : Named → Opened → Type 0
+Opens (RosterAt path) opened = OpensRoster opened
+Opens (StateAt path) opened = OpensState opened
 
 -- that file is refused
 abbrev pub RefusesFile : Named → Fault → Type 0

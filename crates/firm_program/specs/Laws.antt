@@ -10,10 +10,9 @@ use Rattle.clap.specs.declared.builder.arg.Arg.{Arg}
 use Rattle.clap.specs.declared.builder.command.Command.{Command}
 use Rattle.clap.specs.declared.error.Error.{Error}
 use Rattle.clap.specs.declared.parser.matches.ArgMatches.{ArgMatches}
-use Rattle.firm_saved.specs.Saved.{IsSoundSaved}
-use Rattle.firm_saved.specs.declared.saved.SavedPlace.{SavedPlace}
-use Rattle.firm_text.specs.Rosters.{RosterRow, roster_of}
-use Rattle.firm_table.specs.Places.{Place, opening_places, restored_places}
+use Rattle.firm_saved.specs.Saved.{IsSoundSaved, SavedIs}
+use Rattle.firm_text.specs.Rosters.{RosterIs, roster_of}
+use Rattle.firm_table.specs.Opened.{Opened, opened_roster, opened_state}
 use Rattle.firm_table.specs.Service.{Device, ServedFrom, device}
 use Rattle.firm_program.specs.Files.{Opens, RefusesFile}
 use Rattle.firm_program.specs.Options.{GivesPaths, NamesFile, NamesNotOne, NamesRoster, NamesState}
@@ -92,24 +91,24 @@ module _ (app : App) (words : List (List ℕ)) (roster state : Option (Bor (List
   names_file (Roster path) is = names_roster path is.0 is.1
   names_file (State path) is = names_state path is.0 is.1
 
--- the places of a roster, and of a sound state
-pub opens_roster : (path : Bor (List ℕ)) (text : List ℕ) (roster : List RosterRow) → roster_of text ≡ Ok roster
-    → Opens (Roster path) (opening_places roster)
-opens_roster path text roster judged = record { text = text; roster = roster; judged = judged; places_are = refl }
+-- what a roster opens, and a sound state
+pub opens_roster : (path : Bor (List ℕ)) (text : List ℕ) (roster : RosterIs) → roster_of text ≡ Ok roster
+    → Opens (Roster path) (opened_roster roster)
+opens_roster path text roster judged = record { text = text; roster = roster; judged = judged; opened_is = refl }
 
-pub opens_state : (path : Bor (List ℕ)) (saved : List SavedPlace) → IsSoundSaved saved
-    → Opens (State path) (restored_places saved)
-opens_state path saved sound = record { saved = saved; sound = sound; places_are = refl }
+pub opens_state : (path : Bor (List ℕ)) (saved : SavedIs) → IsSoundSaved saved
+    → Opens (State path) (opened_state saved)
+opens_state path saved sound = record { saved = saved; sound = sound; opened_is = refl }
 
 -- what becomes of a service that opened with the file that is named
-pub serves_or_stops : (named : Named) (reader writer : Device) (places : List Place) → Opens named places
+pub serves_or_stops : (named : Named) (reader writer : Device) (opened : Opened) → Opens named opened
     → {A : Type 0} (result : Result A Fault)
-    → MatchResult result (λ _. ServedFrom places most_input reader writer) (StopsFrom places reader writer)
+    → MatchResult result (λ _. ServedFrom opened most_input reader writer) (StopsFrom opened reader writer)
     → MatchResult result (λ _. ServesFile named reader writer) (StopsFile named reader writer)
-serves_or_stops named reader writer places opens (Ok done) served =
-    record { places = places; opens = opens; served = served }
-serves_or_stops named reader writer places opens (Err fault) stopped =
-    NotServed (record { places = places; opens = opens; stopped = stopped })
+serves_or_stops named reader writer opened opens (Ok done) served =
+    record { opened = opened; opens = opens; served = served }
+serves_or_stops named reader writer opened opens (Err fault) stopped =
+    NotServed (record { opened = opened; opens = opens; stopped = stopped })
 
 -- a refused file leaves what would be read and written as it was
 pub stops_at_file : (named : Named) (left written : Option (List ℕ)) (read_failed write_failed : Bool)

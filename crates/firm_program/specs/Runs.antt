@@ -1,6 +1,6 @@
 -- What a program takes, what it leaves as it was, and how a service that it opens with a file ends.
 use Rattle.std.specs.Prelude.{◌≡◌, ℕ, List, false}
-use Rattle.firm_table.specs.Places.{Place}
+use Rattle.firm_table.specs.Opened.{Opened}
 use Rattle.firm_table.specs.Service.{Device, ServedFrom, StoppedFrom}
 use Rattle.firm_table.specs.declared.faults.ServeFault.{ServeFault}
 use Rattle.firm_program.specs.Files.{Opens, RefusesFile}
@@ -31,21 +31,21 @@ pub record IsUntouched (reader writer : Device) : Type 0 where
 
 -- a service opened with the file that is named, and came to the end of the input with its output written
 pub record ServesFile (named : Named) (reader writer : Device) : Type 0 where
-  pub places : List Place
-  pub opens : Opens named places
-  pub served : ServedFrom places most_input reader writer
+  pub opened : Opened
+  pub opens : Opens named opened
+  pub served : ServedFrom opened most_input reader writer
 
--- a service with these places before its first line stopped, for the fault's cause
-pub record StopsFrom (places : List Place) (reader writer : Device) (fault : Fault) : Type 0 where
+-- a service that opened so stopped, for the fault's cause
+pub record StopsFrom (opened : Opened) (reader writer : Device) (fault : Fault) : Type 0 where
   pub cause : ServeFault
   pub is : fault ≡ Service cause
-  pub stopped : StoppedFrom places most_input reader writer cause
+  pub stopped : StoppedFrom opened most_input reader writer cause
 
 -- a service opened with the file that is named, and stopped
 pub record StopsService (named : Named) (reader writer : Device) (fault : Fault) : Type 0 where
-  pub places : List Place
-  pub opens : Opens named places
-  pub stopped : StopsFrom places reader writer fault
+  pub opened : Opened
+  pub opens : Opens named opened
+  pub stopped : StopsFrom opened reader writer fault
 
 -- how a program stops that serves with the file that is named: the file is refused, or memory before the service, and
 -- nothing was read or written; or the service stopped

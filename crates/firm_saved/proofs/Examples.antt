@@ -3,7 +3,8 @@ use Rattle.std.proofs.Common.{◌≡◌, pos, [], ◌∷◌, ◌++◌, List, Som
 use Rattle.std.specs.Fmt.{digits}
 use Rattle.firm_rules.specs.Book.{Book, TenantRows}
 use Rattle.firm_rules.specs.Limits.{TenantLimits}
-use Rattle.firm_saved.specs.Saved.{filled}
+use Rattle.firm_text.specs.declared.headings.Heading.TheVariants.{Plain, Extended}
+use Rattle.firm_saved.specs.Saved.{filled, saved_with}
 use Rattle.firm_saved.specs.StateText.{given_places, state_text}
 use Rattle.firm_saved.specs.declared.saved.SavedPlace.{SavedPlace}
 
@@ -38,10 +39,16 @@ places =
 two_given : given_places (filled places) ≡ places
 two_given = refl
 
-as_bytes : state_text (filled places)
+as_bytes : state_text (saved_with Plain (filled places))
     ≡ codes "firm state 1\nplace admissions 1\n"
     ++ codes "tenant alpha nodes 9 arcs 24 life 1000000 spread 1 churn 2 remote 0 commands 6\n"
     ++ codes "costs 0 10\nmachine m1 1\njob web 10\n"
     ++ codes "task web a at m1 prefers m1\ntask web c waits 1\nplace admissions 2\nrows 8\n"
 unfolding digits
 as_bytes = refl
+
+-- the first line tells an extended service
+extended : state_text (saved_with Extended (filled (record { admissions = 3; tenant = None } ∷ [])))
+    ≡ codes "firm state 1 extended\nplace admissions 3\nrows 1\n"
+unfolding digits
+extended = refl

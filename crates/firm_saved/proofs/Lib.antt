@@ -3,6 +3,7 @@ pub mod Digits
 pub mod Clean
 pub mod Steps
 pub mod LineRows
+pub mod RowFits
 pub mod Crowding
 pub mod Complete
 pub mod Runs

@@ -18,6 +18,9 @@ use Rattle.firm_rules.specs.Recent.{with_cost}
 use Rattle.firm_rules.specs.declared.book.Task.{Task}
 use Rattle.firm_text.specs.Commands.{◌>>=◌}
 use Rattle.firm_text.specs.Replies.{labelled}
+use Rattle.firm_text.specs.Rosters.{FitsHeading}
+use Rattle.firm_text.specs.declared.headings.Heading.{Heading}
+use Rattle.firm_text.specs.declared.headings.Heading.TheVariants.{Plain, Extended}
 use Rattle.firm_rules.specs.SoundBook.{is_cost, most_cost}
 use Rattle.firm_saved.specs.StateText.{row_words, words_text, limits_words, patience_words, preference_words}
 use Rattle.firm_saved.specs.StateText.{standing_words}
@@ -41,21 +44,22 @@ pub record IsTaskRow (task : Task) : Type 0 where
   pub few : length task.preferred ≤ most_preferences
   pub differ : IsDistinct bytes_eq task.preferred
 
--- the limits, and the number of commands
-pub record IsTenantRow (name : List ℕ) (limits : TenantLimits) (given : ℕ) : Type 0 where
+-- the limits, which fit the heading, and the number of commands
+pub record IsTenantRow (heading : Heading) (name : List ℕ) (limits : TenantLimits) (given : ℕ) : Type 0 where
   pub named : is_name name ≡ true
   pub ranges : are_limits limits ≡ true
   pub few : given < 10 ^ 13
+  pub fits : FitsHeading heading limits
 
--- what a row of a sound state is
-abbrev pub IsRow : Row → Type 0
-IsRow (row.Place admissions) = admissions < 10 ^ 13
-IsRow (row.Tenant name limits given) = IsTenantRow name limits given
-IsRow (row.Costs costs) = (length costs ≤ 8) × (list_all is_cost costs ≡ true)
-IsRow (row.Machine machine) = (is_name machine.name ≡ true) × (1 ≤ machine.slots) × (machine.slots ≤ 64)
-IsRow (row.Job job) = (is_name job.name ≡ true) × (1 ≤ job.weight) × (job.weight ≤ 1000000)
-IsRow (row.Task task) = IsTaskRow task
-IsRow (row.Rows count) = count < 10 ^ 13
+-- what a row of a sound state of this heading is
+abbrev pub IsRow : Heading → Row → Type 0
+IsRow heading (row.Place admissions) = admissions < 10 ^ 13
+IsRow heading (row.Tenant name limits given) = IsTenantRow heading name limits given
+IsRow heading (row.Costs costs) = (length costs ≤ 8) × (list_all is_cost costs ≡ true)
+IsRow heading (row.Machine machine) = (is_name machine.name ≡ true) × (1 ≤ machine.slots) × (machine.slots ≤ 64)
+IsRow heading (row.Job job) = (is_name job.name ≡ true) × (1 ≤ job.weight) × (job.weight ≤ 1000000)
+IsRow heading (row.Task task) = IsTaskRow task
+IsRow heading (row.Rows count) = count < 10 ^ 13
 
 number_word_back : (n : ℕ) → n < 10 ^ 13 → number_word (decimal n) ≡ Ok n
 number_word_back n small = ap (λ o. ok_or o fault.BadNumber) (number_back n small)
@@ -68,12 +72,17 @@ labelled_back : (label : List ℕ) (n : ℕ) (rest : List (List ℕ)) → n < 10
 labelled_back label n rest small = rw (number_word_back n small) refl
 
 -- so is a patience, if the words behind it begin with another label
-patience_back : (n : ℕ) → n < 10 ^ 13 → (rest : List (List ℕ)) → names_patience rest ≡ false
-    → patience_at (patience_words n ++ rest) ≡ Ok (n, rest)
-patience_back n small rest other = by (n == longest_patience) refl
+patience_back : (heading : Heading) (limits : TenantLimits) → FitsHeading heading limits → limits.patience < 10 ^ 13
+    → (rest : List (List ℕ)) → names_patience rest ≡ false
+    → patience_at heading (patience_words limits.patience ++ rest) ≡ Ok (limits.patience, rest)
+patience_back Plain limits fits small rest other = rw fits refl
+patience_back Extended limits fits small rest other = by (n == longest_patience) refl
   where
+    n : ℕ
+    n = limits.patience
+
     by : (b : Bool) → (n == longest_patience) ≡ b
-        → patience_at ((if b then [] else labelled (codes "patience") n) ++ rest) ≡ Ok (n, rest)
+        → patience_at Extended ((if b then [] else labelled (codes "patience") n) ++ rest) ≡ Ok (n, rest)
     by true same = rw other (ap (λ (m : ℕ). Ok (m, rest)) (sym (eqb-true n longest_patience same)))
     by false different = rw (number_word_back n small) refl
 
@@ -127,9 +136,9 @@ module _ (limits : TenantLimits) (h : are_limits limits ≡ true) where
   patience_within : is_within 0 longest_patience limits.patience ≡ true
   patience_within = (and_parts _ (is_within 0 longest_patience limits.patience) h).1
 
-  limits_back : (rest : List (List ℕ)) → names_patience rest ≡ false
-      → limits_at (limits_words limits ++ rest) ≡ Ok (limits, rest)
-  limits_back rest other =
+  limits_back : (heading : Heading) → FitsHeading heading limits → (rest : List (List ℕ)) → names_patience rest ≡ false
+      → limits_at heading (limits_words limits ++ rest) ≡ Ok (limits, rest)
+  limits_back heading fits rest other =
       let w = limits_within in
       let b1 = w.nodes in let b2 = w.arcs in let b3 = w.life in let b4 = w.spread in let b5 = w.churn in
       let b6 = w.remote in
@@ -140,7 +149,7 @@ module _ (limits : TenantLimits) (h : are_limits limits ≡ true) where
         number_word_back limits.spread (omega arith),
         number_word_back limits.churn (omega arith),
         number_word_back limits.remote (omega arith),
-        patience_back limits.patience (let b7 = w.patience in omega arith) rest other,
+        patience_back heading limits fits (let b7 = w.patience in omega arith) rest other,
         others_within,
         patience_within,
       ) refl
@@ -230,26 +239,26 @@ weight_back : (n : ℕ) → 1 ≤ n → n ≤ 1000000 → checked_at weight_from
 weight_back n low high = rw (number_back n (omega arith), le-leb 1 n low, le-leb n 1000000 high) refl
 
 -- the words of a row tell it
-words_back : (r : Row) → IsRow r → words_row (row_words r) ≡ Ok r
-words_back (row.Place n) h = rw (number_word_back n h) refl
-words_back (row.Rows n) h = rw (number_word_back n h) refl
-words_back (row.Tenant name limits given) h =
+words_back : (heading : Heading) (r : Row) → IsRow heading r → words_row heading (row_words r) ≡ Ok r
+words_back heading (row.Place n) h = rw (number_word_back n h) refl
+words_back heading (row.Rows n) h = rw (number_word_back n h) refl
+words_back heading (row.Tenant name limits given) h =
     rw (
       name_word_back name h.named,
-      limits_back limits h.ranges (labelled (codes "commands") given) refl,
+      limits_back limits h.ranges heading h.fits (labelled (codes "commands") given) refl,
       number_word_back given h.few,
     ) refl
-words_back (row.Costs costs) h = rw (costs_back [] costs (let few = h.0 in omega arith) h.1) refl
-words_back (row.Machine m) h = rw (name_word_back m.name h.0, slots_back m.slots h.1 h.2) refl
-words_back (row.Job j) h = rw (name_word_back j.name h.0, weight_back j.weight h.1 h.2) refl
-words_back (row.Task task) h =
+words_back heading (row.Costs costs) h = rw (costs_back [] costs (let few = h.0 in omega arith) h.1) refl
+words_back heading (row.Machine m) h = rw (name_word_back m.name h.0, slots_back m.slots h.1 h.2) refl
+words_back heading (row.Job j) h = rw (name_word_back j.name h.0, weight_back j.weight h.1 h.2) refl
+words_back heading (row.Task task) h =
     rw (name_word_back task.job h.job, name_word_back task.name h.named, standing_back task h task.machine refl) refl
 
 -- the words of a row are between its spaces
-row_clean : (r : Row) → IsRow r → list_all (above 32) (row_words r) ≡ true
-row_clean (row.Place n) h = rw (decimal_clean n (omega arith)) refl
-row_clean (row.Rows n) h = rw (decimal_clean n (omega arith)) refl
-row_clean (row.Tenant name limits given) h =
+row_clean : (heading : Heading) (r : Row) → IsRow heading r → list_all (above 32) (row_words r) ≡ true
+row_clean heading (row.Place n) h = rw (decimal_clean n (omega arith)) refl
+row_clean heading (row.Rows n) h = rw (decimal_clean n (omega arith)) refl
+row_clean heading (row.Tenant name limits given) h =
     let w = limits_within limits h.ranges in
     let b1 = w.nodes in let b2 = w.arcs in let b3 = w.life in let b4 = w.spread in let b5 = w.churn in
     let b6 = w.remote in let b7 = h.few in
@@ -264,7 +273,7 @@ row_clean (row.Tenant name limits given) h =
       decimal_clean limits.churn (omega arith),
       decimal_clean limits.remote (omega arith),
     ) (patience_clean limits.patience w.patience (labelled (codes "commands") given) last)
-row_clean (row.Costs costs) h = costs_clean costs h.1
+row_clean heading (row.Costs costs) h = costs_clean costs h.1
   where
     costs_clean : (costs : List ℤ) → list_all is_cost costs ≡ true
         → list_all (above 32) (map signed_decimal costs) ≡ true
@@ -277,9 +286,9 @@ row_clean (row.Costs costs) h = costs_clean costs h.1
         one : (cost : ℤ) → is_cost cost ≡ true → above 32 (signed_decimal cost) ≡ true
         one (pos n) h = decimal_clean n (let few = leb-true n most_cost h in omega arith)
         one (negsuc n) h = absurd (true≢false (sym h))
-row_clean (row.Machine m) h = rw (name_clean m.name h.0, decimal_clean m.slots (omega arith)) refl
-row_clean (row.Job j) h = rw (name_clean j.name h.0, decimal_clean j.weight (omega arith)) refl
-row_clean (row.Task task) h =
+row_clean heading (row.Machine m) h = rw (name_clean m.name h.0, decimal_clean m.slots (omega arith)) refl
+row_clean heading (row.Job j) h = rw (name_clean j.name h.0, decimal_clean j.weight (omega arith)) refl
+row_clean heading (row.Task task) h =
     rw (name_clean task.job h.job, name_clean task.name h.named) (standing_clean task h task.machine refl)
   where
     names_clean : (names : List (List ℕ)) → list_all is_name names ≡ true → list_all (above 32) names ≡ true
@@ -303,12 +312,12 @@ row_clean (row.Task task) h =
         (preferred_clean task.preferred sound.preferred)
 
 -- the line of a row has no line feed
-pub line_clean : (r : Row) → IsRow r → above 10 (words_text (row_words r)) ≡ true
-line_clean r h = line_above (row_words r) (row_clean r h)
+pub line_clean : (heading : Heading) (r : Row) → IsRow heading r → above 10 (words_text (row_words r)) ≡ true
+line_clean heading r h = line_above (row_words r) (row_clean heading r h)
 
 -- the first word of a row, and the others
-row_split : (r : Row) → IsRow r → words_of (words_text (row_words r)) ≡ row_words r
-row_split r h = split (row_words r) (row_clean r h) (some r)
+row_split : (heading : Heading) (r : Row) → IsRow heading r → words_of (words_text (row_words r)) ≡ row_words r
+row_split heading r h = split (row_words r) (row_clean heading r h) (some r)
   where
     split : (words : List (List ℕ)) → list_all (above 32) words ≡ true → 0 < length words
         → words_of (words_text words) ≡ words
@@ -327,17 +336,18 @@ row_split r h = split (row_words r) (row_clean r h) (some r)
     some (row.Task task) = omega arith
 
 -- the line of a row is read as that row
-pub row_back : (r : Row) → IsRow r → row_of (words_text (row_words r)) ≡ Ok r
-row_back r h =
+pub row_back : (heading : Heading) (r : Row) → IsRow heading r → row_of heading (words_text (row_words r)) ≡ Ok r
+row_back heading r h =
     rw (
-      row_split r h,
-      words_back r h,
+      row_split heading r h,
+      words_back heading r h,
       (bytes_eq-Decides (words_text (row_words r)) (words_text (row_words r))).1 refl,
     ) refl
 
 -- a line that is read as a row is the row's line
-pub row_read : (line : List ℕ) (r : Row) → row_of line ≡ Ok r → words_text (row_words r) ≡ line
-row_read line r e = read (words_row (words_of line)) e
+pub row_read : (heading : Heading) (line : List ℕ) (r : Row) → row_of heading line ≡ Ok r
+    → words_text (row_words r) ≡ line
+row_read heading line r e = read (words_row heading (words_of line)) e
   where
     read : (told : Result Row FaultKind) → (told >>= own_row line) ≡ Ok r → words_text (row_words r) ≡ line
     read (Err kind) e = absurd cc

@@ -15,7 +15,7 @@ use Rattle.firm_rules.specs.Book.{Book}
 use Rattle.firm_text.specs.Registers.{AreApart, IsCounted, IsRegister, admissions_at, is_named, vacant}
 use Rattle.firm_text.specs.Rosters.{most_places}
 use Rattle.firm_text.specs.declared.registers.Entry.{Entry}
-use Rattle.firm_saved.specs.Saved.{AreGivenInOrder, IsSoundPlace, IsSoundSaved, entry_of, filled, register_of}
+use Rattle.firm_saved.specs.Saved.{AreGivenInOrder, IsSoundPlace, AreSoundSaved, entry_of, filled, register_of}
 use Rattle.firm_saved.specs.Saved.{tenant_name, untouched}
 use Rattle.firm_saved.specs.StateText.{behind_place, given_places}
 use Rattle.firm_saved.specs.declared.saved.SavedPlace.{SavedPlace}
@@ -266,7 +266,7 @@ sound_filled (suc n) places sound few =
 
 -- filled up to 64 they are a sound state, where there are some and each was given
 pub sound_state : (places : List SavedPlace) → AreSoundPlaces places → AllByRecursion WasGiven places
-    → 0 < length places → IsSoundSaved (filled places)
+    → 0 < length places → AreSoundSaved (filled places)
 sound_state places sound given some =
     let n : ℕ = most_places - length places in
     let few = sound.few in
@@ -294,13 +294,13 @@ places_filled places register =
     counted [] h = tt
     counted (place ∷ places) h = (h.0, counted places h.1)
 
-pub state_filled : (places : List SavedPlace) → IsSoundSaved places → filled (given_places places) ≡ places
+pub state_filled : (places : List SavedPlace) → AreSoundSaved places → filled (given_places places) ≡ places
 state_filled places sound = places_filled places sound.register
 
 -- where the places up to the last given one are sound, all are
 pub sound_from : (places : List SavedPlace) (entries : List Entry) (n : ℕ) → register_of places ≡ entries
     → IsRegister entries → AreGivenInOrder entries → given_places places ≡ take n places
-    → All IsSoundPlace (take n places) → IsSoundSaved places
+    → All IsSoundPlace (take n places) → AreSoundSaved places
 sound_from places entries n is register in_order given front =
     let own : IsRegister (register_of places) = subst IsRegister (sym is) register in
     let count : ℕ = most_places - length (given_places places) in
@@ -312,7 +312,7 @@ sound_from places entries n is register in_order given front =
           (subst (All IsSoundPlace) (sym given) front) (All-replicate IsSoundPlace count untouched tt));
     }
 
-pub given_sound : (places : List SavedPlace) → IsSoundSaved places → AreSoundPlaces (given_places places)
+pub given_sound : (places : List SavedPlace) → AreSoundSaved places → AreSoundPlaces (given_places places)
 given_sound places sound =
     let given : List SavedPlace = given_places places in
     let rest : List SavedPlace = replicate (most_places - length given) untouched in

@@ -14,7 +14,9 @@ use Rattle.firm_rules.specs.declared.book.Machine.{Machine}
 use Rattle.firm_rules.specs.declared.book.Job.{Job}
 use Rattle.firm_rules.specs.declared.book.Task.{Task}
 use Rattle.firm_text.specs.Registers.{IsCounted}
-use Rattle.firm_saved.specs.Saved.{IsSoundPlace, entry_of, register_of}
+use Rattle.firm_text.specs.Rosters.{FitsHeading}
+use Rattle.firm_text.specs.declared.headings.Heading.{Heading}
+use Rattle.firm_saved.specs.Saved.{IsSoundPlace, PlaceFits, entry_of, register_of}
 use Rattle.firm_rules.specs.SoundBook.{IsSoundBook, is_cost}
 use Rattle.firm_saved.specs.StateText.{book_rows, place_rows, tenant_rows}
 use Rattle.firm_saved.specs.declared.rows.Row.{Row}
@@ -90,26 +92,28 @@ module _ (book : Book) (sound : IsSoundBook book) where
         differ = rows.preferred_differ k d below;
       }
 
-  pub book_rows_are : (name : List ℕ) → is_name name ≡ true → AllByRecursion IsRow (book_rows name book)
-  book_rows_are name named =
+  pub book_rows_are : (heading : Heading) → FitsHeading heading book.rows.limits → (name : List ℕ)
+      → is_name name ≡ true → AllByRecursion (IsRow heading) (book_rows name book)
+  book_rows_are heading fits name named =
       let within = limits_within book.rows.limits sound.form.limits in
       let short = within.life in
       let given = sound.life in (
-        record { named = named; ranges = sound.form.limits; few = omega arith },
+        record { named = named; ranges = sound.form.limits; few = omega arith; fits = fits },
         (
           (sound.few_costs, each_passes is_cost book.costs sound.costs),
-          rows_both IsRow (map row.Machine book.rows.machines ++ map row.Job book.rows.jobs)
+          rows_both (IsRow heading) (map row.Machine book.rows.machines ++ map row.Job book.rows.jobs)
               (map row.Task book.rows.tasks)
-              (rows_both IsRow (map row.Machine book.rows.machines) (map row.Job book.rows.jobs)
-              (rows_of IsRow row.Machine book.rows.machines
-              (recursion_from_All (λ m. IsRow (row.Machine m)) book.rows.machines
+              (rows_both (IsRow heading) (map row.Machine book.rows.machines) (map row.Job book.rows.jobs)
+              (rows_of (IsRow heading) row.Machine book.rows.machines
+              (recursion_from_All (λ m. IsRow heading (row.Machine m)) book.rows.machines
               (λ k d below. let slots = sound.rows.slots k d below in
               (sound.form.machines k d below, slots.0, slots.1))))
-              (rows_of IsRow row.Job book.rows.jobs
-              (recursion_from_All (λ j. IsRow (row.Job j)) book.rows.jobs
+              (rows_of (IsRow heading) row.Job book.rows.jobs
+              (recursion_from_All (λ j. IsRow heading (row.Job j)) book.rows.jobs
               (λ k d below. let weights = sound.rows.weights k d below in
               (sound.form.jobs k d below, weights.0, weights.1)))))
-              (rows_of IsRow row.Task book.rows.tasks (recursion_from_All IsTaskRow book.rows.tasks tasks_are)),
+              (rows_of (IsRow heading) row.Task book.rows.tasks
+              (recursion_from_All IsTaskRow book.rows.tasks tasks_are)),
         ),
       )
 
@@ -156,37 +160,40 @@ places_inner (place ∷ places) =
     inner_both (place_rows place) (flat_map place_rows places) (place_inner place) (places_inner places)
 
 -- a place's rows
-record IsRead (place : SavedPlace) : Type 0 where
-  each : AllByRecursion IsRow (place_rows place)
+record IsRead (heading : Heading) (place : SavedPlace) : Type 0 where
+  each : AllByRecursion (IsRow heading) (place_rows place)
   few : length (place_rows place) ≤ 4201
 
-place_read : (place : SavedPlace) → IsCounted (entry_of place) → IsSoundPlace place → IsRead place
-place_read place counted sound = by place.tenant sound
+place_read : (heading : Heading) (place : SavedPlace) → IsCounted (entry_of place) → IsSoundPlace place
+    → PlaceFits heading place → IsRead heading place
+place_read heading place counted sound fits = by place.tenant sound fits
   where
     by : (tenant : Option (List ℕ × Book)) → IfSome tenant (λ x. (is_name x.0 ≡ true) × IsSoundBook x.1)
-        → IsRead (record { admissions = place.admissions; tenant = tenant })
-    by None sound = record { each = (let few = counted.0 in omega arith, tt); few = omega arith }
-    by (Some tenant) sound =
+        → IfSome tenant (λ (x : List ℕ × Book). FitsHeading heading x.1.rows.limits)
+        → IsRead heading (record { admissions = place.admissions; tenant = tenant })
+    by None sound fits = record { each = (let few = counted.0 in omega arith, tt); few = omega arith }
+    by (Some tenant) sound fits =
         record {
-          each = (let few = counted.0 in omega arith, book_rows_are tenant.1 sound.1 tenant.0 sound.0);
+          each = (let few = counted.0 in omega arith, book_rows_are tenant.1 sound.1 heading fits tenant.0 sound.0);
           few = omega (arith, book_rows_few tenant.1 sound.1 tenant.0);
         }
 
-each_read : (places : List SavedPlace) → AllByRecursion IsCounted (register_of places)
-    → AllByRecursion IsSoundPlace places
-    → AllByRecursion IsRow (flat_map place_rows places) × (length (flat_map place_rows places) ≤ length places * 4201)
-each_read [] counted sound = (tt, omega arith)
-each_read (place ∷ places) counted sound =
-    let one = place_read place counted.0 sound.0 in
-    let others = each_read places counted.1 sound.1 in (
-      rows_both IsRow (place_rows place) (flat_map place_rows places) one.each others.0,
+each_read : (heading : Heading) (places : List SavedPlace) → AllByRecursion IsCounted (register_of places)
+    → AllByRecursion IsSoundPlace places → AllByRecursion (PlaceFits heading) places
+    → AllByRecursion (IsRow heading) (flat_map place_rows places)
+    × (length (flat_map place_rows places) ≤ length places * 4201)
+each_read heading [] counted sound fit = (tt, omega arith)
+each_read heading (place ∷ places) counted sound fit =
+    let one = place_read heading place counted.0 sound.0 fit.0 in
+    let others = each_read heading places counted.1 sound.1 fit.1 in (
+      rows_both (IsRow heading) (place_rows place) (flat_map place_rows places) one.each others.0,
       omega (arith, length-append (place_rows place) (flat_map place_rows places), one.few, others.1),
     )
 
 -- the rows of the places of a sound state
-pub rows_are : (places : List SavedPlace) → AreSoundPlaces places
-    → AllByRecursion IsRow (flat_map place_rows places) × (length (flat_map place_rows places) < 10 ^ 13)
-rows_are places sound =
-    let all = each_read places (recursion_from_All IsCounted (register_of places) sound.counted)
-    (recursion_from_All IsSoundPlace places sound.books) in
+pub rows_are : (heading : Heading) (places : List SavedPlace) → AreSoundPlaces places → All (PlaceFits heading) places
+    → AllByRecursion (IsRow heading) (flat_map place_rows places) × (length (flat_map place_rows places) < 10 ^ 13)
+rows_are heading places sound fit =
+    let all = each_read heading places (recursion_from_All IsCounted (register_of places) sound.counted)
+    (recursion_from_All IsSoundPlace places sound.books) (recursion_from_All (PlaceFits heading) places fit) in
     (all.0, omega (arith, all.1, sound.few))

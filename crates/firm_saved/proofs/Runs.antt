@@ -5,6 +5,7 @@ use Rattle.std.proofs.Common.{true≢false, eqb}
 use Rattle.std.specs.List.{list_all, onto_first, slice_split, AllByRecursion}
 use Rattle.std.proofs.lemmas.List.Splits.{length-slice_split}
 use Rattle.firm_text.specs.Lines.{is_line_feed}
+use Rattle.firm_text.specs.declared.headings.Heading.{Heading}
 use Rattle.std.proofs.lemmas.Bool.{eqb-true, and_parts}
 use Rattle.std.proofs.lemmas.List.{append-nil}
 use Rattle.firm_text.specs.Commands.{◌>>=◌}
@@ -21,6 +22,7 @@ use Rattle.firm_saved.specs.Reading.{at_line, ended, fault_at, go_on, is_end, la
 use Rattle.firm_saved.specs.Reading.{stepped}
 use Rattle.firm_saved.proofs.Complete.{dsteps}
 use Rattle.firm_saved.proofs.LineRows.{IsRow, row_back, row_read}
+use Rattle.firm_saved.proofs.RowFits.{RowFits, row_fits}
 use Rattle.firm_saved.proofs.Steps.{IsOrderly, bind_ok, draft_rows, ok_is, taken_rows}
 
 -- the line of a row, without its line feed
@@ -47,49 +49,54 @@ stepped_inner d (row.Job job) e = refl
 stepped_inner d (row.Task task) e = refl
 
 -- what a line makes of a draft, and then the lines behind
-abbrev behind : ℕ → List (List ℕ) → Draft × Option ℕ → Result (List SavedPlace) StateFault
-behind line rest read = go_on line rest (λ after. rows_from (line + 1) after rest) read.0 read.1
+abbrev behind : Heading → ℕ → List (List ℕ) → Draft × Option ℕ → Result (List SavedPlace) StateFault
+behind heading line rest read = go_on line rest (λ after. rows_from heading (line + 1) after rest) read.0 read.1
 
-rows_from-cons : (line : ℕ) (d : Draft) (bytes : List ℕ) (rest : List (List ℕ)) → 0 < length rest
-    → rows_from line d (bytes ∷ rest) ≡ (at_line line (line_read d bytes) >>= behind line rest)
-rows_from-cons line d bytes [] some = absurd (omega arith)
-rows_from-cons line d bytes (next ∷ rest) some = refl
+rows_from-cons : (heading : Heading) (line : ℕ) (d : Draft) (bytes : List ℕ) (rest : List (List ℕ)) → 0 < length rest
+    → rows_from heading line d (bytes ∷ rest) ≡ (at_line line (line_read heading d bytes) >>= behind heading line rest)
+rows_from-cons heading line d bytes [] some = absurd (omega arith)
+rows_from-cons heading line d bytes (next ∷ rest) some = refl
 
 -- the lines of rows that are taken are read
-pub lines_run : (line : ℕ) (d : Draft) (rows : List Row) (d2 : Draft) (next : List ℕ) (more : List (List ℕ))
-    → AllByRecursion IsRow rows → list_all is_inner rows ≡ true → dsteps d rows ≡ Ok d2
-    → rows_from line d (map row_line rows ++ next ∷ more) ≡ rows_from (line + length rows) d2 (next ∷ more)
-lines_run line d [] d2 next more each inner e =
+pub lines_run : (heading : Heading) (line : ℕ) (d : Draft) (rows : List Row) (d2 : Draft) (next : List ℕ)
+    (more : List (List ℕ))
+    → AllByRecursion (IsRow heading) rows → list_all is_inner rows ≡ true → dsteps d rows ≡ Ok d2
+    → rows_from heading line d (map row_line rows ++ next ∷ more)
+    ≡ rows_from heading (line + length rows) d2 (next ∷ more)
+lines_run heading line d [] d2 next more each inner e =
     let same : d ≡ d2 = cc in
     let none : line ≡ line + length {A = Row} [] = omega arith in
-    ap (λ (x : Draft). rows_from line x (next ∷ more)) same ∙ ap (λ n. rows_from n d2 (next ∷ more)) none
-lines_run line d (r ∷ rows) d2 next more each inner e =
+    ap (λ (x : Draft). rows_from heading line x (next ∷ more)) same
+    ∙ ap (λ n. rows_from heading n d2 (next ∷ more)) none
+lines_run heading line d (r ∷ rows) d2 next more each inner e =
     let rest : List (List ℕ) = map row_line rows ++ next ∷ more in
     let parts = and_parts (is_inner r) (list_all is_inner rows) inner in
     let first = bind_ok (taken d r) (λ after. dsteps after rows) d2 e in
-    let read : line_read d (row_line r) ≡ Ok (first.0, None) =
-    ap (λ (x : Result Row FaultKind). x >>= stepped d) (row_back r each.0) ∙ stepped_inner d r parts.0
+    let read : line_read heading d (row_line r) ≡ Ok (first.0, None) =
+    ap (λ (x : Result Row FaultKind). x >>= stepped d) (row_back heading r each.0) ∙ stepped_inner d r parts.0
     ∙ ap (λ (x : Result Draft FaultKind). x >>= λ after. let y : Result (Draft × Option ℕ) FaultKind = Ok
     (after, None) in y)
     first.1 in
     let count : line + 1 + length rows ≡ line + length (r ∷ rows) = omega arith in
-    rows_from-cons line d (row_line r) rest (some rows)
-    ∙ ap (λ (x : Result (Draft × Option ℕ) FaultKind). at_line line x >>= behind line rest) read
-    ∙ lines_run (line + 1) first.0 rows d2 next more each.1 parts.1 first.2
-    ∙ ap (λ n. rows_from n d2 (next ∷ more)) count
+    rows_from-cons heading line d (row_line r) rest (some rows)
+    ∙ ap (λ (x : Result (Draft × Option ℕ) FaultKind). at_line line x >>= behind heading line rest) read
+    ∙ lines_run heading (line + 1) first.0 rows d2 next more each.1 parts.1 first.2
+    ∙ ap (λ n. rows_from heading n d2 (next ∷ more)) count
   where
     some : (rows : List Row) → 0 < length (map row_line rows ++ next ∷ more)
     some [] = omega arith
     some (r ∷ rows) = omega arith
 
 -- the rows that were read of lines that make a state
-pub record AreRead (line : ℕ) (d : Draft) (pieces : List (List ℕ)) (places : List SavedPlace) : Type 0 where
+pub record AreRead (heading : Heading) (line : ℕ) (d : Draft) (pieces : List (List ℕ))
+    (places : List SavedPlace) : Type 0 where
   pub rows : List Row
   pub last : Draft
   pub cut : pieces ≡ map row_line rows ++ row_line (row.Rows (line + length rows - 2)) ∷ [] ∷ []
   pub taken : draft_rows last ≡ draft_rows d ++ rows
   pub orderly : IsOrderly last
   pub done : finished last ≡ Ok places
+  pub fit : AllByRecursion (RowFits heading) rows
 
 at_line_ok : {A B : Type 0} (line : ℕ) (r : Result A FaultKind) (f : A → Result B StateFault) (y : B)
     → (at_line line r >>= f) ≡ Ok y
@@ -157,22 +164,23 @@ stepped_last d (row.Job job) d2 count e = absurd (taken_none d (row.Job job) d2 
 stepped_last d (row.Task task) d2 count e = absurd (taken_none d (row.Task task) d2 count e)
 
 -- lines that make a state are those of its rows
-pub lines_read : (line : ℕ) (d : Draft) (pieces : List (List ℕ)) (places : List SavedPlace) → IsOrderly d
-    → rows_from line d pieces ≡ Ok places → AreRead line d pieces places
-lines_read line d [] places orderly e = absurd cc
-lines_read line d (last ∷ []) places orderly e = absurd cc
-lines_read line d (bytes ∷ next ∷ rest) places orderly e =
-    let x = at_line_ok line (line_read d bytes) (behind line (next ∷ rest)) places e in
-    let y = bind_ok (row_of bytes) (stepped d) x.0 x.1 in
-    by y.0 (row_read bytes y.0 y.1) x.0.0 x.0.1 y.2 x.2
-    (λ d2 orderly more. lines_read (line + 1) d2 (next ∷ rest) places orderly more)
+pub lines_read : (heading : Heading) (line : ℕ) (d : Draft) (pieces : List (List ℕ)) (places : List SavedPlace)
+    → IsOrderly d
+    → rows_from heading line d pieces ≡ Ok places → AreRead heading line d pieces places
+lines_read heading line d [] places orderly e = absurd cc
+lines_read heading line d (last ∷ []) places orderly e = absurd cc
+lines_read heading line d (bytes ∷ next ∷ rest) places orderly e =
+    let x = at_line_ok line (line_read heading d bytes) (behind heading line (next ∷ rest)) places e in
+    let y = bind_ok (row_of heading bytes) (stepped d) x.0 x.1 in
+    by y.0 (row_read heading bytes y.0 y.1) (row_fits heading bytes y.0 y.1) x.0.0 x.0.1 y.2 x.2
+    (λ d2 orderly more. lines_read heading (line + 1) d2 (next ∷ rest) places orderly more)
   where
-    by : (r : Row) → row_line r ≡ bytes → (d2 : Draft) (end : Option ℕ) → stepped d r ≡ Ok (d2, end)
-        → go_on line (next ∷ rest) (λ after. rows_from (line + 1) after (next ∷ rest)) d2 end ≡ Ok places
-        → ((d2 : Draft) → IsOrderly d2 → rows_from (line + 1) d2 (next ∷ rest) ≡ Ok places
-        → AreRead (line + 1) d2 (next ∷ rest) places)
-        → AreRead line d (bytes ∷ next ∷ rest) places
-    by r is d2 None step more again =
+    by : (r : Row) → row_line r ≡ bytes → RowFits heading r → (d2 : Draft) (end : Option ℕ) → stepped d r ≡ Ok (d2, end)
+        → go_on line (next ∷ rest) (λ after. rows_from heading (line + 1) after (next ∷ rest)) d2 end ≡ Ok places
+        → ((d2 : Draft) → IsOrderly d2 → rows_from heading (line + 1) d2 (next ∷ rest) ≡ Ok places
+        → AreRead heading (line + 1) d2 (next ∷ rest) places)
+        → AreRead heading line d (bytes ∷ next ∷ rest) places
+    by r is fits d2 None step more again =
         let one = taken_rows d r d2 orderly (stepped_on d r d2 step) in
         let others = again d2 one.1 more in
         let count : line + 1 + length others.rows - 2 ≡ line + length (r ∷ others.rows) - 2 = omega arith in
@@ -187,8 +195,9 @@ lines_read line d (bytes ∷ next ∷ rest) places orderly e =
               ∙ append_assoc (draft_rows d) (r ∷ []) others.rows;
           orderly = others.orderly;
           done = others.done;
+          fit = (fits, others.fit);
         }
-    by r is d2 (Some count) step more again =
+    by r is fits d2 (Some count) step more again =
         let what = stepped_last d r d2 count step in
         let tested = cond_ok (eqb count (line - 2)) (at_line line (finished d2) >>= ended line (next ∷ rest))
         (fault_at line fault.Rows) places more in
@@ -206,6 +215,7 @@ lines_read line d (bytes ∷ next ∷ rest) places orderly e =
           taken = ap draft_rows (sym what.1) ∙ sym (append-nil (draft_rows d));
           orderly = subst IsOrderly what.1 orderly;
           done = state.1 ∙ ap Ok same;
+          fit = tt;
         }
 
 -- there is a piece at least
@@ -223,27 +233,29 @@ not_end (b ∷ text) some = by (slice_split is_line_feed text) (some_piece text)
     by (piece ∷ pieces) some true = refl
     by (piece ∷ pieces) some false = refl
 
-module _ (line : ℕ) (d : Draft) (pieces : List (List ℕ)) (bytes : List ℕ) (rest : List (List ℕ))
+module _ (heading : Heading) (line : ℕ) (d : Draft) (pieces : List (List ℕ)) (bytes : List ℕ) (rest : List (List ℕ))
     (cut : pieces ≡ bytes ∷ rest) where
   -- a line that is the last piece, and no line
-  pub line_missing : rest ≡ [] → rows_from line d pieces ≡ Err (fault_at line fault.Rows)
+  pub line_missing : rest ≡ [] → rows_from heading line d pieces ≡ Err (fault_at line fault.Rows)
   line_missing none =
-      ap (rows_from line d) (cut ∙ ap (λ (l : List (List ℕ)). bytes ∷ l) none)
+      ap (rows_from heading line d) (cut ∙ ap (λ (l : List (List ℕ)). bytes ∷ l) none)
 
   module _ (some : 0 < length rest) where
-    read : rows_from line d pieces ≡ (at_line line (line_read d bytes) >>= behind line rest)
-    read = ap (rows_from line d) cut ∙ rows_from-cons line d bytes rest some
+    read : rows_from heading line d pieces ≡ (at_line line (line_read heading d bytes) >>= behind heading line rest)
+    read = ap (rows_from heading line d) cut ∙ rows_from-cons heading line d bytes rest some
 
     -- a line that goes on, ends the state or is at fault
-    pub line_goes : (d2 : Draft) → line_read d bytes ≡ Ok (d2, None)
-        → rows_from line d pieces ≡ rows_from (line + 1) d2 rest
-    line_goes d2 e = read ∙ ap (λ (r : Result (Draft × Option ℕ) FaultKind). at_line line r >>= behind line rest) e
+    pub line_goes : (d2 : Draft) → line_read heading d bytes ≡ Ok (d2, None)
+        → rows_from heading line d pieces ≡ rows_from heading (line + 1) d2 rest
+    line_goes d2 e =
+        read ∙ ap (λ (r : Result (Draft × Option ℕ) FaultKind). at_line line r >>= behind heading line rest) e
 
-    pub line_ends : (d2 : Draft) (count : ℕ) → line_read d bytes ≡ Ok (d2, Some count)
-        → rows_from line d pieces ≡ last_row line d2 count rest
+    pub line_ends : (d2 : Draft) (count : ℕ) → line_read heading d bytes ≡ Ok (d2, Some count)
+        → rows_from heading line d pieces ≡ last_row line d2 count rest
     line_ends d2 count e = read ∙ ap
-        (λ (r : Result (Draft × Option ℕ) FaultKind). at_line line r >>= behind line rest) e
+        (λ (r : Result (Draft × Option ℕ) FaultKind). at_line line r >>= behind heading line rest) e
 
-    pub line_faults : (kind : FaultKind) → line_read d bytes ≡ Err kind
-        → rows_from line d pieces ≡ Err (fault_at line kind)
-    line_faults kind e = read ∙ ap (λ (r : Result (Draft × Option ℕ) FaultKind). at_line line r >>= behind line rest) e
+    pub line_faults : (kind : FaultKind) → line_read heading d bytes ≡ Err kind
+        → rows_from heading line d pieces ≡ Err (fault_at line kind)
+    line_faults kind e =
+        read ∙ ap (λ (r : Result (Draft × Option ℕ) FaultKind). at_line line r >>= behind heading line rest) e

@@ -3,12 +3,12 @@ use Rattle.std.proofs.Common.{◌≡◌, ◌<◌, ◌+◌, ◌-◌, ◌^◌, ℕ
 use Rattle.std.proofs.Common.{◌++◌, length, map, refl, sym, ap, subst, ◌∙◌, arith, append_assoc, Option, Some, None}
 use Rattle.std.proofs.Common.{Result}
 use Rattle.std.proofs.Common.{Ok, Err, bytes_eq, eqb}
-use Rattle.std.specs.Prelude.{All, AllPairs, IfSome, nat_lt, option_map}
+use Rattle.std.specs.Prelude.{All, AllPairs, IfSome, nat_lt, option_map, replicate}
 use Rattle.std.specs.List.{flat_map, list_all, slice_split, join_with_byte, AllByRecursion}
 use Rattle.std.proofs.lemmas.Bool.{and_from, le-ltb, lt-leb, lt-ltb, eq-eqb, ne_eqb}
 use Rattle.std.proofs.lemmas.List.{append-nil, length-append, map-append}
 use Rattle.std.proofs.lemmas.List.Concat.{flat_map-append}
-use Rattle.std.proofs.lemmas.List.Elements.{recursion_from_All}
+use Rattle.std.proofs.lemmas.List.Elements.{All-append, All-from_recursion, All-replicate, recursion_from_All}
 use Rattle.std.proofs.lemmas.List.Folds.{flat_map-map, list_all-append}
 use Rattle.std.proofs.lemmas.List.Splits.{join_with_byte-slice_split}
 use Rattle.std.proofs.lemmas.Slice.Eq.{bytes_eq-Decides}
@@ -16,30 +16,36 @@ use Rattle.firm_rules.specs.Book.{Book}
 use Rattle.firm_rules.specs.Names.{is_name}
 use Rattle.firm_text.specs.Commands.{◌>>=◌}
 use Rattle.firm_text.specs.Lines.{is_line_feed}
+use Rattle.firm_text.specs.declared.headings.Heading.{Heading}
+use Rattle.firm_text.specs.declared.headings.Heading.TheVariants.{Plain, Extended}
 use Rattle.firm_text.specs.Registers.{AreApart, IsCounted, most_admissions}
 use Rattle.firm_text.specs.Rosters.{most_places}
-use Rattle.firm_saved.specs.Saved.{IsSoundPlace, IsSoundSaved, entry_of, filled, register_of, tenant_name}
+use Rattle.firm_saved.specs.Saved.{AreSoundSaved, IsSoundPlace, IsSoundSaved, PlaceFits, SavedIs, entry_of, filled}
+use Rattle.firm_saved.specs.Saved.{register_of, saved_with, tenant_name, untouched}
 use Rattle.firm_rules.specs.SlotCosts.{LaterSlotsCostNoLess}
 use Rattle.firm_rules.specs.SoundBook.{IsSoundBook, book_fault}
-use Rattle.firm_saved.specs.StateText.{book_rows, given_places, heading, place_rows, row_text, state_rows, state_text}
+use Rattle.firm_saved.specs.StateText.{book_rows, first_line, given_places, place_rows, row_text, state_rows}
+use Rattle.firm_saved.specs.StateText.{state_text}
 use Rattle.firm_saved.specs.StateText.{tenant_rows}
 use Rattle.firm_saved.specs.declared.faults.FaultKind.{FaultKind}
 use Rattle.firm_saved.specs.declared.faults.FaultKind.TheVariants as fault
+use Rattle.firm_saved.specs.declared.faults.StateFault.{StateFault}
 use Rattle.firm_saved.specs.declared.rows.Row.{Row}
 use Rattle.firm_saved.specs.declared.rows.Row.TheVariants as row
 use Rattle.firm_saved.specs.declared.saved.SavedPlace.{SavedPlace}
 use Rattle.firm_saved.specs.Drafts.{Draft, TenantDraft, closed, empty_draft, finished, has_tenant, kind_of}
 use Rattle.firm_saved.specs.Drafts.{new_tenant, place_fault, tenant_fault, unless, whole}
 use Rattle.firm_saved.specs.inner.Kept.{AreSoundPlaces, WasGiven}
-use Rattle.firm_saved.specs.Reading.{fault_at, pieces_state, rows_from, state_of}
+use Rattle.firm_saved.specs.Reading.{fault_at, headed_state, pieces_state, rows_from, state_of}
 use Rattle.firm_saved.proofs.Clean.{above, ended_line, lines_split}
 use Rattle.firm_saved.proofs.Complete.{book_free, costs_run, draft_at, dsteps, jobs_run, machines_run, middle}
 use Rattle.firm_saved.proofs.Complete.{rounds_read, tasks_run, unless_none}
 use Rattle.firm_saved.proofs.LineRows.{IsRow, line_clean, row_back}
 use Rattle.firm_saved.proofs.RowFacts.{places_inner, rows_are}
-use Rattle.firm_saved.proofs.Places.{all_given, given_back, given_sound, not_seated, pairs_middle, some_given}
+use Rattle.firm_saved.proofs.RowFits.{RowFits, places_fit}
+use Rattle.firm_saved.proofs.Places.{all_given, all_left, given_back, given_sound, not_seated, pairs_middle, some_given}
 use Rattle.firm_saved.proofs.Places.{state_filled}
-use Rattle.firm_saved.proofs.Runs.{lines_read, lines_run, row_line, cond_ok}
+use Rattle.firm_saved.proofs.Runs.{AreRead, lines_read, lines_run, row_line, cond_ok}
 use Rattle.firm_saved.proofs.Steps.{IsOrderly, bind_ok, closed_given, closed_rows, ok_is}
 
 -- ---- what is read is the text of its state
@@ -56,53 +62,100 @@ joined (line ∷ next ∷ lines) =
     ∙ sym (append_assoc line (10 ∷ []) (flat_map ended_line (next ∷ lines)))
 
 -- the text of some rows, with the first and the last line
-abbrev rows_text : List Row → ℕ → List ℕ
-rows_text rows count = heading ++ 10 ∷ [] ++ flat_map row_text rows ++ row_text (row.Rows count)
+abbrev rows_text : Heading → List Row → ℕ → List ℕ
+rows_text heading rows count =
+    first_line heading ++ 10 ∷ [] ++ flat_map row_text rows ++ row_text (row.Rows count)
 
-lines_text : (rows : List Row) (count : ℕ)
-    → flat_map ended_line (heading ∷ (map row_line rows ++ row_line (row.Rows count) ∷ [])) ≡ rows_text rows count
-lines_text rows count =
-    ap (λ (l : List ℕ). ended_line heading ++ l)
+lines_text : (heading : Heading) (rows : List Row) (count : ℕ)
+    → flat_map ended_line (first_line heading ∷ (map row_line rows ++ row_line (row.Rows count) ∷ []))
+    ≡ rows_text heading rows count
+lines_text heading rows count =
+    ap (λ (l : List ℕ). ended_line (first_line heading) ++ l)
     (flat_map-append ended_line (map row_line rows) (row_line (row.Rows count) ∷ [])
     ∙ ap (λ (l : List ℕ). l ++ (row_text (row.Rows count) ++ [])) (flat_map-map ended_line row_line rows)
     ∙ ap (λ (l : List ℕ). flat_map row_text rows ++ l) (append-nil (row_text (row.Rows count))))
-    ∙ sym (append_assoc (ended_line heading) (flat_map row_text rows) (row_text (row.Rows count)))
+    ∙ sym (append_assoc (ended_line (first_line heading)) (flat_map row_text rows) (row_text (row.Rows count)))
 
-pub text_is : (text : List ℕ) (places : List SavedPlace) → state_of text ≡ Ok places → text ≡ state_text places
-text_is text places e = by (slice_split is_line_feed text) refl e
+-- the rows that were read are those of the places
+record AreOfPlaces (heading : Heading) (rest : List (List ℕ)) (places : List SavedPlace) : Type 0 where
+  read : AreRead heading 2 empty_draft rest places
+  are : state_rows places ≡ read.rows
+  whole : filled (given_places places) ≡ places
+
+of_places : (heading : Heading) (rest : List (List ℕ)) (places : List SavedPlace)
+    → rows_from heading 2 empty_draft rest ≡ Ok places → AreOfPlaces heading rest places
+of_places heading rest places read =
+    let r = lines_read heading 2 empty_draft rest places empty_orderly read in
+    let given = bind_ok (whole r.last)
+    (λ places. cond (nat_lt 0 (length places)) (Ok (filled places)) (Err fault.Places)) places r.done in
+    let ends = cond_ok (nat_lt 0 (length given.0)) (Ok (filled given.0)) fault.Places places given.2 in
+    let is : filled given.0 ≡ places = ok_is {E = FaultKind} (filled given.0) places ends.1 in
+    let back : given_places places ≡ given.0 =
+    ap given_places (sym is)
+    ∙ given_back given.0 (most_places - length given.0) (closed_given r.last given.0 r.orderly given.1) in
+    record {
+      read = r;
+      are = ap (flat_map place_rows) back
+          ∙ closed_rows r.last.before r.last.present r.last.tenant given.0 r.orderly.placed given.1 ∙ r.taken;
+      whole = ap filled back ∙ is;
+    }
+
+-- the tenants that were read fit the heading
+pub rows_fit : (heading : Heading) (rest : List (List ℕ)) (places : List SavedPlace)
+    → rows_from heading 2 empty_draft rest ≡ Ok places → All (PlaceFits heading) places
+rows_fit heading rest places read =
+    let r = of_places heading rest places read in
+    let given : List SavedPlace = given_places places in
+    let count : ℕ = most_places - length given in
+    subst (All (PlaceFits heading)) r.whole
+    (All-append (PlaceFits heading) given (replicate count untouched)
+    (All-from_recursion (PlaceFits heading) given
+    (places_fit heading given (subst (AllByRecursion (RowFits heading)) (sym r.are) r.read.fit)))
+    (All-replicate (PlaceFits heading) count untouched tt))
+
+pub text_is : (text : List ℕ) (saved : SavedIs) → state_of text ≡ Ok saved → text ≡ state_text saved
+text_is text saved e = by (slice_split is_line_feed text) refl e
   where
-    state : (rest : List (List ℕ)) → rows_from 2 empty_draft rest ≡ Ok places
-        → heading ∷ rest ≡ slice_split is_line_feed text → text ≡ state_text places
-    state rest read cut =
-        let r = lines_read 2 empty_draft rest places empty_orderly read in
-        let given = bind_ok (whole r.last)
-        (λ places. cond (nat_lt 0 (length places)) (Ok (filled places)) (Err fault.Places)) places r.done in
-        let ends = cond_ok (nat_lt 0 (length given.0)) (Ok (filled given.0)) fault.Places places given.2 in
-        let is : filled given.0 ≡ places = ok_is {E = FaultKind} (filled given.0) places ends.1 in
-        let back : given_places places ≡ given.0 =
-        ap given_places (sym is)
-        ∙ given_back given.0 (most_places - length given.0) (closed_given r.last given.0 r.orderly given.1) in
-        let rows : state_rows places ≡ r.rows =
-        ap (flat_map place_rows) back
-        ∙ closed_rows r.last.before r.last.present r.last.tenant given.0 r.orderly.placed given.1 ∙ r.taken in
+    state : (heading : Heading) (rest : List (List ℕ)) (places : List SavedPlace)
+        → rows_from heading 2 empty_draft rest ≡ Ok places
+        → first_line heading ∷ rest ≡ slice_split is_line_feed text → text ≡ state_text (saved_with heading places)
+    state heading rest places read cut =
+        let of = of_places heading rest places read in
+        let r = of.read in
         let count : 2 + length r.rows - 2 ≡ length r.rows = omega arith in
+        let first : List ℕ = first_line heading in
         sym (join_with_byte-slice_split 10 text)
-        ∙ ap (join_with_byte 10) (sym cut ∙ ap (λ (l : List (List ℕ)). heading ∷ l) r.cut)
-        ∙ ap (λ n. join_with_byte 10 (heading ∷ (map row_line r.rows ++ row_line (row.Rows n) ∷ [] ∷ []))) count
-        ∙ ap (λ (l : List (List ℕ)). join_with_byte 10 (heading ∷ l))
+        ∙ ap (join_with_byte 10) (sym cut ∙ ap (λ (l : List (List ℕ)). first ∷ l) r.cut)
+        ∙ ap (λ n. join_with_byte 10 (first ∷ (map row_line r.rows ++ row_line (row.Rows n) ∷ [] ∷ []))) count
+        ∙ ap (λ (l : List (List ℕ)). join_with_byte 10 (first ∷ l))
         (sym (append_assoc (map row_line r.rows) (row_line (row.Rows (length r.rows)) ∷ []) ([] ∷ [])))
-        ∙ joined (heading ∷ (map row_line r.rows ++ row_line (row.Rows (length r.rows)) ∷ []))
-        ∙ lines_text r.rows (length r.rows)
-        ∙ ap (λ (rows : List Row). rows_text rows (length rows)) (sym rows)
+        ∙ joined (first ∷ (map row_line r.rows ++ row_line (row.Rows (length r.rows)) ∷ []))
+        ∙ lines_text heading r.rows (length r.rows)
+        ∙ ap (λ (rows : List Row). rows_text heading rows (length rows)) (sym of.are)
 
-    by : (pieces : List (List ℕ)) → slice_split is_line_feed text ≡ pieces → pieces_state pieces ≡ Ok places
-        → text ≡ state_text places
+    headed : (heading : Heading) (first : List ℕ) (rest : List (List ℕ)) → slice_split is_line_feed text ≡ first ∷ rest
+        → bytes_eq first (first_line heading) ≡ true → headed_state heading rest ≡ Ok saved → text ≡ state_text saved
+    headed heading first rest is same e =
+        let read = bind_ok (rows_from heading 2 empty_draft rest)
+        (λ places. let r : Result SavedIs StateFault = Ok (saved_with heading places) in r) saved e in
+        let front = (bytes_eq-Decides first (first_line heading)).0 same in
+        state heading rest read.0 read.1 (sym (is ∙ ap (λ (f : List ℕ). f ∷ rest) front))
+        ∙ ap state_text (ok_is {E = StateFault} (saved_with heading read.0) saved read.2)
+
+    by : (pieces : List (List ℕ)) → slice_split is_line_feed text ≡ pieces → pieces_state pieces ≡ Ok saved
+        → text ≡ state_text saved
     by [] is e = absurd cc
     by (first ∷ rest) is e =
-        let headed = cond_ok (bytes_eq first heading) (rows_from 2 empty_draft rest)
-        (fault_at 1 fault.Version) places e in
-        let same = (bytes_eq-Decides first heading).0 headed.0 in
-        state rest headed.1 (sym (is ∙ ap (λ (f : List ℕ). f ∷ rest) same))
+        told (bytes_eq first (first_line Plain)) refl (bytes_eq first (first_line Extended)) refl e
+      where
+        told : (plain : Bool) → bytes_eq first (first_line Plain) ≡ plain → (extended : Bool)
+            → bytes_eq first (first_line Extended) ≡ extended
+            → cond plain (headed_state Plain rest)
+            (cond extended (headed_state Extended rest) (Err (fault_at 1 fault.Version))) ≡ Ok saved
+            → text ≡ state_text saved
+        told true same extended other e = headed Plain first rest is same e
+        told false plain true same e = headed Extended first rest is same e
+        told false plain false other e = absurd cc
 
 -- ---- the text of a state is read as it
 
@@ -259,33 +312,44 @@ places_run rises d done (place ∷ places) is sound given =
     }
 
 -- the lines of a state
-abbrev state_lines : List Row → List (List ℕ)
-state_lines rows = heading ∷ (map row_line rows ++ row_line (row.Rows (length rows)) ∷ [])
+abbrev state_lines : Heading → List Row → List (List ℕ)
+state_lines heading rows = first_line heading ∷ (map row_line rows ++ row_line (row.Rows (length rows)) ∷ [])
 
-lines_clean : (rows : List Row) → AllByRecursion IsRow rows → list_all (above 10) (map row_line rows) ≡ true
-lines_clean [] each = refl
-lines_clean (r ∷ rows) each =
-    and_from (above 10 (row_line r)) (list_all (above 10) (map row_line rows)) (line_clean r each.0)
-    (lines_clean rows each.1)
+first_clean : (heading : Heading) → above 10 (first_line heading) ≡ true
+first_clean Plain = refl
+first_clean Extended = refl
 
-state_split : (rows : List Row) → AllByRecursion IsRow rows → length rows < 10 ^ 13
-    → slice_split is_line_feed (rows_text rows (length rows)) ≡ state_lines rows ++ [] ∷ []
-state_split rows each few =
-    ap (slice_split is_line_feed) (sym (lines_text rows (length rows)))
-    ∙ lines_split (state_lines rows)
-    (list_all-append (above 10) (map row_line rows) (row_line (row.Rows (length rows)) ∷ [])
-    ∙ and_from (list_all (above 10) (map row_line rows)) (list_all (above 10) (row_line (row.Rows (length rows)) ∷ []))
-    (lines_clean rows each)
-    (and_from (above 10 (row_line (row.Rows (length rows)))) true (line_clean (row.Rows (length rows)) few) refl))
+lines_clean : (heading : Heading) (rows : List Row) → AllByRecursion (IsRow heading) rows
+    → list_all (above 10) (map row_line rows) ≡ true
+lines_clean heading [] each = refl
+lines_clean heading (r ∷ rows) each =
+    and_from (above 10 (row_line r)) (list_all (above 10) (map row_line rows)) (line_clean heading r each.0)
+    (lines_clean heading rows each.1)
 
--- the state of the lines of a state
-lines_state : LaterSlotsCostNoLess → (places : List SavedPlace) → IsSoundSaved places
-    → pieces_state (state_lines (state_rows places) ++ [] ∷ []) ≡ Ok places
-lines_state rises places sound =
+state_split : (heading : Heading) (rows : List Row) → AllByRecursion (IsRow heading) rows → length rows < 10 ^ 13
+    → slice_split is_line_feed (rows_text heading rows (length rows)) ≡ state_lines heading rows ++ [] ∷ []
+state_split heading rows each few =
+    let last : List ℕ = row_line (row.Rows (length rows)) in
+    ap (slice_split is_line_feed) (sym (lines_text heading rows (length rows)))
+    ∙ lines_split (state_lines heading rows)
+    (and_from (above 10 (first_line heading)) (list_all (above 10) (map row_line rows ++ last ∷ []))
+    (first_clean heading)
+    (list_all-append (above 10) (map row_line rows) (last ∷ [])
+    ∙ and_from (list_all (above 10) (map row_line rows)) (list_all (above 10) (last ∷ []))
+    (lines_clean heading rows each)
+    (and_from (above 10 last) true (line_clean heading (row.Rows (length rows)) few) refl)))
+
+-- the places of the lines behind the first
+lines_state : LaterSlotsCostNoLess → (heading : Heading) (places : List SavedPlace) → AreSoundSaved places
+    → All (PlaceFits heading) (given_places places)
+    → rows_from heading 2 empty_draft
+    ((map row_line (state_rows places) ++ row_line (row.Rows (length (state_rows places))) ∷ []) ++ [] ∷ [])
+    ≡ Ok places
+lines_state rises heading places sound fit =
     let given : List SavedPlace = given_places places in
     let rows : List Row = state_rows places in
     let good = given_sound places sound in
-    let facts = rows_are given good in
+    let facts = rows_are heading given good fit in
     let run = places_run rises empty_draft [] given refl good (all_given places sound.in_order.before) in
     let n : ℕ = length rows in
     let tail : List (List ℕ) = row_line (row.Rows n) ∷ [] ∷ [] in
@@ -297,20 +361,38 @@ lines_state rises places sound =
     ∙ ap (λ (b : Bool). cond b (let x : Result (List SavedPlace) FaultKind = Ok (filled given) in x) (Err fault.Places))
     (lt-ltb 0 (length given) (some_given places sound.in_order.first))
     ∙ ap Ok (state_filled places sound) in
-    ap (λ (l : List (List ℕ)). rows_from 2 empty_draft l)
+    ap (λ (l : List (List ℕ)). rows_from heading 2 empty_draft l)
     (append_assoc (map row_line rows) (row_line (row.Rows n) ∷ []) ([] ∷ []))
-    ∙ lines_run 2 empty_draft rows run.last (row_line (row.Rows n)) ([] ∷ []) facts.0 (places_inner given) run.taken
+    ∙ lines_run heading 2 empty_draft rows run.last (row_line (row.Rows n)) ([] ∷ []) facts.0 (places_inner given)
+    run.taken
     ∙ last_line run.last n facts.1 done
   where
     last_line : (d : Draft) (n : ℕ) → n < 10 ^ 13 → finished d ≡ Ok places
-        → rows_from (2 + n) d (row_line (row.Rows n) ∷ [] ∷ []) ≡ Ok places
+        → rows_from heading (2 + n) d (row_line (row.Rows n) ∷ [] ∷ []) ≡ Ok places
     last_line d n few done =
         let counted : eqb n (2 + n - 2) ≡ true = eq-eqb n (2 + n - 2) (omega arith) in
-        rw (row_back (row.Rows n) few, counted, done) refl
+        rw (row_back heading (row.Rows n) few, counted, done) refl
+
+-- the first line says which heading it is
+headed_back : (heading : Heading) (rest : List (List ℕ))
+    → pieces_state (first_line heading ∷ rest) ≡ headed_state heading rest
+headed_back Plain rest = refl
+headed_back Extended rest = refl
 
 -- the text of a sound state is read as this state
-pub state_back : LaterSlotsCostNoLess → (places : List SavedPlace) → IsSoundSaved places
-    → state_of (state_text places) ≡ Ok places
-state_back rises places sound =
-    let facts = rows_are (given_places places) (given_sound places sound) in
-    ap pieces_state (state_split (state_rows places) facts.0 facts.1) ∙ lines_state rises places sound
+pub state_back : LaterSlotsCostNoLess → (saved : SavedIs) → IsSoundSaved saved → state_of (state_text saved) ≡ Ok saved
+state_back rises saved sound =
+    let places : List SavedPlace = saved.places in
+    let heading : Heading = saved.heading in
+    let rows : List Row = state_rows places in
+    let whole : given_places places ++ replicate (most_places - length (given_places places)) untouched ≡ places =
+    state_filled places sound.places in
+    let fit = all_left (PlaceFits heading) (given_places places)
+    (replicate (most_places - length (given_places places)) untouched)
+    (subst (All (PlaceFits heading)) (sym whole) sound.fit) in
+    let facts = rows_are heading (given_places places) (given_sound places sound.places) fit in
+    ap pieces_state (state_split heading rows facts.0 facts.1)
+    ∙ headed_back heading ((map row_line rows ++ row_line (row.Rows (length rows)) ∷ []) ++ [] ∷ [])
+    ∙ ap (λ (r : Result (List SavedPlace) StateFault).
+    r >>= λ places. let x : Result SavedIs StateFault = Ok (saved_with heading places) in x)
+    (lines_state rises heading places sound.places fit)

@@ -259,7 +259,7 @@ taken draft (row.Job job) = grown_in draft draft.tenant (row.Job job)
 taken draft (row.Task task) = grown_in draft draft.tenant (row.Task task)
 taken draft (row.Rows count) = Err fault.Row
 
--- the state, if the rows end here; a service has given one place at least
+-- the places, if the rows end here; a service has given one place at least
 abbrev pub finished : Draft → Result (List SavedPlace) FaultKind
 finished draft = do
   places ← whole draft

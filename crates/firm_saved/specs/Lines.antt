@@ -1,4 +1,4 @@
--- How a line is read as a row: as far as its words tell, and then it must be the row's own line.
+-- How a line is read as a row under a heading: as far as its words tell, and then it must be the row's own line.
 use Rattle.std.specs.Prelude.{ℕ, ℤ, pos, Bool, false, List, [], ◌∷◌, ◌==◌, Option, Some, None, Result, Ok, Err}
 use Rattle.std.specs.Prelude.{bytes_eq, codes}
 use Rattle.std.specs.Prelude.{length, nat_le, nat_lt, option_and_then, if◌then◌else◌}
@@ -11,6 +11,8 @@ use Rattle.firm_rules.specs.Preferences.{most_preferences, with_preference}
 use Rattle.firm_rules.specs.Recent.{with_cost}
 use Rattle.firm_text.specs.Commands.{◌>>=◌}
 use Rattle.firm_text.specs.Numbers.{number_of}
+use Rattle.firm_text.specs.declared.headings.Heading.{Heading}
+use Rattle.firm_text.specs.declared.headings.Heading.TheVariants.{Plain, Extended}
 use Rattle.firm_rules.specs.SoundBook.{most_cost}
 use Rattle.firm_saved.specs.StateText.{row_words, words_text}
 use Rattle.firm_saved.specs.declared.faults.FaultKind.{FaultKind}
@@ -70,20 +72,22 @@ abbrev pub names_patience : List (List ℕ) → Bool
 names_patience [] = false
 names_patience (word ∷ rest) = bytes_eq word (codes "patience")
 
--- the patience behind its label, or the longest where the label is missing, and the words behind it
-abbrev pub patience_at : List (List ℕ) → Result (ℕ × List (List ℕ)) FaultKind
-patience_at words = if names_patience words then labelled_at words else Ok (longest_patience, words)
+-- the patience behind its label, or the longest where the label is missing, and the words behind it; under a plain
+-- heading no row has one
+abbrev pub patience_at : Heading → List (List ℕ) → Result (ℕ × List (List ℕ)) FaultKind
+patience_at Plain words = Ok (longest_patience, words)
+patience_at Extended words = if names_patience words then labelled_at words else Ok (longest_patience, words)
 
 -- the limits of a tenant, and the words behind them
-abbrev pub limits_at : List (List ℕ) → Result (TenantLimits × List (List ℕ)) FaultKind
-limits_at words = do
+abbrev pub limits_at : Heading → List (List ℕ) → Result (TenantLimits × List (List ℕ)) FaultKind
+limits_at heading words = do
   nodes ← labelled_at words
   arcs ← labelled_at nodes.1
   life ← labelled_at arcs.1
   spread ← labelled_at life.1
   churn ← labelled_at spread.1
   remote ← labelled_at churn.1
-  patience ← patience_at remote.1
+  patience ← patience_at heading remote.1
   limits ← ok_or (limits_of nodes.0 arcs.0 life.0 spread.0 churn.0 remote.0) fault.BadNumber
   patient ← ok_or (with_patience limits patience.0) fault.BadNumber
   Ok (patient, patience.1)
@@ -95,11 +99,11 @@ place_row words = do
   Ok (row.Place admissions.0)
 
 -- the name of a tenant, its limits, and behind a label how many commands it was given
-abbrev pub tenant_row : List (List ℕ) → Result Row FaultKind
-tenant_row [] = Err fault.Row
-tenant_row (word ∷ rest) = do
+abbrev pub tenant_row : Heading → List (List ℕ) → Result Row FaultKind
+tenant_row heading [] = Err fault.Row
+tenant_row heading (word ∷ rest) = do
   name ← name_word word
-  limits ← limits_at rest
+  limits ← limits_at heading rest
   given ← labelled_at limits.1
   Ok (row.Tenant name limits.0 given.0)
 
@@ -182,10 +186,10 @@ task_row (word ∷ rest) = do
   task_of job rest
 
 -- the row of a first word and of the words behind it, as far as these tell
-abbrev pub verb_row : List ℕ → List (List ℕ) → Result Row FaultKind
-verb_row verb rest =
+abbrev pub verb_row : Heading → List ℕ → List (List ℕ) → Result Row FaultKind
+verb_row heading verb rest =
     if bytes_eq verb (codes "place") then place_row rest
-    else if bytes_eq verb (codes "tenant") then tenant_row rest
+    else if bytes_eq verb (codes "tenant") then tenant_row heading rest
     else if bytes_eq verb (codes "costs") then costs_row rest
     else if bytes_eq verb (codes "machine") then machine_row rest
     else if bytes_eq verb (codes "job") then job_row rest
@@ -193,15 +197,15 @@ verb_row verb rest =
     else if bytes_eq verb (codes "rows") then (number_at rest >>= λ number. Ok (row.Rows number))
     else Err fault.Row
 
--- the row of some words, as far as they tell
-abbrev pub words_row : List (List ℕ) → Result Row FaultKind
-words_row [] = Err fault.Row
-words_row (verb ∷ rest) = verb_row verb rest
+-- the row of some words under this heading, as far as they tell
+abbrev pub words_row : Heading → List (List ℕ) → Result Row FaultKind
+words_row heading [] = Err fault.Row
+words_row heading (verb ∷ rest) = verb_row heading verb rest
 
 -- the row, if the line is the one that it is written as
 abbrev pub own_row : List ℕ → Row → Result Row FaultKind
 own_row line told = if bytes_eq (words_text (row_words told)) line then Ok told else Err fault.Row
 
--- the row that a line is
-abbrev pub row_of : List ℕ → Result Row FaultKind
-row_of line = words_row (words_of line) >>= own_row line
+-- the row that a line is under this heading
+abbrev pub row_of : Heading → List ℕ → Result Row FaultKind
+row_of heading line = words_row heading (words_of line) >>= own_row line

@@ -5,6 +5,9 @@ use Rattle.std.specs.Fmt.{signed_decimal}
 use Rattle.firm_rules.specs.Book.{Book}
 use Rattle.firm_rules.specs.Limits.{TenantLimits, longest_patience}
 use Rattle.firm_text.specs.Replies.{labelled, spaced}
+use Rattle.firm_text.specs.declared.headings.Heading.{Heading}
+use Rattle.firm_text.specs.declared.headings.Heading.TheVariants.{Plain, Extended}
+use Rattle.firm_saved.specs.Saved.{SavedIs}
 use Rattle.firm_saved.specs.declared.rows.Row.{Row}
 use Rattle.firm_saved.specs.declared.rows.Row.TheVariants as row
 use Rattle.firm_saved.specs.declared.saved.SavedPlace.{SavedPlace}
@@ -81,11 +84,13 @@ given_places (place ∷ rest) = behind_place place (given_places rest)
 abbrev pub state_rows : List SavedPlace → List Row
 state_rows places = flat_map place_rows (given_places places)
 
--- the first line: what the text is, and the version of its format
-abbrev pub heading : List ℕ
-heading = codes "firm state 1"
+-- the first line: what the text is, the version of its format, and whether the heading is extended
+abbrev pub first_line : Heading → List ℕ
+first_line Plain = codes "firm state 1"
+first_line Extended = codes "firm state 1 extended"
 
 -- the text of a state: the first line, the rows, and how many rows stand between
-abbrev pub state_text : List SavedPlace → List ℕ
-state_text places =
-    heading ++ 10 ∷ [] ++ flat_map row_text (state_rows places) ++ row_text (row.Rows (length (state_rows places)))
+abbrev pub state_text : SavedIs → List ℕ
+state_text saved =
+    let rows : List Row = state_rows saved.places in
+    first_line saved.heading ++ 10 ∷ [] ++ flat_map row_text rows ++ row_text (row.Rows (length rows))

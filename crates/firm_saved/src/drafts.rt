@@ -3,7 +3,7 @@ ghost use Rattle.std.specs.Prelude.{◌≡◌, ◌⊎◌, ◌≤◌, ◌<◌, �
 ghost use Rattle.std.specs.Prelude.{true, All, MatchResult, option_map, List};
 ghost use Rattle.firm_rules.specs.Names.{is_name};
 ghost use Rattle.firm_text.specs.Rosters.{most_places};
-ghost use Rattle.firm_saved.specs.Saved.{IsSoundPlace, IsSoundSaved, filled};
+ghost use Rattle.firm_saved.specs.Saved.{IsSoundPlace, AreSoundSaved, filled};
 ghost use Rattle.firm_saved.specs.Drafts.{empty_draft, finished, after_place, has_tenant, place_of};
 ghost use Rattle.firm_saved.specs.Drafts.{tenant_fault, taken, whole};
 ghost use Rattle.firm_saved.specs.inner.Kept.{AreSoundPlaces, IsSoundDraft, WasGiven, view};
@@ -16,10 +16,10 @@ ghost use Rattle.firm_saved.specs.declared.faults.FaultKind.TheVariants as fault
 use crate::faults::FaultKind;
 use crate::row_lines::row_of;
 use crate::rows::Row;
-use crate::saved::{Saved, SavedPlace};
+use crate::saved::{Places, SavedPlace};
 use crate::tenant_drafts::TenantDraft;
 use firm_rules::{Limits, Name};
-use firm_text::{MOST_ADMISSIONS, PLACES};
+use firm_text::{Heading, MOST_ADMISSIONS, PLACES};
 use std::alloc::{AllocError, Global};
 use std::mem;
 
@@ -56,19 +56,20 @@ impl Draft {
         }
     }
 
-    /// Takes the next line, with a buffer to write its row into; gives the count of the last row, if it is that. The
+    /// Takes the next line under this heading, with a buffer to write its row into; gives the count of the last row, if it is that. The
     /// draft is of no use after an error.
     pub fn take_line(
         &mut self,
         alloc: Global,
+        heading: Heading,
         buffer: &mut Vec<u8>,
         line: &[u8],
     ) -> Result<Option<u64>, FaultKind>
         requires { IsSoundDraft self.old }
-        ensures read { Gives (λ count. (view self.new, count)) result (line_read (view self.old) line.now) }
+        ensures read { Gives (λ count. (view self.new, count)) result (line_read heading (view self.old) line.now) }
         ensures sound { OnOk result (IsSoundDraft self.new) }
     {
-        match row_of(line, buffer) {
+        match row_of(heading, line, buffer) {
             Ok(row) => self.step(alloc, &row),
             Err(kind) => Err(kind),
         }
@@ -172,10 +173,10 @@ impl Draft {
         Ok(())
     }
 
-    /// The state, if the rows end here. The draft is of no use after it.
-    pub fn finish(&mut self, alloc: Global) -> Result<Saved, FaultKind>
+    /// The places, if the rows end here. The draft is of no use after it.
+    pub fn finish(&mut self, alloc: Global) -> Result<Places, FaultKind>
         requires { IsSoundDraft self.old }
-        ensures { Gives (λ saved. saved) result (finished (view self.old)) }
+        ensures { Gives (λ places. places) result (finished (view self.old)) }
     {
         self.close()?;
         let mut places = mem::replace(&mut self.before, Vec::new(alloc));
@@ -183,7 +184,7 @@ impl Draft {
             return Err(FaultKind::Places);
         }
         fill(&mut places)?;
-        Ok(Saved::of(places))
+        Ok(Places::of(places))
     }
 }
 

@@ -1,15 +1,14 @@
 //! Laws of states and their texts, each the contract of a function that does nothing.
-ghost use Rattle.std.specs.Prelude.{◌≡◌, List};
-ghost use Rattle.firm_saved.specs.Saved.{IsSoundSaved};
+ghost use Rattle.std.specs.Prelude.{◌≡◌};
+ghost use Rattle.firm_saved.specs.Saved.{IsSoundSaved, SavedIs};
 ghost use Rattle.firm_saved.specs.StateLaws.{AdmissionsKeepOrder, RetirementsKeepOrder, RostersGiveInOrder};
 ghost use Rattle.firm_saved.specs.StateText.{state_text};
-ghost use Rattle.firm_saved.specs.declared.saved.SavedPlace.{SavedPlace};
 
 use firm_rules::loads_are_sums_of_slots;
 
 /// A text tells its state: two sound states with one text are one.
 pub fn a_text_has_one_state()
-    ensures { (first second : List SavedPlace) → IsSoundSaved first → IsSoundSaved second
+    ensures { (first second : SavedIs) → IsSoundSaved first → IsSoundSaved second
         → state_text first ≡ state_text second → first ≡ second }
 {
     loads_are_sums_of_slots();

@@ -15,16 +15,16 @@ use firm_rules::{
     Job, LONGEST_PATIENCE, Limits, MOST_PREFERENCES, Machine, Name, Preferred, RecentCosts, Slots,
     Task, Weight,
 };
-use firm_text::number;
+use firm_text::{Heading, number};
 
 // No round costs more: 3,000,000 for each of 4,096 machines and tasks.
 const MOST_COST: u64 = 4_096 * 3_000_000;
 
-/// The row that a line is. Each row has one line: its words are read, written into the buffer, and must be the line.
-pub fn row_of(line: &[u8], buffer: &mut Vec<u8>) -> Result<Row, FaultKind>
-    ensures { Gives (λ row. row) result (row_of line.now) }
+/// The row that a line is under this heading. Each row has one line: its words are read, written into the buffer, and must be the line.
+pub fn row_of(heading: Heading, line: &[u8], buffer: &mut Vec<u8>) -> Result<Row, FaultKind>
+    ensures { Gives (λ row. row) result (row_of heading line.now) }
 {
-    let row = words_row(line)?;
+    let row = words_row(heading, line)?;
     buffer.clear();
     put_words(buffer, &row)?;
     if buffer.as_slice() != line {
@@ -33,20 +33,20 @@ pub fn row_of(line: &[u8], buffer: &mut Vec<u8>) -> Result<Row, FaultKind>
     Ok(row)
 }
 
-fn words_row(line: &[u8]) -> Result<Row, FaultKind>
-    ensures { result ≡ words_row (words_of line.now) }
+fn words_row(heading: Heading, line: &[u8]) -> Result<Row, FaultKind>
+    ensures { result ≡ words_row heading (words_of line.now) }
 {
     let (verb, behind) = cut(line, b' ');
-    verb_row(verb, behind)
+    verb_row(heading, verb, behind)
 }
 
-fn verb_row(verb: &[u8], behind: &[u8]) -> Result<Row, FaultKind>
-    ensures { result ≡ verb_row verb.now (words_behind behind.now) }
+fn verb_row(heading: Heading, verb: &[u8], behind: &[u8]) -> Result<Row, FaultKind>
+    ensures { result ≡ verb_row heading verb.now (words_behind behind.now) }
 {
     if is_word(verb, "place") {
         place_row(behind)
     } else if is_word(verb, "tenant") {
-        tenant_row(behind)
+        tenant_row(heading, behind)
     } else if is_word(verb, "costs") {
         costs_row(behind)
     } else if is_word(verb, "machine") {
@@ -69,12 +69,12 @@ fn place_row(behind: &[u8]) -> Result<Row, FaultKind>
     Ok(Row::Place(admissions))
 }
 
-fn tenant_row(behind: &[u8]) -> Result<Row, FaultKind>
-    ensures { result ≡ tenant_row (words_behind behind.now) }
+fn tenant_row(heading: Heading, behind: &[u8]) -> Result<Row, FaultKind>
+    ensures { result ≡ tenant_row heading (words_behind behind.now) }
 {
     let (word, behind) = next_word(behind)?;
     let name = name_word(word)?;
-    let (limits, behind) = match limits_at(behind) {
+    let (limits, behind) = match limits_at(heading, behind) {
         Ok(read) => read,
         Err(kind) => return Err(kind),
     };
@@ -82,9 +82,9 @@ fn tenant_row(behind: &[u8]) -> Result<Row, FaultKind>
     Ok(Row::Tenant(name, limits, given))
 }
 
-fn limits_at(behind: &[u8]) -> Result<(Limits, &[u8]), FaultKind>
-    ensures { MatchResult result (λ read. limits_at (words_behind behind.now) ≡ Ok (read.0, words_behind read.1.now))
-        (λ kind. limits_at (words_behind behind.now) ≡ Err kind) }
+fn limits_at(heading: Heading, behind: &[u8]) -> Result<(Limits, &[u8]), FaultKind>
+    ensures { MatchResult result (λ read. limits_at heading (words_behind behind.now) ≡ Ok (read.0, words_behind read.1.now))
+        (λ kind. limits_at heading (words_behind behind.now) ≡ Err kind) }
 {
     let (nodes, rest) = number_in(Ok(behind));
     let (arcs, rest) = number_in(rest);
@@ -96,7 +96,7 @@ fn limits_at(behind: &[u8]) -> Result<(Limits, &[u8]), FaultKind>
         Ok(behind) => behind,
         Err(kind) => return Err(kind),
     };
-    let (patience, behind) = match patience_at(behind) {
+    let (patience, behind) = match patience_at(heading, behind) {
         Ok(read) => read,
         Err(kind) => return Err(kind),
     };
@@ -125,15 +125,14 @@ fn number_in(read: Result<&[u8], FaultKind>) -> (u64, Result<&[u8], FaultKind>)
     }
 }
 
-// The patience, which stands only where it is not the longest, and the rest behind it.
-fn patience_at(behind: &[u8]) -> Result<(u64, &[u8]), FaultKind>
-    ensures { MatchResult result (λ read. patience_at (words_behind behind.now) ≡ Ok (read.0, words_behind read.1.now))
-        (λ kind. patience_at (words_behind behind.now) ≡ Err kind) }
+// The patience, which stands only where it is not the longest and the heading is extended, and the rest behind it.
+fn patience_at(heading: Heading, behind: &[u8]) -> Result<(u64, &[u8]), FaultKind>
+    ensures { MatchResult result (λ read. patience_at heading (words_behind behind.now) ≡ Ok (read.0, words_behind read.1.now))
+        (λ kind. patience_at heading (words_behind behind.now) ≡ Err kind) }
 {
-    if names_patience(behind) {
-        labelled_at(behind)
-    } else {
-        Ok((LONGEST_PATIENCE, behind))
+    match heading {
+        Heading::Extended if names_patience(behind) => labelled_at(behind),
+        _ => Ok((LONGEST_PATIENCE, behind)),
     }
 }
 

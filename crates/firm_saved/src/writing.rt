@@ -9,29 +9,38 @@ ghost use Rattle.firm_rules.specs.declared.book.Job.{Job as JobRow};
 ghost use Rattle.firm_rules.specs.declared.book.Task.{Task as TaskRow};
 ghost use Rattle.firm_text.specs.Replies.{labelled, spaced};
 ghost use Rattle.firm_saved.specs.declared.rows.Row.TheVariants as row;
-ghost use Rattle.firm_saved.specs.StateText.{words_text, row_words, row_text, heading, limits_words, standing_words};
+ghost use Rattle.firm_saved.specs.StateText.{words_text, row_words, row_text, first_line, limits_words, standing_words};
 ghost use Rattle.firm_saved.specs.StateText.{patience_words};
 ghost use Rattle.firm_text.specs.Rosters.{most_places};
 ghost use Rattle.firm_text.specs.Registers.{IsRegister};
-ghost use Rattle.firm_saved.specs.Saved.{AreGivenInOrder, IsSoundPlace, IsSoundSaved, register_of};
+ghost use Rattle.firm_saved.specs.Saved.{AreGivenInOrder, AreSoundSaved, IsSoundPlace, register_of};
 ghost use Rattle.firm_saved.specs.StateText.{preference_words, book_rows, given_places, place_rows, state_text};
 ghost use Rattle.firm_saved.specs.declared.saved.SavedPlace.{SavedPlace as PlaceRow};
 
 use crate::rows::Row;
 use crate::saved::{Saved, SavedPlace};
 use firm_rules::{Job, LONGEST_PATIENCE, Limits, Machine, Name, RecentCosts, Rows, Task};
-use firm_text::Entry;
+use firm_text::{Entry, Heading};
 use itoa::Buffer;
 use std::alloc::AllocError;
 
-/// Adds the first line of a state's text. Where memory runs out, some bytes may have been added, here and below.
+/// Adds the first line of the text of a state with this heading. Where memory runs out, some bytes may have been added, here and below.
 #[tactic(auto, using(crate::proofs::Puts::kept_trans))]
-pub fn put_heading(output: &mut Vec<u8>) -> Result<(), AllocError>
+pub fn put_heading(output: &mut Vec<u8>, heading: Heading) -> Result<(), AllocError>
     ensures kept { StartsWith output.new.items output.old.items }
-    ensures added { OnOk result (output.new.items ≡ output.old.items ++ heading ++ 10 ∷ []) }
+    ensures added { OnOk result (output.new.items ≡ output.old.items ++ first_line heading ++ 10 ∷ []) }
 {
-    output.extend_from_slice(b"firm state 1")?;
+    output.extend_from_slice(first_line(heading))?;
     end_line(output)
+}
+
+fn first_line(heading: Heading) -> &'static [u8]
+    ensures { result.now ≡ first_line heading }
+{
+    match heading {
+        Heading::Plain => b"firm state 1",
+        Heading::Extended => b"firm state 1 extended",
+    }
 }
 
 /// Adds the text of a state.
@@ -40,7 +49,7 @@ pub fn put_state(output: &mut Vec<u8>, saved: &Saved) -> Result<(), AllocError>
     ensures kept { StartsWith output.new.items output.old.items }
     ensures added { OnOk result (output.new.items ≡ output.old.items ++ state_text saved.now) }
 {
-    put_heading(output)?;
+    put_heading(output, saved.heading())?;
     let count = put_places(output, given_places(saved.places()))?;
     put_row(output, &Row::Rows(count))
 }
@@ -101,7 +110,7 @@ pub fn given_count(entries: &[Entry]) -> usize
         → given_places places ≡ take result places }
     ensures few { result ≤ length entries.now }
     ensures sound { (places : List PlaceRow) → register_of places ≡ entries.now → IsRegister entries.now
-        → AreGivenInOrder entries.now → All IsSoundPlace (take result places) → IsSoundSaved places }
+        → AreGivenInOrder entries.now → All IsSoundPlace (take result places) → AreSoundSaved places }
 {
     let mut rest = entries;
     while let [front @ .., last] = rest {

@@ -3,12 +3,12 @@ use Rattle.std.proofs.Common.{◌≡◌, ◌∙◌, ap, ℕ, List, Vec, Global, 
 use Rattle.std.specs.Prelude.{Bool, Option, MatchResult, Result, Ok, Err}
 use Rattle.std.specs.Borrow.{Bor}
 use Rattle.std.specs.Io.KnownBytes.{Consumes}
-use Rattle.firm_text.specs.Rosters.{RosterRow, roster_of}
-use Rattle.firm_saved.specs.Saved.{IsSoundSaved}
+use Rattle.firm_text.specs.Rosters.{RosterIs, roster_of}
+use Rattle.firm_saved.specs.Saved.{IsSoundSaved, SavedIs, saved_with}
 use Rattle.firm_saved.specs.StateText.{state_text}
-use Rattle.firm_saved.specs.declared.saved.SavedPlace.{SavedPlace}
 use Rattle.firm_table.specs.Ends.{ServedTo, tenants_state}
-use Rattle.firm_table.specs.Places.{MarkedLine, Place, after_lines, opening_places, restored_places, saved_after}
+use Rattle.firm_table.specs.Opened.{Opened, opened_roster, opened_state, state_after}
+use Rattle.firm_table.specs.Places.{MarkedLine}
 use Rattle.firm_table.specs.Service.{Device, StoppedFrom, device}
 use Rattle.firm_table.specs.Tenants.{TenantsState}
 use Rattle.firm_table.specs.declared.faults.ServeFault.{ServeFault}
@@ -26,9 +26,9 @@ use Rattle.firm_state.specs.Program.{NoText, NotChanged, NotOpened, Stopped}
 use Rattle.firm_state.specs.Program.{StopsReading, StopsState, TellsState, Unwritten, WritesState, Wrote}
 
 -- a service that wrote its replies nowhere stopped
-pub stops_reading : (places : List Place) (reader : Device) (before after : Option (List ℕ)) (cause : ServeFault)
-    → StoppedFrom places most_input reader (device before after false) cause → StopsReading reader (Service cause)
-stops_reading places reader before after cause stopped = record {
+pub stops_reading : (opened : Opened) (reader : Device) (before after : Option (List ℕ)) (cause : ServeFault)
+    → StoppedFrom opened most_input reader (device before after false) cause → StopsReading reader (Service cause)
+stops_reading opened reader before after cause stopped = record {
   cause = cause;
   is = refl;
   answered = stopped.answered;
@@ -39,9 +39,9 @@ stops_reading places reader before after cause stopped = record {
 }
 
 -- memory was refused once all was read
-pub lacks_memory : (places : List Place) (reader : Device) (saved : List SavedPlace) → Folds places reader saved
+pub lacks_memory : (opened : Opened) (reader : Device) (saved : SavedIs) → Folds opened reader saved
     → StopsReading reader (Service Memory)
-lacks_memory places reader saved folds = record {
+lacks_memory opened reader saved folds = record {
   cause = Memory;
   is = refl;
   answered = folds.input;
@@ -52,34 +52,34 @@ lacks_memory places reader saved folds = record {
 }
 
 -- what becomes of a service that opened with a file
-folds_or_stops : (named : Named) (reader : Device) (places : List Place) → Opens named places
+folds_or_stops : (named : Named) (reader : Device) (opened : Opened) → Opens named opened
     → (result : Result (Vec ℕ Global) Fault)
-    → MatchResult result (λ text. FoldsTo places reader text.items) (StopsReading reader)
+    → MatchResult result (λ text. FoldsTo opened reader text.items) (StopsReading reader)
     → MatchResult result (λ text. FoldsText named reader text.items) (NoFold named reader)
-folds_or_stops named reader places opens (Ok text) to = record {
+folds_or_stops named reader opened opens (Ok text) to = record {
   saved = to.saved;
-  file = record { places = places; opens = opens; folds = to.folds; sound = to.sound };
+  file = record { opened = opened; opens = opens; folds = to.folds; sound = to.sound };
   is = to.is;
 }
-folds_or_stops named reader places opens (Err fault) stopped =
-    Stopped (record { places = places; opens = opens; stopped = stopped })
+folds_or_stops named reader opened opens (Err fault) stopped =
+    Stopped (record { opened = opened; opens = opens; stopped = stopped })
 
 -- with a roster, and with a state
-pub from_roster : (path : Bor (List ℕ)) (reader : Device) (text : List ℕ) (roster : List RosterRow)
+pub from_roster : (path : Bor (List ℕ)) (reader : Device) (text : List ℕ) (roster : RosterIs)
     → roster_of text ≡ Ok roster
     → (result : Result (Vec ℕ Global) Fault)
-    → MatchResult result (λ text. FoldsTo (opening_places roster) reader text.items) (StopsReading reader)
+    → MatchResult result (λ text. FoldsTo (opened_roster roster) reader text.items) (StopsReading reader)
     → MatchResult result (λ text. FoldsText (Roster path) reader text.items) (NoFold (Roster path) reader)
 from_roster path reader text roster judged result to =
-    folds_or_stops (Roster path) reader (opening_places roster)
+    folds_or_stops (Roster path) reader (opened_roster roster)
     (opens_roster path text roster judged) result to
 
-pub from_state : (path : Bor (List ℕ)) (reader : Device) (saved : List SavedPlace) → IsSoundSaved saved
+pub from_state : (path : Bor (List ℕ)) (reader : Device) (saved : SavedIs) → IsSoundSaved saved
     → (result : Result (Vec ℕ Global) Fault)
-    → MatchResult result (λ text. FoldsTo (restored_places saved) reader text.items) (StopsReading reader)
+    → MatchResult result (λ text. FoldsTo (opened_state saved) reader text.items) (StopsReading reader)
     → MatchResult result (λ text. FoldsText (State path) reader text.items) (NoFold (State path) reader)
 from_state path reader saved sound result to =
-    folds_or_stops (State path) reader (restored_places saved)
+    folds_or_stops (State path) reader (opened_state saved)
     (opens_state path saved sound) result to
 
 module _ (path : Bor (List ℕ)) (left : Option (List ℕ)) (failed : Bool) (reads : failed ≡ false) (fault : Fault) where
@@ -93,7 +93,7 @@ module _ (path : Bor (List ℕ)) (left : Option (List ℕ)) (failed : Bool) (rea
 -- the state after the lines is not changed as asked
 pub stops_changing : (asked : Asked) (reader : Device) (text : List ℕ) (fault : Fault)
     → FoldsText asked.opening reader text
-    → ((saved : List SavedPlace) → IsSoundSaved saved → text ≡ state_text saved
+    → ((saved : SavedIs) → IsSoundSaved saved → text ≡ state_text saved
     → NoChange asked.names asked.others saved fault)
     → NoText asked reader fault
 stops_changing asked reader text fault folded change = NotChanged (record {
@@ -118,14 +118,15 @@ stops_unwritten asked reader fault written failed writes none =
     Unwritten (record { unwritten = refl; writes = writes }) none
 
 -- what a service that came to the end says of the state after it
-pub folds_served : (places : List Place) (reader writer : Device) (after : TenantsState)
-    → ServedTo places most_input reader writer after → Folds places reader (tenants_state after)
-folds_served places reader writer after ended = record {
+pub folds_served : (opened : Opened) (reader writer : Device) (after : TenantsState)
+    → ServedTo opened most_input reader writer after
+    → Folds opened reader (saved_with opened.heading (tenants_state after))
+folds_served opened reader writer after ended = record {
   input = ended.served.input;
   read = ended.served.read;
   at_end = ended.served.at_end;
   within = ended.served.within;
   reads = ended.served.reads;
-  state = ended.state
-      ∙ ap (λ (lines : List MarkedLine). saved_after (after_lines places lines)) ended.granted;
+  state = ap (saved_with opened.heading) ended.state
+      ∙ ap (λ (lines : List MarkedLine). state_after opened lines) ended.granted;
 }

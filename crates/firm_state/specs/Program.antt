@@ -5,13 +5,12 @@ use Rattle.std.specs.Io.KnownBytes.{Appends, Consumes, IsAtEnd}
 use Rattle.firm_text.specs.Commands.{◌>>=◌}
 use Rattle.firm_text.specs.Inputs.{input_lines}
 use Rattle.firm_text.specs.declared.operator.OperatorRefusal.TheVariants.{NoSuchTenant}
-use Rattle.firm_parts.specs.Parts.{book_in, cut_to, joined}
+use Rattle.firm_parts.specs.Parts.{book_in, cut_state, joined_state}
 use Rattle.firm_parts.specs.declared.joining.JoinFault.{JoinFault}
-use Rattle.firm_saved.specs.Saved.{IsSoundSaved}
+use Rattle.firm_saved.specs.Saved.{IsSoundSaved, SavedIs}
 use Rattle.firm_saved.specs.StateText.{state_text}
-use Rattle.firm_saved.specs.declared.saved.SavedPlace.{SavedPlace}
 use Rattle.firm_table.specs.Output.{unmarked}
-use Rattle.firm_table.specs.Places.{Place, after_lines, saved_after}
+use Rattle.firm_table.specs.Opened.{Opened, state_after}
 use Rattle.firm_table.specs.Service.{AreWholeLines, Device, IsCause}
 use Rattle.firm_table.specs.declared.faults.ServeFault.{ServeFault}
 use Rattle.firm_table.specs.declared.faults.ServeFault.TheVariants.{Memory, Write}
@@ -25,31 +24,31 @@ use Rattle.firm_program.specs.declared.words.Named.{Named}
 use Rattle.firm_state.specs.CommandLine.{AskAmiss, AskFor, Asked, faults_in}
 
 -- everything left to read was read, and this is the state after its lines, memory being refused to none of them
-pub record Folds (places : List Place) (reader : Device) (saved : List SavedPlace) : Type 0 where
+pub record Folds (opened : Opened) (reader : Device) (saved : SavedIs) : Type 0 where
   pub input : List ℕ
   pub read : Consumes reader.before reader.after input
   pub at_end : IsAtEnd reader.after
   pub within : length input ≤ most_input
   pub reads : reader.failed ≡ false
-  pub state : saved ≡ saved_after (after_lines places (map unmarked (input_lines input)))
+  pub state : saved ≡ state_after opened (map unmarked (input_lines opened.heading input))
 
 -- and this is its text
-pub record FoldsTo (places : List Place) (reader : Device) (text : List ℕ) : Type 0 where
-  pub saved : List SavedPlace
+pub record FoldsTo (opened : Opened) (reader : Device) (text : List ℕ) : Type 0 where
+  pub saved : SavedIs
   pub sound : IsSoundSaved saved
-  pub folds : Folds places reader saved
+  pub folds : Folds opened reader saved
   pub is : text ≡ state_text saved
 
 -- a service opened with the file that is named, and came to the end of the input in this state
-pub record FoldsFile (named : Named) (reader : Device) (saved : List SavedPlace) : Type 0 where
-  pub places : List Place
-  pub opens : Opens named places
-  pub folds : Folds places reader saved
+pub record FoldsFile (named : Named) (reader : Device) (saved : SavedIs) : Type 0 where
+  pub opened : Opened
+  pub opens : Opens named opened
+  pub folds : Folds opened reader saved
   pub sound : IsSoundSaved saved
 
 -- and this is its text
 pub record FoldsText (named : Named) (reader : Device) (text : List ℕ) : Type 0 where
-  pub saved : List SavedPlace
+  pub saved : SavedIs
   pub file : FoldsFile named reader saved
   pub is : text ≡ state_text saved
 
@@ -65,8 +64,8 @@ pub record StopsReading (reader : Device) (fault : Fault) : Type 0 where
 
 -- a service opened with the file that is named, and stopped
 pub record StopsService (named : Named) (reader : Device) (fault : Fault) : Type 0 where
-  pub places : List Place
-  pub opens : Opens named places
+  pub opened : Opened
+  pub opens : Opens named opened
   pub stopped : StopsReading reader fault
 
 -- why there is no state after the lines: the file is refused, and nothing was read; or the service stopped
@@ -75,96 +74,96 @@ pub data NoFold (named : Named) (reader : Device) (fault : Fault) : Type 0 where
   Stopped : StopsService named reader fault → NoFold named reader fault
 
 -- the state to which these are joined, one after the other
-abbrev pub all_joined : List SavedPlace → List (List SavedPlace) → Result (List SavedPlace) JoinFault
+abbrev pub all_joined : SavedIs → List SavedIs → Result SavedIs JoinFault
 all_joined saved [] = Ok saved
-all_joined saved (other ∷ rest) = joined saved other >>= λ more. all_joined more rest
+all_joined saved (other ∷ rest) = joined_state saved other >>= λ more. all_joined more rest
 
 -- the state with the tenants of these names alone, or with all where no name is given
-abbrev pub kept : List (List ℕ) → List SavedPlace → List SavedPlace
+abbrev pub kept : List (List ℕ) → SavedIs → SavedIs
 kept [] saved = saved
-kept (name ∷ rest) saved = cut_to (name ∷ rest) saved
+kept (name ∷ rest) saved = cut_state (name ∷ rest) saved
 
 -- others, this many, were joined to a state, which became the other
-pub record JoinsAll (count : ℕ) (saved both : List SavedPlace) : Type 0 where
-  pub others : List (List SavedPlace)
+pub record JoinsAll (count : ℕ) (saved both : SavedIs) : Type 0 where
+  pub others : List SavedIs
   pub as_many : length others ≡ count
   pub sound : All IsSoundSaved others
-  pub whole : all_joined saved others ≡ Ok both
+  pub whole : all_joined_state saved others ≡ Ok both
 
 -- a tenant of a sound state finds no place in this one: the first that doesn't, and why
-pub record NotJoined (before : List SavedPlace) (fault : Fault) : Type 0 where
-  pub other : List SavedPlace
+pub record NotJoined (before : SavedIs) (fault : Fault) : Type 0 where
+  pub other : SavedIs
   pub sound : IsSoundSaved other
   pub first : JoinFault
-  pub refused : joined before other ≡ Err first
+  pub refused : joined_state before other ≡ Err first
   pub is : fault ≡ Tenant first.tenant first.refusal
 
 -- why a state is not joined to this one: its file is refused, or a tenant finds no place
-pub data RefusesOther (before : List SavedPlace) (fault : Fault) : Type 0 where
+pub data RefusesOther (before : SavedIs) (fault : Fault) : Type 0 where
   NotRead : RefusesState fault → RefusesOther before fault
   NoPlace : NotJoined before fault → RefusesOther before fault
 
 -- of the states to join, this many, some were joined, and the next is refused
-pub record StopsJoining (count : ℕ) (saved : List SavedPlace) (fault : Fault) : Type 0 where
+pub record StopsJoining (count : ℕ) (saved : SavedIs) (fault : Fault) : Type 0 where
   pub so_far : ℕ
   pub fewer : so_far < count
-  pub before : List SavedPlace
+  pub before : SavedIs
   pub joins : JoinsAll so_far saved before
   pub next : RefusesOther before fault
 
 -- a state was cut to the tenants of these names, if there are names: each of them is there
-pub record CutsTo (names : List (List ℕ)) (both after : List SavedPlace) : Type 0 where
-  pub there : All (λ name. is_some (book_in both name) ≡ true) names
+pub record CutsTo (names : List (List ℕ)) (both after : SavedIs) : Type 0 where
+  pub there : All (λ name. is_some (book_in both.places name) ≡ true) names
   pub cut : after ≡ kept names both
 
 -- this is the first of the names that no tenant of the state has
-pub record IsMissing (names : List (List ℕ)) (both : List SavedPlace) (name : List ℕ) : Type 0 where
+pub record IsMissing (names : List (List ℕ)) (both : SavedIs) (name : List ℕ) : Type 0 where
   pub at : ℕ
   pub within : at < length names
   pub found : get_or names at name ≡ name
-  pub before : All (λ name. is_some (book_in both name) ≡ true) (take at names)
-  pub gone : is_some (book_in both name) ≡ false
+  pub before : All (λ name. is_some (book_in both.places name) ≡ true) (take at names)
+  pub gone : is_some (book_in both.places name) ≡ false
 
 -- it can't be cut, since no tenant has that name
-pub record StopsCutting (names : List (List ℕ)) (both : List SavedPlace) (fault : Fault) : Type 0 where
+pub record StopsCutting (names : List (List ℕ)) (both : SavedIs) (fault : Fault) : Type 0 where
   pub name : List ℕ
   pub missing : IsMissing names both name
   pub is : fault ≡ Tenant name NoSuchTenant
 
 -- a state has become this once others, this many, were joined to it, and it was cut to the tenants of these names
-pub record Changed (names : List (List ℕ)) (count : ℕ) (saved after : List SavedPlace) : Type 0 where
-  pub both : List SavedPlace
+pub record Changed (names : List (List ℕ)) (count : ℕ) (saved after : SavedIs) : Type 0 where
+  pub both : SavedIs
   pub joins : JoinsAll count saved both
   pub cuts : CutsTo names both after
 
 -- it is sound, and this is its text
-pub record ChangesText (names : List (List ℕ)) (count : ℕ) (saved : List SavedPlace) (text : List ℕ) : Type 0 where
-  pub after : List SavedPlace
+pub record ChangesText (names : List (List ℕ)) (count : ℕ) (saved : SavedIs) (text : List ℕ) : Type 0 where
+  pub after : SavedIs
   pub changed : Changed names count saved after
   pub sound : IsSoundSaved after
   pub is : text ≡ state_text after
 
 -- a name is missing once all others are joined
-pub record StopsMissing (names : List (List ℕ)) (count : ℕ) (saved : List SavedPlace) (fault : Fault) : Type 0 where
-  pub both : List SavedPlace
+pub record StopsMissing (names : List (List ℕ)) (count : ℕ) (saved : SavedIs) (fault : Fault) : Type 0 where
+  pub both : SavedIs
   pub joins : JoinsAll count saved both
   pub cutting : StopsCutting names both fault
 
 -- why a state is not changed so: another is not joined to it, a name is missing, or memory was refused
-pub data NoChange (names : List (List ℕ)) (count : ℕ) (saved : List SavedPlace) (fault : Fault) : Type 0 where
+pub data NoChange (names : List (List ℕ)) (count : ℕ) (saved : SavedIs) (fault : Fault) : Type 0 where
   NotAllJoined : StopsJoining count saved fault → NoChange names count saved fault
   NotThere : StopsMissing names count saved fault → NoChange names count saved fault
   NoMemoryToChange : fault ≡ Service Memory → NoChange names count saved fault
 
 -- all was read, and this is the text of the state after it, changed as asked
 pub record TellsState (asked : Asked) (reader : Device) (text : List ℕ) : Type 0 where
-  pub saved : List SavedPlace
+  pub saved : SavedIs
   pub file : FoldsFile asked.opening reader saved
   pub changed : ChangesText asked.names asked.others saved text
 
 -- all was read, and the state after it is not changed so
 pub record StopsChanging (asked : Asked) (reader : Device) (fault : Fault) : Type 0 where
-  pub saved : List SavedPlace
+  pub saved : SavedIs
   pub file : FoldsFile asked.opening reader saved
   pub unchanged : NoChange asked.names asked.others saved fault
 

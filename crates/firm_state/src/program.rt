@@ -1,10 +1,9 @@
 //! The program, over any reader and writers.
 
-ghost use Rattle.std.specs.Prelude.{◌≡◌, List, false, length, map, MatchResult};
-ghost use Rattle.firm_saved.specs.Saved.{IsSoundSaved};
+ghost use Rattle.std.specs.Prelude.{◌≡◌, false, length, map, MatchResult};
+ghost use Rattle.firm_saved.specs.Saved.{IsSoundSaved, SavedIs};
 ghost use Rattle.firm_saved.specs.StateText.{state_text};
-ghost use Rattle.firm_saved.specs.declared.saved.SavedPlace.{SavedPlace};
-ghost use Rattle.firm_table.specs.Openings.{places_opened};
+ghost use Rattle.firm_table.specs.Openings.{opened};
 ghost use Rattle.firm_table.specs.Service.{device};
 ghost use Rattle.firm_state.specs.Program.{CannotWrite, ChangesText, Exits, FoldsText, FoldsTo, NoChange, NoFold};
 ghost use Rattle.firm_state.specs.Program.{NoText, StopsReading, StopsState, TellsState, WritesState, Wrote};
@@ -150,7 +149,7 @@ fn text_after<R: Files, I: Source>(
 fn fold<I: Source>(alloc: Global, opening: Opening<'_>, reader: &mut I) -> Result<Vec<u8>, Fault>
     requires { I.read_failed reader.old ≡ false }
     ensures { MatchResult result
-        (λ text. FoldsTo (places_opened opening.entry)
+        (λ text. FoldsTo (opened opening.entry)
         (device (I.left reader.old) (I.left reader.new) (I.read_failed reader.new)) text.items)
         (StopsReading (device (I.left reader.old) (I.left reader.new) (I.read_failed reader.new))) }
 {
@@ -159,7 +158,7 @@ fn fold<I: Source>(alloc: Global, opening: Opening<'_>, reader: &mut I) -> Resul
         Err(fault) => return Err(Fault::Service(fault)),
     };
     let mut text = Vec::new(alloc);
-    match tenants.put_state(&mut text) {
+    match tenants.put_state(&mut text, opening.heading()) {
         Ok(()) => Ok(text),
         Err(_) => Err(Fault::Service(ServeFault::Memory)),
     }
@@ -173,9 +172,9 @@ fn change<R: Files>(
     text: &mut Vec<u8>,
 ) -> Result<(), Fault>
     ensures { MatchResult result
-        (λ _. (saved : List SavedPlace) → IsSoundSaved saved → text.old.items ≡ state_text saved
+        (λ _. (saved : SavedIs) → IsSoundSaved saved → text.old.items ≡ state_text saved
         → ChangesText request.now.names.items (length request.now.others.items) saved text.new.items)
-        (λ fault. (saved : List SavedPlace) → IsSoundSaved saved → text.old.items ≡ state_text saved
+        (λ fault. (saved : SavedIs) → IsSoundSaved saved → text.old.items ≡ state_text saved
         → NoChange request.now.names.items (length request.now.others.items) saved fault) }
 {
     let alone = Saved::read(alloc, text)?;

@@ -47,7 +47,7 @@ pub(crate) fn cut(saved: Saved, names: &[Name]) -> Result<Saved, Fault>
 
 // The first of these names that no tenant has.
 fn missing(saved: &Saved, names: &[Name]) -> Option<Name>
-    ensures none { IfNone result (All (λ name. is_some (book_in saved.now name) ≡ true) names.now) }
+    ensures none { IfNone result (All (λ name. is_some (book_in saved.now.places name) ≡ true) names.now) }
     ensures some { IfSome result (IsMissing names.now saved.now) }
 {
     for name in names {

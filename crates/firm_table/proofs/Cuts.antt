@@ -23,6 +23,7 @@ use Rattle.firm_table.specs.Answers.{reply_answer, answer_to_command, answer_of}
 use Rattle.firm_table.specs.declared.answers.LineAnswer.{LineAnswer}
 use Rattle.firm_table.specs.declared.answers.LineAnswer.TheVariants.{ToOperator}
 use Rattle.firm_table.specs.Output.{answers_from}
+use Rattle.firm_saved.specs.Saved.{saved_with}
 use Rattle.firm_table.specs.Cutting.{SavedIsKept, AnswersGoOnFrom, StatesGoOnFrom}
 use Rattle.firm_table.proofs.Alones.{book_of-more, last_reply-more}
 use Rattle.firm_table.proofs.Stays.{after_lines-append, answers_from-append}
@@ -43,13 +44,13 @@ saved_again : (tenant : Option (List ℕ × Book))
 saved_again None = refl
 saved_again (Some (name, book)) = refl
 
-pub saved_is_kept : SavedIsKept
-saved_is_kept [] = refl
-saved_is_kept (place ∷ rest) =
+places_kept : (saved : List SavedPlace) → saved_after (restored_places saved) ≡ saved
+places_kept [] = refl
+places_kept (place ∷ rest) =
     ap (λ (tenant : Option (List ℕ × Book)). let first : SavedPlace =
     record { admissions = place.admissions; tenant = tenant } in first ∷ saved_after (restored_places rest))
     (saved_again place.tenant)
-    ∙ ap (λ (saved : List SavedPlace). place ∷ saved) (saved_is_kept rest)
+    ∙ ap (λ (saved : List SavedPlace). place ∷ saved) (places_kept rest)
 
 -- the register is the same
 named_again : (stay : Option Stay)
@@ -180,7 +181,7 @@ entered_again at name limits places =
     ap (λ (p : Place). p.admissions) (get_or-map restored_place (saved_after places) at untouched)
     ∙ ap (λ (s : SavedPlace). s.admissions) (get_or-map saved_place places at unused_place) in
     map-set saved_place (again places) at (new before)
-    ∙ ap (λ (saved : List SavedPlace). set saved at (saved_place (new before))) (saved_is_kept (saved_after places))
+    ∙ ap (λ (saved : List SavedPlace). set saved at (saved_place (new before))) (places_kept (saved_after places))
     ∙ ap (λ (n : ℕ). set (saved_after places) at (saved_place (new n))) same
     ∙ sym (map-set saved_place places at (new now))
 
@@ -188,21 +189,21 @@ admitted_again : (places : List Place) (name : List ℕ) (limits : TenantLimits)
     (mark : Bool)
     → saved_after (admission (again places) name limits found mark).1
     ≡ saved_after (admission places name limits found mark).1
-admitted_again places name limits (Err refusal) mark = saved_is_kept (saved_after places)
-admitted_again places name limits (Ok at) true = saved_is_kept (saved_after places)
+admitted_again places name limits (Err refusal) mark = places_kept (saved_after places)
+admitted_again places name limits (Ok at) true = places_kept (saved_after places)
 admitted_again places name limits (Ok at) false = entered_again at name limits places
 
 retired_again : (places : List Place) (name : List ℕ) (stay : Option Stay)
     → saved_after (retirement (again places) name (stay_again stay)).1
     ≡ saved_after (retirement places name stay).1
-retired_again places name None = saved_is_kept (saved_after places)
+retired_again places name None = places_kept (saved_after places)
 retired_again places name (Some stay) = mapped_again (left_by name) (left_again name) places
 
 state_again : (places : List Place) (given : MarkedLine)
     → saved_after (after_line (again places) given) ≡ saved_after (after_line places given)
-state_again places (Nothing, mark) = saved_is_kept (saved_after places)
-state_again places (Long, mark) = saved_is_kept (saved_after places)
-state_again places (Nameless, mark) = saved_is_kept (saved_after places)
+state_again places (Nothing, mark) = places_kept (saved_after places)
+state_again places (Long, mark) = places_kept (saved_after places)
+state_again places (Nameless, mark) = places_kept (saved_after places)
 state_again places (For name command, mark) =
     mapped_again (commanded name (command, mark)) (commanded_again name (command, mark)) places
 state_again places (Operator (Admit name limits), mark) =
@@ -212,7 +213,7 @@ state_again places (Operator (Admit name limits), mark) =
 state_again places (Operator (Retire name), mark) =
     ap (λ (stay : Option Stay). saved_after (retirement (again places) name stay).1) (stay_of-again places name)
     ∙ retired_again places name (stay_of places name)
-state_again places (Operator (Faulty refusal), mark) = saved_is_kept (saved_after places)
+state_again places (Operator (Faulty refusal), mark) = places_kept (saved_after places)
 
 -- and so line by line
 answers_again : (places : List Place) (lines : List MarkedLine)
@@ -228,7 +229,7 @@ answers_again places (given ∷ rest) =
 
 states_again : (places : List Place) (lines : List MarkedLine)
     → saved_after (after_lines (again places) lines) ≡ saved_after (after_lines places lines)
-states_again places [] = saved_is_kept (saved_after places)
+states_again places [] = places_kept (saved_after places)
 states_again places (given ∷ rest) =
     sym (states_again (after_line (again places) given) rest)
     ∙ ap (λ (saved : List SavedPlace). saved_after (after_lines (restored_places saved) rest))
@@ -244,3 +245,6 @@ answers_go_on_from places lines more =
 pub states_go_on_from : StatesGoOnFrom
 states_go_on_from places lines more =
     ap saved_after (after_lines-append places lines more) ∙ sym (states_again (after_lines places lines) more)
+
+pub saved_is_kept : SavedIsKept
+saved_is_kept saved = ap (saved_with saved.heading) (places_kept saved.places)

@@ -7,6 +7,7 @@ use Rattle.firm_rules.specs.Book.{Book}
 use Rattle.firm_text.specs.declared.registers.Entry.{Entry}
 use Rattle.firm_saved.specs.declared.saved.SavedPlace.{SavedPlace}
 use Rattle.firm_table.specs.Places.{Stay, Place, book_of, saved_place, saved_after, register_of, after_lines}
+use Rattle.firm_table.specs.Opened.{Opened}
 use Rattle.firm_table.specs.Output.{output_from}
 use Rattle.firm_table.specs.Service.{Device, ServedFrom}
 use Rattle.firm_table.specs.Telling.{ToldToTheEnd}
@@ -36,8 +37,8 @@ ends_with : (granted : Bool) (state : State) (most : ℕ) (reader writer : Devic
     → ServedTo state.opening most reader writer after
 ends_with granted state most reader writer after all is none end served =
     let t = end.told.told.told in
-    let places : List Place = after_lines state.opening t.lines in
-    let whole : t.sent ≡ output_from state.opening t.lines =
+    let places : List Place = after_lines state.opening.places t.lines in
+    let whole : t.sent ≡ output_from state.opening.places t.lines =
     sym (append-nil t.sent) ∙ ap (λ (l : List ℕ). t.sent ++ l) (sym none) ∙ t.whole in
     record {
       served = record {
@@ -48,7 +49,7 @@ ends_with granted state most reader writer after all is none end served =
         answers = record {
           lines = t.lines;
           are_lines = t.are_lines;
-          wrote = Appends-kept writer.before end.told.until writer.after (output_from state.opening t.lines)
+          wrote = Appends-kept writer.before end.told.until writer.after (output_from state.opening.places t.lines)
               (subst (Appends writer.before end.told.until) whole t.wrote) end.told.kept;
         };
         reads = served.reads;
@@ -62,13 +63,13 @@ ends_with granted state most reader writer after all is none end served =
           ∙ state_at places;
     }
 
--- the same of the places that a body knows to be these
-pub served_to : (opening : List Place) (granted : Bool) (state : State) (most : ℕ) (reader writer : Device)
+-- the same of an opening that a body knows to be this
+pub served_to : (opening : Opened) (granted : Bool) (state : State) (most : ℕ) (reader writer : Device)
     (after : TenantsState)
     → state.opening ≡ opening → granted ≡ true → after ≡ state.tenants → state.pending ≡ []
     → ToldToTheEnd (ToldAs granted state) most reader writer → ServedFrom opening most reader writer
     → ServedTo opening most reader writer after
 served_to opening granted state most reader writer after same all is none end served =
-    subst (λ (places : List Place). ServedTo places most reader writer after) same
+    subst (λ (o : Opened). ServedTo o most reader writer after) same
     (ends_with granted state most reader writer after all is none end
-    (subst (λ (places : List Place). ServedFrom places most reader writer) (sym same) served))
+    (subst (λ (o : Opened). ServedFrom o most reader writer) (sym same) served))

@@ -1,13 +1,15 @@
 -- The answers, computed at worked examples.
 use Rattle.std.proofs.Common.{◌≡◌, ℕ, ◌+◌, true, false, List, [], ◌∷◌, ◌++◌, refl, codes}
 use Rattle.std.specs.Prelude.{◌/◌, ◌%◌, map, pos}
+use Rattle.std.specs.Fmt.{digits}
 use Rattle.std.specs.List.{flat_map, range_with_len}
 use Rattle.firm_rules.specs.declared.commands.Command.TheVariants.{Show, Round}
 use Rattle.firm_rules.specs.declared.replies.Outcome.{Outcome}
 use Rattle.firm_rules.specs.declared.replies.Outcome.TheVariants.{Plain, Shown, Refused, Round as Placed}
 use Rattle.firm_rules.specs.declared.replies.Refusal.TheVariants.{Memory}
-use Rattle.firm_text.specs.Rosters.{RosterRow}
+use Rattle.firm_text.specs.Rosters.{RosterRow, roster_with}
 use Rattle.firm_text.specs.Inputs.{input_lines, line_of}
+use Rattle.firm_text.specs.declared.headings.Heading.TheVariants.{Plain, Extended}
 use Rattle.firm_text.specs.declared.operator.OperatorRefusal.TheVariants.{BadCommand, BadRow, BadName, BadNumber}
 use Rattle.firm_text.specs.declared.operator.OperatorRefusal.TheVariants.{TenantExists, NoSuchTenant, Full}
 use Rattle.firm_text.specs.declared.operator.OperatorRefusal.TheVariants.{Memory as NoMemory}
@@ -17,7 +19,9 @@ use Rattle.firm_table.specs.Answers.{ended}
 use Rattle.firm_table.specs.declared.answers.LineAnswer.{LineAnswer}
 use Rattle.firm_table.specs.declared.answers.LineAnswer.TheVariants.{UnknownTenant, Replied, ToOperator}
 use Rattle.firm_table.specs.Isolation.{BeginsStay, commands_to}
-use Rattle.firm_table.specs.Output.{answers_of, unmarked}
+use Rattle.firm_table.specs.Output.{answers_of, output, unmarked}
+use Rattle.firm_table.specs.Opened.{opened_roster, opened_state, state_after}
+use Rattle.firm_table.specs.Output.{granted_output}
 use Rattle.firm_table.specs.Places.{MarkedLine}
 
 abbrev tenant : List ℕ → ℕ → ℕ → ℕ → RosterRow
@@ -29,7 +33,7 @@ says name number outcome = Replied name (record { number = number; outcome = out
 
 -- these lines, to none of which memory is refused
 abbrev lines_of : List (List ℕ) → List MarkedLine
-lines_of lines = map unmarked (input_lines (flat_map ended lines))
+lines_of lines = map unmarked (input_lines Plain (flat_map ended lines))
 
 -- the answers to these lines
 abbrev told : List RosterRow → List (List ℕ) → List LineAnswer
@@ -127,3 +131,23 @@ full : told (map numbered (range_with_len 0 64))
     ≡ ToOperator (NotDone Full) ∷ ToOperator (Retired (codes "t63")) ∷ ToOperator
     (Admitted (codes "z")) ∷ []
 full = refl
+
+-- a row of eight fields admits a tenant in an extended service alone, also once it has gone on from its state
+abbrev eight_fields : List ℕ
+eight_fields = ended (codes "+ admit b,2,0,5,0,0,0,3")
+
+extended_admits : output (roster_with Extended one_tenant) eight_fields ≡ codes "+ ok admitted b\n"
+extended_admits = refl
+
+plain_refuses : output (roster_with Plain one_tenant) eight_fields ≡ codes "+ no 22 operator-row\n"
+unfolding digits
+plain_refuses = refl
+
+extended_goes_on : granted_output (opened_state (state_after (opened_roster (roster_with Extended one_tenant))
+    (lines_of (codes "+ retire a" ∷ [])))) eight_fields ≡ codes "+ ok admitted b\n"
+extended_goes_on = refl
+
+plain_goes_on : granted_output (opened_state (state_after (opened_roster (roster_with Plain one_tenant))
+    (lines_of (codes "+ retire a" ∷ [])))) eight_fields ≡ codes "+ no 22 operator-row\n"
+unfolding digits
+plain_goes_on = refl

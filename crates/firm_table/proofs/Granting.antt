@@ -6,7 +6,8 @@ use Rattle.std.proofs.lemmas.List.{map-append}
 use Rattle.firm_text.specs.Inputs.{input_lines}
 use Rattle.firm_text.specs.declared.inputs.Line.{Line}
 use Rattle.firm_table.specs.Output.{unmarked}
-use Rattle.firm_table.specs.Places.{MarkedLine, Place}
+use Rattle.firm_table.specs.Opened.{Opened}
+use Rattle.firm_table.specs.Places.{MarkedLine}
 use Rattle.firm_table.specs.Service.{Device, UpToDate}
 use Rattle.firm_table.specs.Tenants.{TenantsState}
 use Rattle.firm_table.specs.Progress.{State, Told, state_is, tenants_at}
@@ -15,15 +16,15 @@ use Rattle.firm_table.proofs.Progress.{front_written_of_lines, nothing_told, one
 
 module _ (all_granted : Bool) where
   -- no line was answered yet
-  pub nothing_told_as : (places : List Place) (written : Option (List ℕ))
-      → ToldAs all_granted (state_is places (tenants_at places) []) [] written written
-  nothing_told_as places written =
-      record { told = (nothing_told places written).0; granted = λ all. (nothing_told places written).1 }
+  pub nothing_told_as : (opened : Opened) (written : Option (List ℕ))
+      → ToldAs all_granted (state_is opened (tenants_at opened.places) []) [] written written
+  nothing_told_as opened written =
+      record { told = (nothing_told opened written).0; granted = λ all. (nothing_told opened written).1 }
 
   -- one line more was answered
   pub one_more_as : (state : State) (text after : List ℕ) (written now : Option (List ℕ)) (tenants : TenantsState)
       (pending : List ℕ) (line : Line) → ToldAs all_granted state text written now
-      → input_lines after ≡ input_lines text ++ line ∷ []
+      → input_lines state.opening.heading after ≡ input_lines state.opening.heading text ++ line ∷ []
       → IsAnswerAs all_granted state.tenants tenants line state.pending pending
       → ToldAs all_granted (state_is state.opening tenants pending) after written now
   one_more_as state text after written now tenants pending line p more a =
@@ -33,7 +34,8 @@ module _ (all_granted : Bool) where
         granted = λ all.
             told.1 ∙ ap (λ (mark : Bool). p.told.lines ++ (line, mark) ∷ []) (a.granted all)
             ∙ ap (λ (lines : List MarkedLine). lines ++ unmarked line ∷ []) (p.granted all)
-            ∙ sym (map-append unmarked (input_lines text) (line ∷ [])) ∙ ap (map unmarked) (sym more);
+            ∙ sym (map-append unmarked (input_lines state.opening.heading text) (line ∷ []))
+            ∙ ap (map unmarked) (sym more);
       }
 
   -- all that was to be written was

@@ -18,6 +18,7 @@ mod Cuts
 mod Texts
 mod Stops
 mod Ending
+mod Fits
 mod Stating
 mod Ways
 mod Stations

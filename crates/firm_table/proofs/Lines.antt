@@ -16,6 +16,7 @@ use Rattle.firm_table.specs.Places.{register_of, admission, retirement, after_li
 use Rattle.firm_table.specs.Answers.{answer_of, tells_memory}
 use Rattle.firm_table.specs.declared.answers.LineAnswer.{LineAnswer}
 use Rattle.firm_table.specs.declared.answers.LineAnswer.TheVariants.{ToOperator}
+use Rattle.firm_table.specs.Opened.{opened_roster}
 use Rattle.firm_table.specs.Output.{answers_from, output_from, unmarked}
 use Rattle.firm_table.specs.Isolation.{is_operators_for, commands_to, with_commands, NoneIsOperatorsFor}
 use Rattle.firm_table.specs.Isolation.{StaysHoldTheirLines, NeedsNoMarks}
@@ -132,9 +133,9 @@ unmarked_lines (given ∷ rest) (answer ∷ answers) marks none =
     ∙ ap (λ (ls : List MarkedLine). unmarked given.0 ∷ ls) (unmarked_lines rest answers more parts.1)
 
 pub places_need_no_marks : PlacesNeedNoMarks
-places_need_no_marks places input lines are none =
-    ap (output_from places)
-    (unmarked_lines lines (answers_from places lines) are.marks none ∙ ap (map unmarked) are.each)
+places_need_no_marks opened input lines are none =
+    ap (output_from opened.places)
+    (unmarked_lines lines (answers_from opened.places lines) are.marks none ∙ ap (map unmarked) are.each)
 
 pub needs_no_marks : NeedsNoMarks
-needs_no_marks roster = places_need_no_marks (opening_places roster)
+needs_no_marks roster = places_need_no_marks (opened_roster roster)

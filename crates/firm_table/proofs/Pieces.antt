@@ -11,10 +11,11 @@ use Rattle.std.proofs.lemmas.List.{take_all, drop_all, append_cancel_right}
 use Rattle.std.proofs.lemmas.List.Sums.{split_at_first, passes_at_first}
 use Rattle.std.proofs.lemmas.Bool.Decides.{nat_tests}
 use Rattle.firm_text.specs.Cutters.{CutterIs, StandsFor}
-use Rattle.firm_text.specs.Inputs.{input_lines, line_of}
+use Rattle.firm_text.specs.Inputs.{input_lines, line_under}
 use Rattle.firm_text.specs.Lines.{is_filled, is_line_feed, lines, without_empty_last}
+use Rattle.firm_text.specs.declared.headings.Heading.{Heading}
 use Rattle.firm_text.specs.declared.inputs.Line.{Line}
-use Rattle.firm_table.specs.Places.{Place}
+use Rattle.firm_table.specs.Opened.{Opened}
 use Rattle.firm_table.specs.Service.{BeginsAnswersFrom}
 use Rattle.firm_table.specs.Telling.{Telling}
 use Rattle.firm_table.specs.inner.Reading.{Heard, Halted, HasEnded}
@@ -66,36 +67,51 @@ lines_alone xs none filled = rw (split_alone xs none, filled) refl
 
 -- nothing has ended yet
 pub ended_none : HasEnded []
-ended_none = record { ends = λ some. absurd (omega arith); parts = λ more. refl }
+ended_none = record { ends = λ some. absurd (omega arith); parts = λ heading more. refl }
 
 ends_behind : (xs : List ℕ) → IsEmptyOrEndsWith (xs ++ 10 ∷ []) 10
 ends_behind xs some = grind (arith, common_steps)
 
 -- one line more has ended
-pub input_more : (text rest : List ℕ) → HasEnded text → list_any is_line_feed rest ≡ false
-    → input_lines (text ++ (rest ++ 10 ∷ [])) ≡ input_lines text ++ line_of (strip_carriage_return rest) ∷ []
-input_more text rest ended none =
-    ended.parts (rest ++ 10 ∷ [])
-    ∙ ap (λ (ls : List (List ℕ)). input_lines text ++ map line_of ls) (lines_ended rest [] none)
+pub input_more : (heading : Heading) (text rest : List ℕ) → HasEnded text → list_any is_line_feed rest ≡ false
+    → input_lines heading (text ++ (rest ++ 10 ∷ []))
+    ≡ input_lines heading text ++ line_under heading (strip_carriage_return rest) ∷ []
+input_more heading text rest ended none =
+    ended.parts heading (rest ++ 10 ∷ [])
+    ∙ ap (λ (ls : List (List ℕ)). input_lines heading text ++ map (line_under heading) ls) (lines_ended rest [] none)
 
 pub ended_more : (text rest : List ℕ) → HasEnded text → list_any is_line_feed rest ≡ false
     → HasEnded (text ++ (rest ++ 10 ∷ []))
 ended_more text rest ended none = record {
   ends = subst (λ (l : List ℕ). IsEmptyOrEndsWith l 10) (append_assoc text rest (10 ∷ [])) (ends_behind (text ++ rest));
-  parts = λ more.
-      ap input_lines (append_assoc text (rest ++ 10 ∷ []) more
+  parts = λ heading more.
+      ap (input_lines heading) (append_assoc text (rest ++ 10 ∷ []) more
       ∙ ap (λ (l : List ℕ). text ++ l) (append_assoc rest (10 ∷ []) more))
-      ∙ ended.parts (rest ++ 10 ∷ more)
-      ∙ ap (λ (ls : List (List ℕ)). input_lines text ++ map line_of ls) (lines_ended rest more none)
-      ∙ sym (append_assoc (input_lines text) (line_of (strip_carriage_return rest) ∷ []) (input_lines more))
-      ∙ ap (λ (ls : List Line). ls ++ input_lines more) (sym (input_more text rest ended none));
+      ∙ ended.parts heading (rest ++ 10 ∷ more)
+      ∙ ap (λ (ls : List (List ℕ)). input_lines heading text ++ map (line_under heading) ls)
+      (lines_ended rest more none)
+      ∙ sym (append_assoc (input_lines heading text) (line_under heading (strip_carriage_return rest) ∷ [])
+      (input_lines heading more))
+      ∙ ap (λ (ls : List Line). ls ++ input_lines heading more) (sym (input_more heading text rest ended none));
 }
 
 -- the rest of the input is a line too
-pub input_last : (text rest : List ℕ) → HasEnded text → list_any is_line_feed rest ≡ false → is_filled rest ≡ true
-    → input_lines (text ++ rest) ≡ input_lines text ++ line_of (strip_carriage_return rest) ∷ []
-input_last text rest ended none filled =
-    ended.parts rest ∙ ap (λ (ls : List (List ℕ)). input_lines text ++ map line_of ls) (lines_alone rest none filled)
+pub input_last : (heading : Heading) (text rest : List ℕ) → HasEnded text → list_any is_line_feed rest ≡ false
+    → is_filled rest ≡ true
+    → input_lines heading (text ++ rest)
+    ≡ input_lines heading text ++ line_under heading (strip_carriage_return rest) ∷ []
+input_last heading text rest ended none filled =
+    ended.parts heading rest ∙ ap (λ (ls : List (List ℕ)). input_lines heading text ++ map (line_under heading) ls)
+    (lines_alone rest none filled)
+
+-- so it is as a clerk's heading has it
+pub taken_line : (heading told : Heading) (text rest : List ℕ) (line : Line) → told ≡ heading
+    → line ≡ line_under told (strip_carriage_return rest)
+    → input_lines heading text ++ line_under heading (strip_carriage_return rest) ∷ []
+    ≡ input_lines heading text ++ line ∷ []
+taken_line heading told text rest line same taken =
+    ap (λ (l : Line). input_lines heading text ++ l ∷ [])
+    (ap (λ (h : Heading). line_under h (strip_carriage_return rest)) (sym same) ∙ sym taken)
 
 pub rest_none : (rest : List ℕ) → is_filled rest ≡ false → rest ≡ []
 rest_none [] e = refl
@@ -126,12 +142,12 @@ both_ended heard text rest bytes front both same =
     ∙ ap (λ (l : List ℕ). text ++ l) (sym (append_assoc rest bytes (10 ∷ [])))
 
 -- what halts at a line's end has read what follows it too
-pub halts_at : (places : List Place) (heard text rest bytes piece behind : List ℕ) (written now : Option (List ℕ))
+pub halts_at : (opened : Opened) (heard text rest bytes piece behind : List ℕ) (written now : Option (List ℕ))
     → heard ≡ text ++ rest
     → piece ≡ (bytes ++ 10 ∷ []) ++ behind → IsEmptyOrEndsWith (text ++ ((rest ++ bytes) ++ 10 ∷ [])) 10
-    → BeginsAnswersFrom places (text ++ ((rest ++ bytes) ++ 10 ∷ [])) written now
-    → Halted places (heard ++ piece) written now
-halts_at places heard text rest bytes piece behind written now both cut ends begins = record {
+    → BeginsAnswersFrom opened (text ++ ((rest ++ bytes) ++ 10 ∷ [])) written now
+    → Halted opened (heard ++ piece) written now
+halts_at opened heard text rest bytes piece behind written now both cut ends begins = record {
   answered = text ++ ((rest ++ bytes) ++ 10 ∷ []);
   rest = behind;
   both =
@@ -143,10 +159,10 @@ halts_at places heard text rest bytes piece behind written now both cut ends beg
 }
 
 -- what halts between two lines
-pub halts_between : (places : List Place) (heard text rest more : List ℕ) (written now : Option (List ℕ))
+pub halts_between : (opened : Opened) (heard text rest more : List ℕ) (written now : Option (List ℕ))
     → heard ≡ text ++ rest
-    → HasEnded text → BeginsAnswersFrom places text written now → Halted places (heard ++ more) written now
-halts_between places heard text rest more written now both ended begins = record {
+    → HasEnded text → BeginsAnswersFrom opened text written now → Halted opened (heard ++ more) written now
+halts_between opened heard text rest more written now both ended begins = record {
   answered = text;
   rest = rest ++ more;
   both = ap (λ (l : List ℕ). l ++ more) both ∙ append_assoc text rest more;

@@ -9,10 +9,12 @@ use Rattle.std.proofs.lemmas.List.{map-append}
 use Rattle.std.proofs.lemmas.Grind.{flat_map-append}
 use Rattle.std.proofs.Math.Seq.{take-append_seam, take-length}
 use Rattle.firm_tenant.specs.Laws.{UnmarkedStepsAreGranted}
-use Rattle.firm_text.specs.Inputs.{input_lines, line_of}
+use Rattle.firm_text.specs.Inputs.{input_lines, line_under}
 use Rattle.firm_text.specs.LineLaws.{RefusesForTheForm}
 use Rattle.firm_text.specs.Lines.{lines}
+use Rattle.firm_text.specs.declared.headings.Heading.{Heading}
 use Rattle.firm_text.specs.declared.inputs.Line.{Line}
+use Rattle.firm_table.specs.Opened.{Opened}
 use Rattle.firm_table.specs.Places.{MarkedLine, Place, after_lines}
 use Rattle.firm_table.specs.Answers.{answer_of, tells_memory, text_of_answer}
 use Rattle.firm_table.specs.declared.answers.LineAnswer.{LineAnswer}
@@ -35,29 +37,29 @@ output_from-append places lines more =
     (answers_from (after_lines places lines) more)
 
 -- lines that follow these, with marks that are right behind them
-lines_more : (places : List Place) (text after : List ℕ) (lines more : List MarkedLine)
-    → AreLinesFrom places text lines
-    → input_lines after ≡ input_lines text ++ map (λ (g : MarkedLine). g.0) more
+lines_more : (opened : Opened) (text after : List ℕ) (lines more : List MarkedLine)
+    → AreLinesFrom opened text lines
+    → input_lines opened.heading after ≡ input_lines opened.heading text ++ map (λ (g : MarkedLine). g.0) more
     → map (λ (g : MarkedLine). g.1) more
-    ≡ map tells_memory (answers_from (after_lines places lines) more)
-    → AreLinesFrom places after (lines ++ more)
-lines_more places text after lines more are each marks = record {
+    ≡ map tells_memory (answers_from (after_lines opened.places lines) more)
+    → AreLinesFrom opened after (lines ++ more)
+lines_more opened text after lines more are each marks = record {
   each =
       map-append (λ (g : MarkedLine). g.0) lines more
       ∙ ap (λ (ls : List Line). ls ++ map (λ (g : MarkedLine). g.0) more) are.each
       ∙ sym each;
   marks =
-      let behind = answers_from (after_lines places lines) more in
+      let behind = answers_from (after_lines opened.places lines) more in
       map-append (λ (g : MarkedLine). g.1) lines more
       ∙ ap (λ (bs : List Bool). bs ++ map (λ (g : MarkedLine). g.1) more) are.marks
-      ∙ ap (λ (bs : List Bool). map tells_memory (answers_from places lines) ++ bs) marks
-      ∙ sym (map-append tells_memory (answers_from places lines) behind)
-      ∙ sym (ap (map tells_memory) (answers_from-append places lines more));
+      ∙ ap (λ (bs : List Bool). map tells_memory (answers_from opened.places lines) ++ bs) marks
+      ∙ sym (map-append tells_memory (answers_from opened.places lines) behind)
+      ∙ sym (ap (map tells_memory) (answers_from-append opened.places lines more));
 }
 
 -- no line was answered yet
 pub nothing_told : NothingIsTold
-nothing_told places written = (
+nothing_told opened written = (
   record {
     lines = [];
     are_lines = record { each = refl; marks = refl };
@@ -74,13 +76,13 @@ pub one_more : OneMoreIsTold
 one_more state text after written now tenants pending line p more a =
     let mark : Bool = tells_memory a.answer in
     let given : MarkedLine = (line, mark) in
-    let places : List Place = after_lines state.opening p.lines in
+    let places : List Place = after_lines state.opening.places p.lines in
     let here : answer_of places given ≡ a.answer = sym (a.right.answers places p.shows) in (
       record {
         lines = p.lines ++ given ∷ [];
         are_lines = lines_more state.opening text after p.lines (given ∷ []) p.are_lines more
             (ap (λ (x : LineAnswer). tells_memory x ∷ []) (sym here));
-        shows = subst (Shows tenants) (sym (after_lines-append state.opening p.lines (given ∷ [])))
+        shows = subst (Shows tenants) (sym (after_lines-append state.opening.places p.lines (given ∷ [])))
             (a.right.leaves places p.shows);
         sent = p.sent;
         wrote = p.wrote;
@@ -88,13 +90,14 @@ one_more state text after written now tenants pending line p more a =
             ap (λ (l : List ℕ). p.sent ++ l) a.text
             ∙ sym (append_assoc p.sent state.pending (text_of_answer a.answer))
             ∙ ap (λ (l : List ℕ). l ++ text_of_answer a.answer) p.whole
-            ∙ ap (λ (l : List ℕ). output_from state.opening p.lines ++ l) (sym (append-nil (text_of_answer a.answer))
+            ∙ ap (λ (l : List ℕ). output_from state.opening.places p.lines ++ l)
+            (sym (append-nil (text_of_answer a.answer))
             ∙ ap (λ (x : LineAnswer). flat_map text_of_answer (x ∷ [])) (sym here))
-            ∙ sym (output_from-append state.opening p.lines (given ∷ []));
+            ∙ sym (output_from-append state.opening.places p.lines (given ∷ []));
       },
       refl,
-      answers_from-append state.opening p.lines (given ∷ [])
-          ∙ ap (λ (x : LineAnswer). answers_from state.opening p.lines ++ x ∷ []) here,
+      answers_from-append state.opening.places p.lines (given ∷ [])
+          ∙ ap (λ (x : LineAnswer). answers_from state.opening.places p.lines ++ x ∷ []) here,
     )
 
 -- the front of what was to be written was, and the lines are the same
@@ -119,11 +122,11 @@ front_written state text written now later front held p parts wrote =
     (front_written_of_lines state text written now later front held p parts wrote).0
 
 -- what was sent begins what follows it
-begins_with : (places : List Place) (text : List ℕ) (written now : Option (List ℕ)) (lines : List MarkedLine)
+begins_with : (opened : Opened) (text : List ℕ) (written now : Option (List ℕ)) (lines : List MarkedLine)
     (sent rest : List ℕ)
-    → AreLinesFrom places text lines → Appends written now sent → output_from places lines ≡ sent ++ rest
-    → BeginsAnswersFrom places text written now
-begins_with places text written now lines sent rest are wrote whole = record {
+    → AreLinesFrom opened text lines → Appends written now sent → output_from opened.places lines ≡ sent ++ rest
+    → BeginsAnswersFrom opened text written now
+begins_with opened text written now lines sent rest are wrote whole = record {
   lines = lines;
   are_lines = are;
   count = length sent;
@@ -144,26 +147,29 @@ all_is_written state text written now p empty = record {
 }
 
 -- a line that stands last in an input is that of a text
-last_of_text : (texts : List (List ℕ)) (before : List Line) (line : Line) → map line_of texts ≡ before ++ line ∷ []
+last_of_text : (heading : Heading) (texts : List (List ℕ)) (before : List Line) (line : Line)
+    → map (line_under heading) texts ≡ before ++ line ∷ []
     → IsOfText line
-last_of_text [] [] line e = cc
-last_of_text [] (first ∷ before) line e = cc
-last_of_text (text ∷ rest) [] line e = (text, cc)
-last_of_text (text ∷ rest) (first ∷ before) line e = let more : map line_of rest ≡ before ++ line ∷ [] =
-    cc in last_of_text rest before line more
+last_of_text heading [] [] line e = cc
+last_of_text heading [] (first ∷ before) line e = cc
+last_of_text heading (text ∷ rest) [] line e = (heading, text, cc)
+last_of_text heading (text ∷ rest) (first ∷ before) line e =
+    let more : map (line_under heading) rest ≡ before ++ line ∷ [] = cc in
+    last_of_text heading rest before line more
 
 -- the answer to one line more was not made
 pub one_more_begins : UnmarkedStepsAreGranted → RefusesForTheForm → OneMoreBegins
 one_more_begins granted formal state text after written now line p more =
     let others : List MarkedLine = unmarked line ∷ [] in
-    let places : List Place = after_lines state.opening p.lines in
+    let places : List Place = after_lines state.opening.places p.lines in
     let behind = flat_map text_of_answer (answers_from places others) in
     begins_with state.opening after written now (p.lines ++ others) p.sent (state.pending ++ behind)
     (lines_more state.opening text after p.lines others p.are_lines more
     (ap (λ (b : Bool). b ∷ [])
-    (sym (unmarked_answer granted formal places line (last_of_text (lines after) (input_lines text) line more)))))
+    (sym (unmarked_answer granted formal places line
+    (last_of_text state.opening.heading (lines after) (input_lines state.opening.heading text) line more)))))
     p.wrote
-    (output_from-append state.opening p.lines others ∙ ap (λ (l : List ℕ). l ++ behind) (sym p.whole)
+    (output_from-append state.opening.places p.lines others ∙ ap (λ (l : List ℕ). l ++ behind) (sym p.whole)
     ∙ append_assoc p.sent state.pending behind)
 
 -- all that was to be written was
@@ -193,15 +199,15 @@ so_much_written (Ok x) now later pending all part =
 so_much_written (Err e) now later pending all part = (part.0, part.2)
 
 -- what was told of lines is the output for them, where nothing is to be written
-pub answers_up_to_date : (places : List Place) (state : State) (reader writer : Device) → state.opening ≡ places
+pub answers_up_to_date : (opened : Opened) (state : State) (reader writer : Device) → state.opening ≡ opened
     → state.pending ≡ []
-    → UpToDate (Told state) reader writer → UpToDate (AnswersFrom places) reader writer
-answers_up_to_date places state reader writer same empty u = record {
+    → UpToDate (Told state) reader writer → UpToDate (AnswersFrom opened) reader writer
+answers_up_to_date opened state reader writer same empty u = record {
   lines = u.lines;
   rest = u.rest;
   read = u.read;
   whole = u.whole;
   in_line = u.in_line;
-  told = subst (λ (ps : List Place). AnswersFrom ps u.lines writer.before writer.after) same
+  told = subst (λ (o : Opened). AnswersFrom o u.lines writer.before writer.after) same
       (all_is_written state u.lines writer.before writer.after u.told empty);
 }

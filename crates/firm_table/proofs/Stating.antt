@@ -14,8 +14,9 @@ use Rattle.firm_text.specs.declared.registers.Entry.{Entry}
 use Rattle.firm_saved.specs.declared.rows.Row.{Row}
 use Rattle.firm_saved.specs.declared.rows.Row.TheVariants as row
 use Rattle.firm_saved.specs.declared.saved.SavedPlace.{SavedPlace}
-use Rattle.firm_saved.specs.Saved.{entry_of, untouched, register_of as register_saved}
-use Rattle.firm_saved.specs.StateText.{book_rows, given_places, heading, place_rows, row_text, state_text}
+use Rattle.firm_text.specs.declared.headings.Heading.{Heading}
+use Rattle.firm_saved.specs.Saved.{entry_of, saved_with, untouched, register_of as register_saved}
+use Rattle.firm_saved.specs.StateText.{book_rows, first_line, given_places, place_rows, row_text, state_text}
 use Rattle.firm_saved.specs.StateText.{tenant_rows}
 use Rattle.firm_table.specs.Ends.{named_book, place_with, state_with}
 use Rattle.firm_table.specs.Tenants.{BooksFit, tenants_are}
@@ -94,24 +95,26 @@ more_count places next =
     sym (length-append (flat_map place_rows places) (place_rows next))
     ∙ ap (λ (rows : List Row). length rows) (flat_map_more place_rows [] places next)
 
-parts_joined : (old rows last : List ℕ)
-    → (((old ++ heading ++ 10 ∷ []) ++ rows) ++ last) ≡ old ++ (heading ++ 10 ∷ [] ++ rows ++ last)
-parts_joined old rows last = simp append_assoc
+parts_joined : (old first rows last : List ℕ)
+    → (((old ++ first ++ 10 ∷ []) ++ rows) ++ last) ≡ old ++ (first ++ 10 ∷ [] ++ rows ++ last)
+parts_joined old first rows last = simp append_assoc
 
--- the heading, the rows of the given places, and their count are the text of the state
-pub state_added : {A E : Type 0} (result : Result A E) (old new : List ℕ) (saved given : List SavedPlace) (count : ℕ)
+-- the first line, the rows of the given places, and their count are the text of the state
+pub state_added : {A E : Type 0} (heading : Heading) (result : Result A E) (old new : List ℕ)
+    (saved given : List SavedPlace) (count : ℕ)
     → given_places saved ≡ given → count ≡ length (flat_map place_rows given)
-    → OnOk result (new ≡ ((old ++ heading ++ 10 ∷ []) ++ flat_map row_text (flat_map place_rows given))
+    → OnOk result (new ≡ ((old ++ first_line heading ++ 10 ∷ []) ++ flat_map row_text (flat_map place_rows given))
     ++ row_text (row.Rows count))
-    → OnOk result (new ≡ old ++ state_text saved)
-state_added (Err refused) old new saved given count same is added = tt
-state_added (Ok done) old new saved given count same is added =
+    → OnOk result (new ≡ old ++ state_text (saved_with heading saved))
+state_added heading (Err refused) old new saved given count same is added = tt
+state_added heading (Ok done) old new saved given count same is added =
     added
-    ∙ ap (λ (n : ℕ). ((old ++ heading ++ 10 ∷ []) ++ flat_map row_text (flat_map place_rows given))
+    ∙ ap (λ (n : ℕ). ((old ++ first_line heading ++ 10 ∷ []) ++ flat_map row_text (flat_map place_rows given))
     ++ row_text (row.Rows n)) is
-    ∙ parts_joined old (flat_map row_text (flat_map place_rows given))
+    ∙ parts_joined old (first_line heading) (flat_map row_text (flat_map place_rows given))
     (row_text (row.Rows (length (flat_map place_rows given))))
-    ∙ ap (λ (places : List SavedPlace). old ++ (heading ++ 10 ∷ [] ++ flat_map row_text (flat_map place_rows places)
+    ∙ ap (λ (places : List SavedPlace). old
+    ++ (first_line heading ++ 10 ∷ [] ++ flat_map row_text (flat_map place_rows places)
     ++ row_text (row.Rows (length (flat_map place_rows places))))) (sym same)
 
 -- what holds at all events holds on success

@@ -5,7 +5,7 @@ use Rattle.std.specs.Prelude.{Bool, false, Option, Result, Ok, Err, OnOk, OnErr,
 use Rattle.std.specs.Io.KnownBytes.{Consumes, IsAtEnd}
 use Rattle.std.proofs.lemmas.List.{length-take-le}
 use Rattle.firm_text.specs.Cutters.{CutterIs}
-use Rattle.firm_table.specs.Places.{Place}
+use Rattle.firm_table.specs.Opened.{Opened}
 use Rattle.firm_table.specs.Service.{AnswersFrom, BeginsAnswersFrom, ServedFrom, StoppedFrom, IsCause, device}
 use Rattle.firm_table.specs.Telling.{Telling}
 use Rattle.firm_table.specs.Service.{IsWritingFault}
@@ -72,12 +72,12 @@ heard_told IsTold Later cut heard written now later h told = record {
   told = told h.text written h.told;
 }
 
-module _ (places : List Place) (most : ℕ) (left left_after written now : Option (List ℕ))
+module _ (opened : Opened) (most : ℕ) (left left_after written now : Option (List ℕ))
     (read_failed write_failed : Bool) (heard : List ℕ) where
   -- between two lines, or at a line that was cut off
-  pub stopped_within : (fault : ServeFault) → Consumes left left_after heard → (h : Halted places heard written now)
+  pub stopped_within : (fault : ServeFault) → Consumes left left_after heard → (h : Halted opened heard written now)
       → IsCause fault heard most read_failed write_failed
-      → StoppedFrom places most (device left left_after read_failed) (device written now write_failed) fault
+      → StoppedFrom opened most (device left left_after read_failed) (device written now write_failed) fault
   stopped_within fault read h cause = record {
     answered = h.answered;
     rest = h.rest;
@@ -89,8 +89,8 @@ module _ (places : List Place) (most : ℕ) (left left_after written now : Optio
 
   -- behind the end of the input
   pub stopped_behind : (fault : ServeFault) → Consumes left left_after heard → IsAtEnd left_after → read_failed ≡ false
-      → BeginsAnswersFrom places heard written now
-      → IsWritingFault fault write_failed → StoppedFrom places most (device left left_after read_failed)
+      → BeginsAnswersFrom opened heard written now
+      → IsWritingFault fault write_failed → StoppedFrom opened most (device left left_after read_failed)
       (device written now write_failed) fault
   stopped_behind fault read at_end well begins cause = record {
     answered = heard;
@@ -102,9 +102,9 @@ module _ (places : List Place) (most : ℕ) (left left_after written now : Optio
   }
 
   pub served : Consumes left left_after heard → IsAtEnd left_after → length heard ≤ most
-      → AnswersFrom places heard written now → read_failed ≡ false
+      → AnswersFrom opened heard written now → read_failed ≡ false
       → write_failed ≡ false
-      → ServedFrom places most (device left left_after read_failed) (device written now write_failed)
+      → ServedFrom opened most (device left left_after read_failed) (device written now write_failed)
   served read at_end within answers reads writes = record {
     input = heard;
     read = read;

@@ -9,8 +9,9 @@ use Rattle.std.proofs.Math.Seq.{take-suc, take-length}
 use Rattle.std.proofs.lemmas.Grind.{flat_map-append}
 use Rattle.std.proofs.lemmas.List.{map-append}
 use Rattle.std.proofs.lemmas.List.Splits.{slice_split-cons_yes, slice_split-cons_no}
-use Rattle.firm_text.specs.Inputs.{input_lines, line_of}
+use Rattle.firm_text.specs.Inputs.{input_lines, line_under}
 use Rattle.firm_text.specs.Lines.{is_line_feed, lines, without_empty_last}
+use Rattle.firm_text.specs.declared.headings.Heading.{Heading}
 use Rattle.firm_text.specs.declared.inputs.Line.{Line}
 use Rattle.firm_table.specs.Places.{MarkedLine, Place, after_line}
 use Rattle.firm_table.specs.Answers.{tells_memory, text_of_answer}
@@ -86,17 +87,17 @@ ends_in text some ends =
     ∙ ap (λ (byte : ℕ). take (length text - 1) text ++ byte ∷ []) (ends some)
 
 -- what follows it begins a line
-pub input_both : (text more : List ℕ) → IsEmptyOrEndsWith text 10
-    → input_lines (text ++ more) ≡ input_lines text ++ input_lines more
-input_both [] more ends = refl
-input_both (x ∷ xs) more ends =
+pub input_both : (heading : Heading) (text more : List ℕ) → IsEmptyOrEndsWith text 10
+    → input_lines heading (text ++ more) ≡ input_lines heading text ++ input_lines heading more
+input_both heading [] more ends = refl
+input_both heading (x ∷ xs) more ends =
     let front : List ℕ = take (length (x ∷ xs) - 1) (x ∷ xs) in
     let text_is : x ∷ xs ≡ front ++ 10 ∷ [] = ends_in (x ∷ xs) (omega arith) ends in
-    ap (λ (text : List ℕ). input_lines (text ++ more)) text_is
-    ∙ ap input_lines (append_assoc front (10 ∷ []) more)
-    ∙ ap (map line_of) (lines_both front more)
-    ∙ map-append line_of (lines (front ++ 10 ∷ [])) (lines more)
-    ∙ ap (λ (text : List ℕ). input_lines text ++ input_lines more) (sym text_is)
+    ap (λ (text : List ℕ). input_lines heading (text ++ more)) text_is
+    ∙ ap (input_lines heading) (append_assoc front (10 ∷ []) more)
+    ∙ ap (map (line_under heading)) (lines_both front more)
+    ∙ map-append (line_under heading) (lines (front ++ 10 ∷ [])) (lines more)
+    ∙ ap (λ (text : List ℕ). input_lines heading text ++ input_lines heading more) (sym text_is)
 
 -- the outputs for lines and more
 output_both : (places : List Place) (lines more : List MarkedLine)
@@ -114,17 +115,17 @@ marks_both places lines more =
 
 -- texts are joined
 pub texts_are_joined : TextsAreJoined
-texts_are_joined places text more lines later ends first rest = record {
+texts_are_joined opened text more lines later ends first rest = record {
   each =
       map-append (λ (g : MarkedLine). g.0) lines later
       ∙ ap (λ (ls : List Line). ls ++ map (λ (g : MarkedLine). g.0) later) first.each
-      ∙ ap (λ (ls : List Line). input_lines text ++ ls) rest.each
-      ∙ sym (input_both text more ends);
+      ∙ ap (λ (ls : List Line). input_lines opened.heading text ++ ls) rest.each
+      ∙ sym (input_both opened.heading text more ends);
   marks =
       map-append (λ (g : MarkedLine). g.1) lines later
       ∙ ap (λ (bs : List Bool). bs ++ map (λ (g : MarkedLine). g.1) later) first.marks
-      ∙ ap (λ (bs : List Bool). map tells_memory (answers_from places lines) ++ bs) rest.marks
-      ∙ sym (marks_both places lines later);
+      ∙ ap (λ (bs : List Bool). map tells_memory (answers_from opened.places lines) ++ bs) rest.marks
+      ∙ sym (marks_both opened.places lines later);
 }
 
 -- lines that are as many as two lists are two lists
@@ -171,27 +172,30 @@ answers_wide places [] = refl
 answers_wide places (given ∷ rest) = ap suc (answers_wide (after_line places given) rest)
 
 pub texts_are_cut : TextsAreCut
-texts_are_cut places text more whole ends are =
-    let p = parted whole (input_lines text) (input_lines more) (are.each ∙ input_both text more ends) in
+texts_are_cut opened text more whole ends are =
+    let p = parted whole (input_lines opened.heading text) (input_lines opened.heading more)
+    (are.each ∙ input_both opened.heading text more ends) in
     let marks : map (λ (g : MarkedLine). g.1) p.lines ++ map (λ (g : MarkedLine). g.1) p.later
-    ≡ map tells_memory (answers_from places p.lines)
-    ++ map tells_memory (answers_from (reopened places p.lines) p.later) =
+    ≡ map tells_memory (answers_from opened.places p.lines)
+    ++ map tells_memory (answers_from (reopened opened.places p.lines) p.later) =
     sym (map-append (λ (g : MarkedLine). g.1) p.lines p.later)
     ∙ ap (map (λ (g : MarkedLine). g.1)) (sym p.both) ∙ are.marks
-    ∙ ap (λ (ls : List MarkedLine). map tells_memory (answers_from places ls)) p.both
-    ∙ marks_both places p.lines p.later in
-    let agree = parts_agree _ _ _ _ (answers_wide places p.lines) marks in
+    ∙ ap (λ (ls : List MarkedLine). map tells_memory (answers_from opened.places ls)) p.both
+    ∙ marks_both opened.places p.lines p.later in
+    let agree = parts_agree _ _ _ _ (answers_wide opened.places p.lines) marks in
     record {
       lines = p.lines;
       later = p.later;
       both = p.both;
       first = record { each = p.first; marks = agree.0 };
       rest = record { each = p.rest; marks = agree.1 };
-      output = ap (output_from places) p.both ∙ output_both places p.lines p.later;
+      output = ap (output_from opened.places) p.both ∙ output_both opened.places p.lines p.later;
     }
 
 pub outputs_go_on_from : OutputsGoOnFrom
-outputs_go_on_from places text more ends =
-    ap (λ (ls : List Line). output_from places (map unmarked ls)) (input_both text more ends)
-    ∙ ap (output_from places) (map-append unmarked (input_lines text) (input_lines more))
-    ∙ output_both places (map unmarked (input_lines text)) (map unmarked (input_lines more))
+outputs_go_on_from opened text more ends =
+    ap (λ (ls : List Line). output_from opened.places (map unmarked ls)) (input_both opened.heading text more ends)
+    ∙ ap (output_from opened.places)
+    (map-append unmarked (input_lines opened.heading text) (input_lines opened.heading more))
+    ∙ output_both opened.places (map unmarked (input_lines opened.heading text))
+    (map unmarked (input_lines opened.heading more))

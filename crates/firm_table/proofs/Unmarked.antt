@@ -5,7 +5,8 @@ use Rattle.std.specs.Option.{is_some, ok_or}
 use Rattle.firm_rules.specs.declared.commands.Command.{Command}
 use Rattle.firm_tenant.specs.Laws.{UnmarkedStepsAreGranted}
 use Rattle.firm_rules.specs.Limits.{TenantLimits}
-use Rattle.firm_text.specs.Inputs.{line_of}
+use Rattle.firm_text.specs.Inputs.{line_under}
+use Rattle.firm_text.specs.declared.headings.Heading.{Heading}
 use Rattle.firm_text.specs.LineLaws.{RefusesForTheForm}
 use Rattle.firm_text.specs.Lines.{lines}
 use Rattle.firm_text.specs.OperatorRefusals.{operator_code}
@@ -24,9 +25,9 @@ use Rattle.firm_table.specs.Output.{answers_from, unmarked}
 use Rattle.firm_table.specs.Isolation.{MayGoUnmarked}
 use Rattle.firm_table.proofs.Alones.{last_reply-more}
 
--- this is the line of a text
+-- this is the line of a text under some heading
 abbrev pub IsOfText : Line → Type 0
-IsOfText line = (text : List ℕ) × (line_of text ≡ line)
+IsOfText line = (heading : Heading) × (text : List ℕ) × (line_under heading text ≡ line)
 
 refused_place : (held : Bool) (free : Option ℕ) (refusal : OperatorRefusal)
     → (if held then Err TenantExists else ok_or {E = OperatorRefusal} free Full) ≡ Err refusal
@@ -75,18 +76,18 @@ module _ (granted : UnmarkedStepsAreGranted) (formal : RefusesForTheForm) where
   unmarked_answer places (Operator (Admit name limits)) said =
       unmarked_admission places name limits (place_for (register_of places) name) refl
   unmarked_answer places (Operator (Retire name)) said = unmarked_retirement places name (stay_of places name)
-  unmarked_answer places (Operator (Faulty refusal)) said = not_memory refusal (formal said.0 refusal said.1)
+  unmarked_answer places (Operator (Faulty refusal)) said = not_memory refusal (formal said.0 said.1 refusal said.2)
 
-  pub go_unmarked : (places : List Place) (texts : List (List ℕ))
-      → map tells_memory (answers_from places (map unmarked (map line_of texts)))
-      ≡ map (λ line. false) (map line_of texts)
-  go_unmarked places [] = refl
-  go_unmarked places (text ∷ rest) =
-      let line : Line = line_of text in
+  pub go_unmarked : (heading : Heading) (places : List Place) (texts : List (List ℕ))
+      → map tells_memory (answers_from places (map unmarked (map (line_under heading) texts)))
+      ≡ map (λ line. false) (map (line_under heading) texts)
+  go_unmarked heading places [] = refl
+  go_unmarked heading places (text ∷ rest) =
+      let line : Line = line_under heading text in
       ap (λ (b : Bool). b ∷ map tells_memory
-      (answers_from (after_line places (unmarked line)) (map unmarked (map line_of rest))))
-      (unmarked_answer places line (text, refl))
-      ∙ ap (λ (bs : List Bool). false ∷ bs) (go_unmarked (after_line places (unmarked line)) rest)
+      (answers_from (after_line places (unmarked line)) (map unmarked (map (line_under heading) rest))))
+      (unmarked_answer places line (heading, text, refl))
+      ∙ ap (λ (bs : List Bool). false ∷ bs) (go_unmarked heading (after_line places (unmarked line)) rest)
 
   pub may_go_unmarked : MayGoUnmarked
-  may_go_unmarked input places = go_unmarked places (lines input)
+  may_go_unmarked heading input places = go_unmarked heading places (lines input)

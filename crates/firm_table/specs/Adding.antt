@@ -17,7 +17,7 @@ use Rattle.firm_text.specs.declared.operator.OperatorReply.TheVariants.{Admitted
 use Rattle.firm_table.specs.Answers.{tells_memory}
 use Rattle.firm_table.specs.declared.answers.LineAnswer.TheVariants.{UnknownTenant, Replied, ToOperator}
 use Rattle.firm_table.specs.Output.{answers_from}
-use Rattle.firm_table.specs.Places.{Place}
+use Rattle.firm_table.specs.Opened.{Opened}
 use Rattle.firm_table.specs.Service.{AnswersFrom, BeginsAnswersFrom}
 use Rattle.firm_table.specs.Tenants.{TenantsState, tenants_are}
 use Rattle.firm_table.specs.Progress.{IsAnswer, IsRight, State, Told, state_is, tenants_at}
@@ -25,18 +25,20 @@ use Rattle.firm_table.specs.Progress.{IsAnswer, IsRight, State, Told, state_is, 
 -- before the first line nothing is to be written
 abbrev pub NothingIsTold : Type 0
 NothingIsTold =
-    (places : List Place) (written : Option (List ℕ))
-    → (told : Told (state_is places (tenants_at places) []) [] written written) × (told.lines ≡ [])
+    (opened : Opened) (written : Option (List ℕ))
+    → (told : Told (state_is opened (tenants_at opened.places) []) [] written written) × (told.lines ≡ [])
 
 -- one more line was answered: the line and its answer come after the earlier ones
 abbrev pub OneMoreIsTold : Type 0
 OneMoreIsTold =
     (state : State) (text after : List ℕ) (written now : Option (List ℕ)) (tenants : TenantsState) (pending : List ℕ)
-    (line : Line) → (before : Told state text written now) → input_lines after ≡ input_lines text ++ line ∷ []
+    (line : Line) → (before : Told state text written now)
+    → input_lines state.opening.heading after ≡ input_lines state.opening.heading text ++ line ∷ []
     → (answered : IsAnswer state.tenants tenants line state.pending pending)
     → (told : Told (state_is state.opening tenants pending) after written now)
     × (told.lines ≡ before.lines ++ (line, tells_memory answered.answer) ∷ [])
-    × (answers_from state.opening told.lines ≡ answers_from state.opening before.lines ++ answered.answer ∷ [])
+    × (answers_from state.opening.places told.lines
+    ≡ answers_from state.opening.places before.lines ++ answered.answer ∷ [])
 
 -- the front of what was to be written was written
 abbrev pub FrontIsWritten : Type 0
@@ -61,7 +63,8 @@ AllIsWritten =
 abbrev pub OneMoreBegins : Type 0
 OneMoreBegins =
     (state : State) (text after : List ℕ) (written now : Option (List ℕ)) (line : Line) → Told state text written now
-    → input_lines after ≡ input_lines text ++ line ∷ [] → BeginsAnswersFrom state.opening after written now
+    → input_lines state.opening.heading after ≡ input_lines state.opening.heading text ++ line ∷ []
+    → BeginsAnswersFrom state.opening after written now
 
 -- a command of the tenant at this place is answered by its step
 abbrev pub TenantsAreAnswered : Type 0

@@ -1,11 +1,14 @@
 -- The state in which a service ends.
-use Rattle.std.specs.Prelude.{◌≡◌, ℕ, List, [], ◌∷◌, Option, Some, None, map}
+use Rattle.std.specs.Prelude.{◌≡◌, All, ℕ, List, [], ◌∷◌, Option, Some, None, map}
 use Rattle.firm_rules.specs.Book.{Book}
 use Rattle.firm_text.specs.Inputs.{input_lines}
+use Rattle.firm_text.specs.declared.headings.Heading.{Heading}
 use Rattle.firm_text.specs.declared.registers.Entry.{Entry}
+use Rattle.firm_saved.specs.Saved.{PlaceFits}
 use Rattle.firm_saved.specs.declared.saved.SavedPlace.{SavedPlace}
 use Rattle.firm_table.specs.Output.{unmarked}
-use Rattle.firm_table.specs.Places.{Place, saved_after, after_lines}
+use Rattle.firm_table.specs.Opened.{Opened}
+use Rattle.firm_table.specs.Places.{saved_after, after_lines}
 use Rattle.firm_table.specs.Service.{Device, ServedFrom}
 use Rattle.firm_table.specs.Tenants.{TenantsState}
 
@@ -29,9 +32,13 @@ state_with (entry ∷ rest) (book ∷ books) = place_with entry book ∷ state_w
 abbrev pub tenants_state : TenantsState → List SavedPlace
 tenants_state tenants = state_with tenants.register tenants.books
 
+-- the limits of these tenants are such as a row under this heading can give
+abbrev pub TenantsFit : Heading → TenantsState → Type 0
+TenantsFit heading tenants = All (PlaceFits heading) (tenants_state tenants)
+
 -- everything left to read was read, what was written is the output for it, memory was refused to none of its lines, and
 -- the tenants that are left have the state after them
-pub record ServedTo (places : List Place) (most : ℕ) (reader writer : Device) (after : TenantsState) : Type 0 where
-  pub served : ServedFrom places most reader writer
-  pub granted : served.answers.lines ≡ map unmarked (input_lines served.input)
-  pub state : tenants_state after ≡ saved_after (after_lines places served.answers.lines)
+pub record ServedTo (opened : Opened) (most : ℕ) (reader writer : Device) (after : TenantsState) : Type 0 where
+  pub served : ServedFrom opened most reader writer
+  pub granted : served.answers.lines ≡ map unmarked (input_lines opened.heading served.input)
+  pub state : tenants_state after ≡ saved_after (after_lines opened.places served.answers.lines)

@@ -6,7 +6,8 @@ use Rattle.firm_rules.specs.Book.{opening_book}
 use Rattle.firm_rules.specs.Limits.{TenantLimits}
 use Rattle.firm_tenant.specs.Alone.{alone_marked}
 use Rattle.firm_text.specs.Inputs.{command_to, input_lines}
-use Rattle.firm_text.specs.Rosters.{RosterRow}
+use Rattle.firm_text.specs.Rosters.{RosterIs, RosterRow}
+use Rattle.firm_text.specs.declared.headings.Heading.{Heading}
 use Rattle.firm_text.specs.declared.inputs.Line.TheVariants.{For, Operator}
 use Rattle.firm_text.specs.declared.operator.OperatorLine.TheVariants.{Admit}
 use Rattle.firm_text.specs.declared.operator.OperatorReply.TheVariants.{Admitted, Retired, Refused}
@@ -144,11 +145,11 @@ TenantsAreIsolated = (roster other_roster : List RosterRow) (lines other_lines :
 
 -- if no answer says that memory was refused, the output is a function of the roster and of the bytes of the input
 abbrev pub NeedsNoMarks : Type 0
-NeedsNoMarks = (roster : List RosterRow) (input : List ℕ) (lines : List MarkedLine) → AreLinesOf roster input lines
-    → list_any tells_memory (answers_of roster lines) ≡ false → output_of roster lines ≡ output roster input
+NeedsNoMarks = (roster : RosterIs) (input : List ℕ) (lines : List MarkedLine) → AreLinesOf roster input lines
+    → list_any tells_memory (answers_of roster.rows lines) ≡ false → output_of roster.rows lines ≡ output roster input
 
 -- the lines of an input that are left to answer can be taken as lines to which memory is not refused
 abbrev pub MayGoUnmarked : Type 0
-MayGoUnmarked = (input : List ℕ) (places : List Place)
-    → map tells_memory (answers_from places (map unmarked (input_lines input)))
-    ≡ map (λ line. false) (input_lines input)
+MayGoUnmarked = (heading : Heading) (input : List ℕ) (places : List Place)
+    → map tells_memory (answers_from places (map unmarked (input_lines heading input)))
+    ≡ map (λ line. false) (input_lines heading input)

@@ -1,4 +1,5 @@
 pub mod Places
+pub mod Opened
 pub mod Answers
 pub mod Output
 pub mod Openings

@@ -1,13 +1,18 @@
 -- What a service opens with.
 use Rattle.std.specs.Prelude.{ℕ, List, slice_index_or}
-use Rattle.firm_table.specs.Places.{Place, unused_place, opening_places, restored_places}
+use Rattle.firm_table.specs.Opened.{Opened, opened_roster, opened_state}
+use Rattle.firm_table.specs.Places.{Place, unused_place}
 use Rattle.firm_table.specs.declared.openings.Opening.{Opening}
 use Rattle.firm_table.specs.declared.openings.Opening.TheVariants.{Roster, State}
 
--- the places before the first line
+-- the heading and the places before the first line
+abbrev pub opened : Opening → Opened
+opened (Roster roster) = opened_roster roster.now
+opened (State saved) = opened_state saved.now
+
+-- the places
 abbrev pub places_opened : Opening → List Place
-places_opened (Roster roster) = opening_places roster.now
-places_opened (State saved) = restored_places saved.now
+places_opened opening = (opened opening).places
 
 -- one of them
 abbrev pub place_opened : Opening → ℕ → Place

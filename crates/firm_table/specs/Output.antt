@@ -1,12 +1,13 @@
--- What a service writes for what it read: a function of the places that it opens with, or of its roster, and of the
+-- What a service writes for what it read: a function of what it opens with, or of its roster, and of the
 -- lines, each with its mark.
 use Rattle.std.specs.Prelude.{ℕ, false, List, [], ◌∷◌, ◌++◌, ◌≡◌, map, bytes_eq, if◌then◌else◌}
 use Rattle.std.specs.List.{flat_map}
 use Rattle.firm_rules.specs.declared.replies.Reply.{Reply}
 use Rattle.firm_text.specs.Inputs.{input_lines}
-use Rattle.firm_text.specs.Rosters.{RosterRow}
+use Rattle.firm_text.specs.Rosters.{RosterIs, RosterRow}
 use Rattle.firm_text.specs.declared.inputs.Line.{Line}
 use Rattle.firm_text.specs.declared.operator.OperatorReply.TheVariants.{Admitted, Retired, Refused}
+use Rattle.firm_table.specs.Opened.{Opened, opened_roster}
 use Rattle.firm_table.specs.Places.{MarkedLine, Place, opening_places, after_line}
 use Rattle.firm_table.specs.Answers.{answer_of}
 use Rattle.firm_table.specs.declared.answers.LineAnswer.{LineAnswer}
@@ -36,21 +37,21 @@ abbrev pub unmarked : Line → MarkedLine
 unmarked line = (line, false)
 
 -- what a service writes for an input if memory is never refused
-abbrev pub granted_output : List Place → List ℕ → List ℕ
-granted_output places input = output_from places (map unmarked (input_lines input))
+abbrev pub granted_output : Opened → List ℕ → List ℕ
+granted_output opened input = output_from opened.places (map unmarked (input_lines opened.heading input))
 
 -- the same for a service of this roster
-abbrev pub output : List RosterRow → List ℕ → List ℕ
-output roster input = granted_output (opening_places roster) input
+abbrev pub output : RosterIs → List ℕ → List ℕ
+output roster input = granted_output (opened_roster roster) input
 
 -- the lines of this input, with marks on exactly those whose answer says that memory was refused
-pub record AreLinesFrom (places : List Place) (input : List ℕ) (lines : List MarkedLine) : Type 0 where
-  pub each : map (λ given. given.0) lines ≡ input_lines input
-  pub marks : map (λ given. given.1) lines ≡ map tells_memory (answers_from places lines)
+pub record AreLinesFrom (opened : Opened) (input : List ℕ) (lines : List MarkedLine) : Type 0 where
+  pub each : map (λ given. given.0) lines ≡ input_lines opened.heading input
+  pub marks : map (λ given. given.1) lines ≡ map tells_memory (answers_from opened.places lines)
 
 -- the same for a service of this roster
-abbrev pub AreLinesOf : List RosterRow → List ℕ → List MarkedLine → Type 0
-AreLinesOf roster = AreLinesFrom (opening_places roster)
+abbrev pub AreLinesOf : RosterIs → List ℕ → List MarkedLine → Type 0
+AreLinesOf roster = AreLinesFrom (opened_roster roster)
 
 -- the replies to the tenant of this name, after these replies and one more answer: a new stay has none yet
 abbrev pub replies_with : List ℕ → List Reply → LineAnswer → List Reply

@@ -1,5 +1,5 @@
 -- The places of a service: which tenant stays at each, and what it was given since its stay began.
-use Rattle.std.specs.Prelude.{ℕ, ◌+◌, ◌-◌, Bool, true, false, List, [], ◌∷◌, ◌++◌, length, map, replicate}
+use Rattle.std.specs.Prelude.{ℕ, ◌+◌, ◌-◌, IfSome, Bool, true, false, List, [], ◌∷◌, ◌++◌, length, map, replicate}
 use Rattle.std.specs.Prelude.{Option, Some, None, option_map, Result, Ok, Err, bytes_eq, slice_index_or, slice_set}
 use Rattle.std.specs.Prelude.{if◌then◌else◌}
 use Rattle.firm_rules.specs.Book.{Book, opening_book}
@@ -7,7 +7,8 @@ use Rattle.firm_rules.specs.Limits.{TenantLimits}
 use Rattle.firm_rules.specs.declared.commands.Command.{Command}
 use Rattle.firm_tenant.specs.Alone.{book_after}
 use Rattle.firm_text.specs.Registers.{place_for}
-use Rattle.firm_text.specs.Rosters.{RosterRow, most_places}
+use Rattle.firm_text.specs.Rosters.{FitsHeading, RosterRow, most_places}
+use Rattle.firm_text.specs.declared.headings.Heading.{Heading}
 use Rattle.firm_text.specs.declared.inputs.Line.{Line}
 use Rattle.firm_text.specs.declared.inputs.Line.TheVariants.{Nothing, Long, Nameless, For, Operator}
 use Rattle.firm_text.specs.declared.operator.OperatorLine.{OperatorLine}
@@ -53,6 +54,10 @@ book_of stay = book_after stay.opening stay.commands
 pub record Place : Type 0 where
   pub admissions : ℕ
   pub stay : Option Stay
+
+-- the limits of a place's stay, if any, are such as a row under this heading can give
+abbrev pub StayFits : Heading → Place → Type 0
+StayFits heading place = IfSome place.stay (λ stay. FitsHeading heading (limits_of stay))
 
 -- a place that was never given
 abbrev pub unused_place : Place

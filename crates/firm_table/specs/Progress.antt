@@ -6,6 +6,7 @@ use Rattle.firm_text.specs.declared.inputs.Line.{Line}
 use Rattle.firm_table.specs.Answers.{answer_of, tells_memory, text_of_answer}
 use Rattle.firm_table.specs.declared.answers.LineAnswer.{LineAnswer}
 use Rattle.firm_table.specs.Output.{output_from, AreLinesFrom}
+use Rattle.firm_table.specs.Opened.{Opened}
 use Rattle.firm_table.specs.Places.{MarkedLine, Place, book_of, register_of, after_line, after_lines}
 use Rattle.firm_table.specs.Tenants.{TenantsState, tenants_are}
 
@@ -35,14 +36,14 @@ pub record IsAnswer (tenants after : TenantsState) (line : Line) (pending pendin
   pub right : IsRight tenants after line answer
   pub text : pending_after ≡ pending ++ text_of_answer answer
 
--- a service between two lines: the places that it opened with, its tenants, and what is still to be written
+-- a service between two lines: what it opened with, its tenants, and what is still to be written
 pub record State : Type 0 where
-  pub opening : List Place
+  pub opening : Opened
   pub tenants : TenantsState
   pub pending : List ℕ
 
 -- the state of these parts
-abbrev pub state_is : List Place → TenantsState → List ℕ → State
+abbrev pub state_is : Opened → TenantsState → List ℕ → State
 state_is opening tenants pending = record { opening = opening; tenants = tenants; pending = pending }
 
 -- the lines of this text were answered: the tenants are those after these lines, and what was written and what is still
@@ -50,7 +51,7 @@ state_is opening tenants pending = record { opening = opening; tenants = tenants
 pub record Told (state : State) (text : List ℕ) (written now : Option (List ℕ)) : Type 0 where
   pub lines : List MarkedLine
   pub are_lines : AreLinesFrom state.opening text lines
-  pub shows : Shows state.tenants (after_lines state.opening lines)
+  pub shows : Shows state.tenants (after_lines state.opening.places lines)
   pub sent : List ℕ
   pub wrote : Appends written now sent
-  pub whole : sent ++ state.pending ≡ output_from state.opening lines
+  pub whole : sent ++ state.pending ≡ output_from state.opening.places lines

@@ -8,6 +8,7 @@ use Rattle.firm_tenant.specs.Alone.{replies_from}
 use Rattle.firm_text.specs.Rosters.{RosterRow, most_places}
 use Rattle.firm_saved.specs.Saved.{untouched}
 use Rattle.firm_saved.specs.declared.saved.SavedPlace.{SavedPlace}
+use Rattle.firm_table.specs.Opened.{Opened}
 use Rattle.firm_table.specs.Places.{MarkedLine, Stay, Place, new_stay, opening_places, restored_places, after_lines}
 use Rattle.firm_table.specs.Places.{stay_of}
 use Rattle.firm_table.specs.Answers.{answer_of, tells_memory}
@@ -107,9 +108,9 @@ SavedTenantsAreIsolated = (saved other_saved : List SavedPlace) (lines other_lin
     → replies_to name (answers_from (restored_places saved) lines)
     ≡ replies_to name (answers_from (restored_places other_saved) other_lines)
 
--- if no answer says that memory was refused, the output is a function of the places at first and of the bytes of the
--- input
+-- if no answer says that memory was refused, the output is a function of the heading, of the places at first and of the
+-- bytes of the input
 abbrev pub PlacesNeedNoMarks : Type 0
-PlacesNeedNoMarks = (places : List Place) (input : List ℕ) (lines : List MarkedLine) → AreLinesFrom places input lines
-    → list_any tells_memory (answers_from places lines) ≡ false
-    → output_from places lines ≡ granted_output places input
+PlacesNeedNoMarks = (opened : Opened) (input : List ℕ) (lines : List MarkedLine) → AreLinesFrom opened input lines
+    → list_any tells_memory (answers_from opened.places lines) ≡ false
+    → output_from opened.places lines ≡ granted_output opened input

@@ -3,10 +3,11 @@ use Rattle.std.specs.Prelude.{◌≡◌, ℕ, ◌≤◌, ◌<◌, ◌⊎◌, Boo
 use Rattle.std.specs.List.{list_any}
 use Rattle.std.specs.Io.{IsEmptyOrEndsWith}
 use Rattle.std.specs.Io.KnownBytes.{Appends, Consumes, IsAtEnd}
-use Rattle.firm_table.specs.Places.{MarkedLine, Place, opening_places}
+use Rattle.firm_table.specs.Opened.{Opened, opened_roster}
+use Rattle.firm_table.specs.Places.{MarkedLine}
 use Rattle.firm_table.specs.Output.{output_from, AreLinesFrom}
 use Rattle.firm_text.specs.Lines.{is_line_feed}
-use Rattle.firm_text.specs.Rosters.{RosterRow}
+use Rattle.firm_text.specs.Rosters.{RosterIs}
 use Rattle.firm_table.specs.declared.faults.ServeFault.{ServeFault}
 use Rattle.firm_table.specs.declared.faults.ServeFault.TheVariants.{Read, Write, TooLong, Memory}
 
@@ -27,27 +28,27 @@ between bytes failed old new = device (bytes old) (bytes new) (failed new)
 
 -- what was written is the output for this input, with marks on exactly the lines whose answer says that memory was
 -- refused
-pub record AnswersFrom (places : List Place) (input : List ℕ)
+pub record AnswersFrom (opened : Opened) (input : List ℕ)
     (written written_after : Option (List ℕ)) : Type 0 where
   pub lines : List MarkedLine
-  pub are_lines : AreLinesFrom places input lines
-  pub wrote : Appends written written_after (output_from places lines)
+  pub are_lines : AreLinesFrom opened input lines
+  pub wrote : Appends written written_after (output_from opened.places lines)
 
 -- what was written is a prefix of such an output
-pub record BeginsAnswersFrom (places : List Place) (input : List ℕ)
+pub record BeginsAnswersFrom (opened : Opened) (input : List ℕ)
     (written written_after : Option (List ℕ)) : Type 0 where
   pub lines : List MarkedLine
-  pub are_lines : AreLinesFrom places input lines
+  pub are_lines : AreLinesFrom opened input lines
   pub count : ℕ
-  pub wrote : Appends written written_after (take count (output_from places lines))
+  pub wrote : Appends written written_after (take count (output_from opened.places lines))
 
 -- everything left to read was read, at most `most` bytes, what was written is the output for it, and no call has failed
-pub record ServedFrom (places : List Place) (most : ℕ) (reader writer : Device) : Type 0 where
+pub record ServedFrom (opened : Opened) (most : ℕ) (reader writer : Device) : Type 0 where
   pub input : List ℕ
   pub read : Consumes reader.before reader.after input
   pub at_end : IsAtEnd reader.after
   pub within : length input ≤ most
-  pub answers : AnswersFrom places input writer.before writer.after
+  pub answers : AnswersFrom opened input writer.before writer.after
   pub reads : reader.failed ≡ false
   pub writes : writer.failed ≡ false
 
@@ -74,25 +75,25 @@ AreWholeLines lines rest reader =
 
 -- whole lines and a rest were read, and what was written is a prefix of the output for those lines; the fault has its
 -- cause
-pub record StoppedFrom (places : List Place) (most : ℕ) (reader writer : Device) (fault : ServeFault) : Type 0 where
+pub record StoppedFrom (opened : Opened) (most : ℕ) (reader writer : Device) (fault : ServeFault) : Type 0 where
   pub answered : List ℕ
   pub rest : List ℕ
   pub read : Consumes reader.before reader.after (answered ++ rest)
   pub whole : AreWholeLines answered rest reader
   pub cause : IsCause fault (answered ++ rest) most reader.failed writer.failed
-  pub begins : BeginsAnswersFrom places answered writer.before writer.after
+  pub begins : BeginsAnswersFrom opened answered writer.before writer.after
 
 -- the output of a service that opens with a roster was written
-abbrev pub Answers : List RosterRow → List ℕ → Option (List ℕ) → Option (List ℕ) → Type 0
-Answers roster = AnswersFrom (opening_places roster)
+abbrev pub Answers : RosterIs → List ℕ → Option (List ℕ) → Option (List ℕ) → Type 0
+Answers roster = AnswersFrom (opened_roster roster)
 
 -- such a service has read all and written its output
-abbrev pub Served : List RosterRow → ℕ → Device → Device → Type 0
-Served roster = ServedFrom (opening_places roster)
+abbrev pub Served : RosterIs → ℕ → Device → Device → Type 0
+Served roster = ServedFrom (opened_roster roster)
 
 -- or ended with a fault
-abbrev pub Stopped : List RosterRow → ℕ → Device → Device → ServeFault → Type 0
-Stopped roster = StoppedFrom (opening_places roster)
+abbrev pub Stopped : RosterIs → ℕ → Device → Device → ServeFault → Type 0
+Stopped roster = StoppedFrom (opened_roster roster)
 
 -- the claim holds of the lines that were read whole; no line feed was read after them
 pub record UpToDate (IsTold : List ℕ → Option (List ℕ) → Option (List ℕ) → Type 0)

@@ -2,11 +2,11 @@
 
 ghost use Rattle.std.specs.Prelude.{◌≡◌, ℕ, ◌++◌, ◌∷◌, List, Option, [], false, OnOk, OnErr, IfErr};
 ghost use Rattle.firm_text.specs.Inputs.{input_lines};
-ghost use Rattle.firm_table.specs.Places.{Place};
+ghost use Rattle.firm_table.specs.Opened.{Opened};
 ghost use Rattle.firm_table.specs.Service.{AnswersFrom, BeginsAnswersFrom, IsWritingFault};
 
 use crate::faults::ServeFault;
-use firm_text::{Line, Sink, Source};
+use firm_text::{Heading, Line, Sink, Source};
 
 /// Answers lines in the order in which they are given. A clerk may hold answers back, and writes them in the order of
 /// their lines. A call ends early with `Write` if a call of the writer failed, and with `Memory` if memory for the
@@ -18,8 +18,8 @@ pub trait Clerk {
     /// Its value for this clerk.
     ghost kept: { Self → Self.Kept };
 
-    /// The places before the first line.
-    ghost opening: { Self → List Place };
+    /// What it opened with: the heading, and the places before the first line.
+    ghost opening: { Self → Opened };
 
     /// The clerk can be given a line.
     ghost is_open: { Self → Type 0 };
@@ -34,16 +34,20 @@ pub trait Clerk {
     /// Each answer was written.
     ghost is_finished: { Self → Type 0 };
 
+    /// The heading under which lines are read for it.
+    fn heading(&self) -> Heading
+        ensures { result ≡ (opening self.now).heading };
+
     /// Answers one more line. Meanwhile it writes only answers, in order.
     fn answer<W: Sink>(&mut self, writer: &mut W, line: Line) -> Result<(), ServeFault>
         requires writer { W.write_failed writer.old ≡ false }
         requires open { is_open self.old }
         ensures told { OnOk result ((text after : List ℕ) (written : Option (List ℕ))
-            → input_lines after ≡ input_lines text ++ line ∷ []
+            → input_lines (opening self.old).heading after ≡ input_lines (opening self.old).heading text ++ line ∷ []
             → told self.old text written (W.written writer.old)
             → told self.new after written (W.written writer.new)) }
         ensures begins { OnErr result ((text after : List ℕ) (written : Option (List ℕ))
-            → input_lines after ≡ input_lines text ++ line ∷ []
+            → input_lines (opening self.old).heading after ≡ input_lines (opening self.old).heading text ++ line ∷ []
             → told self.old text written (W.written writer.old)
             → BeginsAnswersFrom (opening self.old) after written (W.written writer.new)) }
         ensures cause { IfErr result (λ fault. IsWritingFault fault (W.write_failed writer.new)) }

@@ -1,15 +1,15 @@
 //! What a service opens with.
 
-ghost use Rattle.std.specs.Prelude.{◌≡◌, ◌<◌, ◌≤◌, IfOk, IsSome, length, option_map, slice_index_or};
+ghost use Rattle.std.specs.Prelude.{◌≡◌, ◌<◌, ◌≤◌, All, IfOk, IsSome, length, option_map, slice_index_or};
 ghost use Rattle.firm_text.specs.Registers.{most_admissions};
 ghost use Rattle.firm_text.specs.Rosters.{most_places};
 ghost use Rattle.firm_saved.specs.Saved.{AreGivenInOrder, entry_of, untouched, register_of as register_saved};
-ghost use Rattle.firm_table.specs.Places.{book_of, opening_places, register_of, unused_place};
-ghost use Rattle.firm_table.specs.Openings.{place_opened, places_opened};
+ghost use Rattle.firm_table.specs.Places.{StayFits, book_of, opening_places, register_of, unused_place};
+ghost use Rattle.firm_table.specs.Openings.{opened, place_opened, places_opened};
 
 use firm_saved::{Saved, SavedPlace, places_are_given_in_order};
 use firm_tenant::Tenant;
-use firm_text::{Entry, PLACES, Register, Roster};
+use firm_text::{Entry, Heading, PLACES, Register, Roster};
 use std::alloc::{AllocError, Global};
 
 /// What a service opens with.
@@ -22,6 +22,17 @@ pub enum Opening<'a> {
 }
 
 impl Opening<'_> {
+    /// The heading under which the lines of the service are read. It fits the limits of each tenant before the first.
+    pub fn heading(&self) -> Heading
+        ensures heading { result ≡ (opened self.now).heading }
+        ensures fit { All (StayFits (opened self.now).heading) (places_opened self.now) }
+    {
+        match self {
+            Opening::Roster(roster) => roster.heading(),
+            Opening::State(saved) => saved.heading(),
+        }
+    }
+
     /// How many places there are: 64.
     pub fn places(&self) -> usize
         ensures all { result ≡ length (places_opened self.now) }
@@ -80,7 +91,7 @@ impl Opening<'_> {
 
 // The register of a saved state.
 fn restored_register(saved: &Saved) -> Register
-    ensures places { result ≡ register_saved saved.now }
+    ensures places { result ≡ register_saved saved.now.places }
     ensures in_order { AreGivenInOrder result }
 {
     let places = saved.places();
@@ -108,9 +119,9 @@ fn entry_of(place: &SavedPlace) -> Entry
 // 1 for a place of the roster's, and 0 for another.
 fn rows_at(roster: &Roster, place: usize) -> u32
     requires { place < most_places }
-    ensures count { result ≡ (slice_index_or (opening_places roster.now) place unused_place).admissions }
+    ensures count { result ≡ (slice_index_or (opening_places roster.now.rows) place unused_place).admissions }
     ensures few { result ≤ most_admissions }
-    ensures some { IsSome (slice_index_or (opening_places roster.now) place unused_place).stay → 0 < result }
+    ensures some { IsSome (slice_index_or (opening_places roster.now.rows) place unused_place).stay → 0 < result }
 {
     // A roster has no more tenants than a service has places.
     prove!(roster.len() <= PLACES);
@@ -124,7 +135,7 @@ fn rows_at(roster: &Roster, place: usize) -> u32
 fn admitted_at(alloc: Global, roster: &Roster, place: usize) -> Result<Option<Tenant>, AllocError>
     requires { place < most_places }
     ensures { IfOk result (λ tenant. tenant
-        ≡ option_map book_of (slice_index_or (opening_places roster.now) place unused_place).stay) }
+        ≡ option_map book_of (slice_index_or (opening_places roster.now.rows) place unused_place).stay) }
 {
     // A roster has no more tenants than a service has places.
     prove!(roster.len() <= PLACES);
@@ -138,7 +149,7 @@ fn admitted_at(alloc: Global, roster: &Roster, place: usize) -> Result<Option<Te
 fn restored_at(alloc: Global, saved: &Saved, place: usize) -> Result<Option<Tenant>, AllocError>
     requires { place < most_places }
     ensures { IfOk result (λ tenant. tenant
-        ≡ option_map (λ tenant. tenant.1) (slice_index_or saved.now place untouched).tenant) }
+        ≡ option_map (λ tenant. tenant.1) (slice_index_or saved.now.places place untouched).tenant) }
 {
     let opened = &saved.places()[place];
     match &opened.tenant {

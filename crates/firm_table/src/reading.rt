@@ -18,7 +18,8 @@ pub const MOST_INPUT: u64 = 4_294_967_296;
 /// How many bytes one read asks for.
 const PIECE: usize = 4_096;
 
-/// Has a clerk answer the lines of an input of at most `most` bytes, itself at most 2^32. Before each read the clerk
+/// Has a clerk answer the lines of an input of at most `most` bytes, itself at most 2^32, which are read under the
+/// clerk's heading. Before each read the clerk
 /// writes the answers that it can, including those that arrive while a read would wait; at the end it writes all
 /// answers, and the writer is flushed.
 ///
@@ -131,7 +132,7 @@ fn answer_first<'b, W: Sink, C: Clerk>(
     if !fed.ended {
         return Ok(behind);
     }
-    let line = cutter.take();
+    let line = cutter.take_under(clerk.heading());
     match clerk.answer(writer, line) {
         Ok(()) => Ok(behind),
         Err(fault) => Err(fault),
@@ -195,6 +196,6 @@ fn answer_rest<W: Sink, C: Clerk>(
     if !cutter.rest() {
         return Ok(());
     }
-    let line = cutter.take();
+    let line = cutter.take_under(clerk.heading());
     clerk.answer(writer, line)
 }

@@ -1,8 +1,8 @@
 //! The service on one thread: the lines of an input are answered in turn.
 
 ghost use Rattle.std.specs.Prelude.{◌≡◌, ◌≤◌, ◌^◌, Bool, [], false, OnOk, IfOk, IfErr};
-ghost use Rattle.firm_table.specs.Ends.{ServedTo};
-ghost use Rattle.firm_table.specs.Openings.{places_opened};
+ghost use Rattle.firm_table.specs.Ends.{ServedTo, TenantsFit};
+ghost use Rattle.firm_table.specs.Openings.{opened};
 ghost use Rattle.firm_table.specs.Progress.{state_is, tenants_at};
 ghost use Rattle.firm_table.specs.Service.{Answers, Served, Stopped, UpToDate, between, device};
 ghost use Rattle.firm_table.specs.Service.{AnswersFrom, ServedFrom, StoppedFrom};
@@ -16,8 +16,8 @@ use crate::openings::Opening;
 use crate::reading::serve_lines;
 use crate::tenants::Tenants;
 use crate::writing::write_held;
-use firm_tenant::unmarked_steps_are_granted;
-use firm_text::{Line, Roster, Sink, Source, refuses_for_the_form};
+use firm_tenant::{steps_count_once, unmarked_steps_are_granted};
+use firm_text::{Heading, Line, Roster, Sink, Source, admits_what_fits, refuses_for_the_form};
 use std::alloc::{AllocError, Global};
 
 /// Once the held answers have this many bytes, they are written before the next line is answered.
@@ -66,11 +66,11 @@ pub fn serve_one_from<R: Source, W: Sink>(
     requires most { most ≤ 2 ^ 32 }
     requires reader { R.read_failed reader.old ≡ false }
     requires writer { W.write_failed writer.old ≡ false }
-    ensures served { OnOk result (ServedFrom (places_opened opening.entry) most
+    ensures served { OnOk result (ServedFrom (opened opening.entry) most
         (between R.left R.read_failed reader.old reader.new) (between W.written W.write_failed writer.old writer.new)) }
-    ensures stopped { IfErr result (StoppedFrom (places_opened opening.entry) most
+    ensures stopped { IfErr result (StoppedFrom (opened opening.entry) most
         (between R.left R.read_failed reader.old reader.new) (between W.written W.write_failed writer.old writer.new)) }
-    ensures in_full { IfErr result (λ fault. fault ≡ Read → UpToDate (AnswersFrom (places_opened opening.entry))
+    ensures in_full { IfErr result (λ fault. fault ≡ Read → UpToDate (AnswersFrom (opened opening.entry))
         (between R.left R.read_failed reader.old reader.new) (between W.written W.write_failed writer.old writer.new)) }
 {
     let Ok(mut service) = Service::open(alloc, opening, false) else {
@@ -92,16 +92,21 @@ pub fn serve_to_state<R: Source, W: Sink>(
     requires most { most ≤ 2 ^ 32 }
     requires reader { R.read_failed reader.old ≡ false }
     requires writer { W.write_failed writer.old ≡ false }
-    ensures served { IfOk result (ServedTo (places_opened opening.entry) most
+    ensures served { IfOk result (ServedTo (opened opening.entry) most
         (between R.left R.read_failed reader.old reader.new) (between W.written W.write_failed writer.old writer.new)) }
-    ensures stopped { IfErr result (StoppedFrom (places_opened opening.entry) most
+    ensures fit { IfOk result (TenantsFit (opened opening.entry).heading) }
+    ensures stopped { IfErr result (StoppedFrom (opened opening.entry) most
         (between R.left R.read_failed reader.old reader.new) (between W.written W.write_failed writer.old writer.new)) }
-    ensures in_full { IfErr result (λ fault. fault ≡ Read → UpToDate (AnswersFrom (places_opened opening.entry))
+    ensures in_full { IfErr result (λ fault. fault ≡ Read → UpToDate (AnswersFrom (opened opening.entry))
         (between R.left R.read_failed reader.old reader.new) (between W.written W.write_failed writer.old writer.new)) }
 {
     let Ok(mut service) = Service::open(alloc, opening, true) else {
         return Err(ServeFault::Memory);
     };
+    // The tenants before the first line fit the heading; by laws so does each that a line admits, and steps keep limits.
+    opening.heading();
+    admits_what_fits();
+    steps_count_once();
     match serve_lines(reader, writer, &mut service, most) {
         Ok(()) => Ok(service.tenants),
         Err(fault) => Err(fault),
@@ -112,7 +117,6 @@ pub fn serve_to_state<R: Source, W: Sink>(
 #[derive(Drop)]
 pub(crate) struct Service<'a> {
     alloc: Global,
-    // Only clauses read it.
     opening: Opening<'a>,
     pub(crate) tenants: Tenants,
     output: Vec<u8>,
@@ -126,8 +130,8 @@ impl<'a> Service<'a> {
         opening: Opening<'a>,
         all_granted: bool,
     ) -> Result<Service<'a>, AllocError>
-        ensures state { IfOk result (λ service. let places = places_opened opening.entry in
-            state_of service ≡ state_is places (tenants_at places) []) }
+        ensures state { IfOk result (λ service. let before = opened opening.entry in
+            state_of service ≡ state_is before (tenants_at before.places) []) }
         ensures granted { IfOk result (λ service. service.all_granted ≡ all_granted) }
     {
         Ok(Service {
@@ -146,7 +150,7 @@ impl Clerk for Service<'_> {
 
     ghost kept = { λ service. service.all_granted };
 
-    ghost opening = { λ service. places_opened service.opening };
+    ghost opening = { λ service. opened service.opening };
 
     ghost is_open = { λ _. Unit {0} };
 
@@ -155,6 +159,10 @@ impl Clerk for Service<'_> {
     ghost is_written_out = { λ service. service.output.items ≡ [] };
 
     ghost is_finished = { λ service. service.output.items ≡ [] };
+
+    fn heading(&self) -> Heading {
+        self.opening.heading()
+    }
 
     fn answer<W: Sink>(&mut self, writer: &mut W, line: Line) -> Result<(), ServeFault> {
         let before = self.output.len();

@@ -47,7 +47,7 @@ impl Table {
     pub fn open(alloc: Global, roster: &Roster, workers: usize) -> Result<Table, AllocError>
         requires some { 1 ≤ workers }
         requires few { workers ≤ 8 }
-        ensures { IfOk result (λ table. table ≡ opening_table roster.now workers) }
+        ensures { IfOk result (λ table. table ≡ opening_table roster.now.rows workers) }
     {
         let queue = VecDeque::with_capacity(alloc, PLACES)?;
         Ok(Table {
@@ -124,7 +124,7 @@ impl Table {
 
 // The seats of a roster's tenants, all of them home, followed by empty ones.
 fn seats_of(alloc: Global, roster: &Roster) -> Result<Vec<Seat>, AllocError>
-    ensures opening { IfOk result (λ seats. seats.items ≡ opening_seats roster.now) }
+    ensures opening { IfOk result (λ seats. seats.items ≡ opening_seats roster.now.rows) }
     ensures few { IfOk result (λ seats. length seats.items ≤ PLACES) }
 {
     // A roster has no more tenants than a service has places.

@@ -6,10 +6,10 @@ ghost use Rattle.std.specs.List.{flat_map};
 ghost use Rattle.firm_text.specs.Rosters.{most_places};
 ghost use Rattle.firm_text.specs.declared.inputs.Line.TheVariants.{For, Operator};
 ghost use Rattle.firm_text.specs.declared.operator.OperatorLine.TheVariants.{Admit, Retire};
-ghost use Rattle.firm_saved.specs.Saved.{IsSoundPlace, IsSoundSaved};
+ghost use Rattle.firm_saved.specs.Saved.{IsSoundPlace, IsSoundSaved, saved_with};
 ghost use Rattle.firm_saved.specs.StateText.{place_rows, row_text, state_text};
 ghost use Rattle.firm_table.specs.declared.answers.LineAnswer.TheVariants.{ToOperator};
-ghost use Rattle.firm_table.specs.Ends.{place_with, tenants_state};
+ghost use Rattle.firm_table.specs.Ends.{TenantsFit, place_with, tenants_state};
 ghost use Rattle.firm_table.specs.Openings.{places_opened};
 ghost use Rattle.firm_table.specs.Progress.{IsRight, books_of, tenants_at};
 ghost use Rattle.firm_table.specs.inner.Books.{book_named};
@@ -20,7 +20,7 @@ use crate::openings::Opening;
 use firm_rules::{Command, Limits, Name, Reply};
 use firm_saved::{Row, given_count, places_are_given_in_order, put_book, put_heading, put_row};
 use firm_tenant::Tenant;
-use firm_text::{Entry, Line, OperatorLine, OperatorRefusal, OperatorReply, Register};
+use firm_text::{Entry, Heading, Line, OperatorLine, OperatorRefusal, OperatorReply, Register};
 use std::alloc::{AllocError, Global};
 use std::marker::Model;
 
@@ -105,13 +105,16 @@ impl Tenants {
         Some(tenant)
     }
 
-    /// Adds the text of their state. Fails if memory for it is refused; part of the text may then have been added.
-    pub fn put_state(&self, output: &mut Vec<u8>) -> Result<(), AllocError>
+    /// Adds the text of the state of a service with this heading and these tenants. Fails if memory for it is refused;
+    /// part of the text may then have been added.
+    pub fn put_state(&self, output: &mut Vec<u8>, heading: Heading) -> Result<(), AllocError>
+        requires { TenantsFit heading self.now }
         ensures kept { StartsWith output.new.items output.old.items }
-        ensures text { OnOk result (output.new.items ≡ output.old.items ++ state_text (tenants_state self.now)) }
-        ensures sound { OnOk result (IsSoundSaved (tenants_state self.now)) }
+        ensures text { OnOk result
+            (output.new.items ≡ output.old.items ++ state_text (saved_with heading (tenants_state self.now))) }
+        ensures sound { OnOk result (IsSoundSaved (saved_with heading (tenants_state self.now))) }
     {
-        let Ok(()) = put_heading(output) else {
+        let Ok(()) = put_heading(output, heading) else {
             return Err(AllocError);
         };
         let given = given_count(self.register.entries());

@@ -2,7 +2,7 @@
 
 ghost use Rattle.std.specs.Prelude.{◌≡◌, ◌^◌, ℕ, List, Option, [], false, OnOk, OnErr, IfErr, IfSome};
 ghost use Rattle.firm_rules.specs.Book.{Book};
-ghost use Rattle.firm_table.specs.Openings.{places_opened};
+ghost use Rattle.firm_table.specs.Openings.{opened};
 ghost use Rattle.firm_table.specs.Service.{AnswersFrom, BeginsAnswersFrom, IsWritingFault, ServedFrom, StoppedFrom};
 ghost use Rattle.firm_table.specs.Service.{UpToDate, between};
 ghost use Rattle.firm_table.specs.declared.faults.ServeFault.TheVariants.{Read};
@@ -16,7 +16,7 @@ use crate::openings::Opening;
 use crate::reading::{MOST_INPUT, serve_lines};
 use crate::serving::Service;
 use firm_rules::{Command, Name, RecentCosts, Rows};
-use firm_text::{Line, Sink, Source};
+use firm_text::{Heading, Line, Sink, Source};
 use std::alloc::{AllocError, Global};
 
 /// A watcher of a service's rounds, which is shown the tenant's book before each and its rows after it.
@@ -49,11 +49,11 @@ pub fn serve_watched_from<R: Source, W: Sink, V: Watcher>(
 ) -> Result<(), ServeFault>
     requires reader { R.read_failed reader.old ≡ false }
     requires writer { W.write_failed writer.old ≡ false }
-    ensures served { OnOk result (ServedFrom (places_opened opening.entry) (2 ^ 32)
+    ensures served { OnOk result (ServedFrom (opened opening.entry) (2 ^ 32)
         (between R.left R.read_failed reader.old reader.new) (between W.written W.write_failed writer.old writer.new)) }
-    ensures stopped { IfErr result (StoppedFrom (places_opened opening.entry) (2 ^ 32)
+    ensures stopped { IfErr result (StoppedFrom (opened opening.entry) (2 ^ 32)
         (between R.left R.read_failed reader.old reader.new) (between W.written W.write_failed writer.old writer.new)) }
-    ensures in_full { IfErr result (λ fault. fault ≡ Read → UpToDate (AnswersFrom (places_opened opening.entry))
+    ensures in_full { IfErr result (λ fault. fault ≡ Read → UpToDate (AnswersFrom (opened opening.entry))
         (between R.left R.read_failed reader.old reader.new) (between W.written W.write_failed writer.old writer.new)) }
 {
     let Ok(service) = Service::open(alloc, opening, false) else {
@@ -90,10 +90,10 @@ impl<V: Watcher> Watched<'_, '_, V> {
             → ToldAs self.new.service.all_granted (state_of self.new.service) text written (W.written writer.new)) }
         ensures begins { OnErr result ((text : List ℕ) (written : Option (List ℕ))
             → ToldAs self.old.service.all_granted (state_of self.old.service) text written (W.written writer.old)
-            → BeginsAnswersFrom (places_opened self.old.service.opening) text written (W.written writer.new)) }
+            → BeginsAnswersFrom (opened self.old.service.opening) text written (W.written writer.new)) }
         ensures cause { IfErr result (λ fault. IsWritingFault fault (W.write_failed writer.new)) }
         ensures well { OnOk result (W.write_failed writer.new ≡ false) }
-        ensures opening { places_opened self.new.service.opening ≡ places_opened self.old.service.opening }
+        ensures opening { opened self.new.service.opening ≡ opened self.old.service.opening }
     {
         if !self.service.tenants.has_solved() {
             return Ok(());
@@ -113,7 +113,7 @@ impl<V: Watcher> Watched<'_, '_, V> {
 impl<V: Watcher> Clerk for Watched<'_, '_, V> {
     ghost kept = { λ _. tt };
 
-    ghost opening = { λ watched. places_opened watched.service.opening };
+    ghost opening = { λ watched. opened watched.service.opening };
 
     ghost is_open = { λ _. Unit {0} };
 
@@ -122,6 +122,10 @@ impl<V: Watcher> Clerk for Watched<'_, '_, V> {
     ghost is_written_out = { λ watched. watched.service.output.items ≡ [] };
 
     ghost is_finished = { λ watched. watched.service.output.items ≡ [] };
+
+    fn heading(&self) -> Heading {
+        self.service.heading()
+    }
 
     fn answer<W: Sink>(&mut self, writer: &mut W, line: Line) -> Result<(), ServeFault> {
         let Some(name) = round_of(&line) else {

@@ -3,6 +3,7 @@ mod RegisterExamples
 mod OperatorExamples
 pub mod Cuts
 pub mod Commas
+pub mod Fitting
 pub mod Forms
 pub mod Cutting
 pub mod Digits

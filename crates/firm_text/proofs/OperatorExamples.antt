@@ -2,7 +2,8 @@
 use Rattle.std.proofs.Common.{◌≡◌, ◌++◌, refl, codes}
 use Rattle.std.specs.Prelude.{replicate}
 use Rattle.firm_rules.specs.Limits.{TenantLimits}
-use Rattle.firm_text.specs.Inputs.{line_of}
+use Rattle.firm_text.specs.Inputs.{line_of, line_under}
+use Rattle.firm_text.specs.declared.headings.Heading.TheVariants.{Plain, Extended}
 use Rattle.firm_text.specs.declared.inputs.Line.TheVariants.{Nothing, Long, Nameless, Operator}
 use Rattle.firm_text.specs.declared.operator.OperatorLine.TheVariants.{Admit, Retire, Faulty}
 use Rattle.firm_text.specs.declared.operator.OperatorRefusal.TheVariants.{BadCommand, BadRow, BadName, BadNumber}
@@ -16,8 +17,32 @@ an_admission = refl
 seven_fields : line_of (codes "+ admit b,2,0,5,0,0,0") ≡ Operator (Admit (codes "b") small)
 seven_fields = refl
 
-eight_fields : line_of (codes "+ admit b,2,0,5,0,0,0,3") ≡ Operator (Admit (codes "b") (record small { patience = 3 }))
+-- an eighth field is read under an extended heading alone, where it may be left out
+eight_fields : line_under Extended (codes "+ admit b,2,0,5,0,0,0,3")
+    ≡ Operator (Admit (codes "b") (record small { patience = 3 }))
 eight_fields = refl
+
+seven_of_eight : line_under Extended (codes "+ admit b,2,0,5,0,0,0") ≡ Operator (Admit (codes "b") small)
+seven_of_eight = refl
+
+six_of_eight : line_under Extended (codes "+ admit b,2,0,5,0,0") ≡ Operator (Admit (codes "b") small)
+six_of_eight = refl
+
+plain_eight_fields : line_of (codes "+ admit b,2,0,5,0,0,0,3") ≡ Operator (Faulty BadRow)
+plain_eight_fields = refl
+
+-- under a plain one it is too many, whatever the fields are
+plain_longest : line_under Plain (codes "+ admit b,2,0,5,0,0,0,1000000") ≡ Operator (Faulty BadRow)
+plain_longest = refl
+
+plain_wrong_name : line_of (codes "+ admit B,2,0,5,0,0,0,3") ≡ Operator (Faulty BadRow)
+plain_wrong_name = refl
+
+plain_wrong_number : line_of (codes "+ admit b,x,0,5,0,0,0,y") ≡ Operator (Faulty BadRow)
+plain_wrong_number = refl
+
+extended_wrong_name : line_under Extended (codes "+ admit B,2,0,5,0,0,0,x") ≡ Operator (Faulty BadName)
+extended_wrong_name = refl
 
 a_retirement : line_of (codes " + retire  b ") ≡ Operator (Retire (codes "b"))
 a_retirement = refl
@@ -38,13 +63,19 @@ five_fields = refl
 nine_fields : line_of (codes "+ admit c,2,0,1,0,0,0,0,0") ≡ Operator (Faulty BadRow)
 nine_fields = refl
 
+nine_of_eight : line_under Extended (codes "+ admit c,2,0,1,0,0,0,0,0") ≡ Operator (Faulty BadRow)
+nine_of_eight = refl
+
+five_of_eight : line_under Extended (codes "+ admit c,2,0,1,0") ≡ Operator (Faulty BadRow)
+five_of_eight = refl
+
 a_wrong_name : line_of (codes "+ admit C,1,0,1,0,0") ≡ Operator (Faulty BadName)
 a_wrong_name = refl
 
 a_wrong_number : line_of (codes "+ admit c,1,0,1,0,0") ≡ Operator (Faulty BadNumber)
 a_wrong_number = refl
 
-a_longer_patience : line_of (codes "+ admit c,2,0,1,0,0,0,1000001") ≡ Operator (Faulty BadNumber)
+a_longer_patience : line_under Extended (codes "+ admit c,2,0,1,0,0,0,1000001") ≡ Operator (Faulty BadNumber)
 a_longer_patience = refl
 
 -- quotes are no quotes

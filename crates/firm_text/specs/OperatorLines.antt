@@ -5,9 +5,10 @@ use Rattle.std.specs.Option.{ok_or}
 use Rattle.std.specs.Result.{result_map_both}
 use Rattle.firm_rules.specs.Names.{name_of}
 use Rattle.firm_text.specs.Commands.{◌>>=◌}
-use Rattle.firm_text.specs.Rosters.{RosterRow, tenant_told}
+use Rattle.firm_text.specs.Rosters.{RosterRow, told_under}
 use Rattle.firm_text.specs.declared.faults.RosterFault.{RosterFault}
 use Rattle.firm_text.specs.declared.faults.RosterFault.TheVariants.{BadName as RowName, BadNumber as RowNumber}
+use Rattle.firm_text.specs.declared.headings.Heading.{Heading}
 use Rattle.firm_text.specs.declared.operator.OperatorLine.{OperatorLine}
 use Rattle.firm_text.specs.declared.operator.OperatorLine.TheVariants.{Admit, Retire, Faulty}
 use Rattle.firm_text.specs.declared.operator.OperatorRefusal.{OperatorRefusal}
@@ -28,16 +29,17 @@ row_refusal RowName = BadName
 row_refusal RowNumber = BadNumber
 row_refusal _ = BadRow
 
--- the tenant that a row describes, whose fields stand between commas, or what is wrong with it
-abbrev pub row_told : List ℕ → Result RosterRow OperatorRefusal
-row_told row = result_map_both (λ tenant. tenant) row_refusal (tenant_told (slice_split is_comma row))
+-- the tenant that a row under this heading describes, whose fields stand between commas, or what is wrong with it
+abbrev pub row_told : Heading → List ℕ → Result RosterRow OperatorRefusal
+row_told heading row =
+    result_map_both (λ tenant. tenant) row_refusal (told_under heading (slice_split is_comma row))
 
 -- `admit ROW`
-abbrev pub admit_line : List (List ℕ) → Result OperatorLine OperatorRefusal
-admit_line (row ∷ []) = do
-  tenant ← row_told row
+abbrev pub admit_line : Heading → List (List ℕ) → Result OperatorLine OperatorRefusal
+admit_line heading (row ∷ []) = do
+  tenant ← row_told heading row
   Ok (Admit tenant.0 tenant.1)
-admit_line _ = Err BadCommand
+admit_line heading _ = Err BadCommand
 
 -- `retire NAME`
 abbrev pub retire_line : List (List ℕ) → Result OperatorLine OperatorRefusal
@@ -48,10 +50,10 @@ retire_line _ = Err BadCommand
 
 -- what a verb and the words after it ask for, or the first fault: the count of words, then of fields, then the name,
 -- then a number
-abbrev pub operator_verb : List (List ℕ) → Result OperatorLine OperatorRefusal
-operator_verb [] = Err BadCommand
-operator_verb (verb ∷ rest) =
-    if bytes_eq verb (codes "admit") then admit_line rest
+abbrev pub operator_verb : Heading → List (List ℕ) → Result OperatorLine OperatorRefusal
+operator_verb heading [] = Err BadCommand
+operator_verb heading (verb ∷ rest) =
+    if bytes_eq verb (codes "admit") then admit_line heading rest
     else if bytes_eq verb (codes "retire") then retire_line rest
     else Err BadCommand
 
@@ -61,5 +63,5 @@ line_or_fault (Ok line) = line
 line_or_fault (Err refusal) = Faulty refusal
 
 -- what the words after the operator's `+` ask for
-abbrev pub operator_line_of : List (List ℕ) → OperatorLine
-operator_line_of rest = line_or_fault (operator_verb rest)
+abbrev pub operator_line_of : Heading → List (List ℕ) → OperatorLine
+operator_line_of heading rest = line_or_fault (operator_verb heading rest)

@@ -3,12 +3,14 @@
 ghost use Rattle.std.specs.Prelude.{◌≡◌, ◌≤◌, ◌+◌, ◌++◌, ℕ, List, [], length, take, min, false, nat_lt};
 ghost use Rattle.std.specs.List.{position_or_len};
 ghost use Rattle.std.specs.Str.Lines.{strip_carriage_return};
-ghost use Rattle.firm_text.specs.Inputs.{line_of};
+ghost use Rattle.firm_text.specs.Inputs.{line_of, line_under};
+ghost use Rattle.firm_text.specs.declared.headings.Heading.{Heading as HeadingRow};
 ghost use Rattle.firm_text.specs.Lines.{is_filled, is_line_feed};
 ghost use Rattle.firm_text.specs.Cutters.{StandsFor, most_bytes_held, most_counted};
 
+use crate::headings::Heading;
 use crate::inputs::Line;
-use crate::reading::line;
+use crate::reading::line_under;
 use std::marker::Model;
 
 /// How many bytes of a line are held: the longest line and a carriage return.
@@ -76,13 +78,24 @@ impl Cutter {
         }
     }
 
-    /// What the line is: one that has ended, or the rest of the input. The cutter then begins the next line.
+    /// What the line is under a plain heading: one that has ended, or the rest of the input. The cutter then begins the
+    /// next line.
     pub fn take(&mut self) -> Line
         ensures line { (text : List ℕ) → StandsFor self.old text → result ≡ line_of (strip_carriage_return text) }
         ensures stands { StandsFor self.new [] }
         ensures open { self.new.has_ended ≡ false }
     {
-        let taken = line(self.told());
+        self.take_under(Heading::Plain)
+    }
+
+    /// The same under this heading.
+    pub fn take_under(&mut self, heading: Heading) -> Line
+        ensures line { (text : List ℕ) → StandsFor self.old text
+            → result ≡ line_under heading (strip_carriage_return text) }
+        ensures stands { StandsFor self.new [] }
+        ensures open { self.new.has_ended ≡ false }
+    {
+        let taken = line_under(heading, self.told());
         self.count = 0;
         self.has_ended = false;
         taken
@@ -97,8 +110,8 @@ impl Cutter {
 
     // The first bytes of a line as long as the count goes decide what it is, regardless of its last byte.
     fn told(&self) -> &[u8]
-        ensures { (text : List ℕ) → StandsFor self.now text
-            → line_of result.now ≡ line_of (strip_carriage_return text) }
+        ensures { (heading : HeadingRow) (text : List ℕ) → StandsFor self.now text
+            → line_under heading result.now ≡ line_under heading (strip_carriage_return text) }
     {
         if self.count == MOST_COUNTED {
             &self.bytes

@@ -7,6 +7,7 @@ ghost use Rattle.firm_text.specs.OperatorLines.{row_told};
 
 use crate::commands::is_word;
 use crate::faults::RosterFault;
+use crate::headings::Heading;
 use crate::operator::{OperatorLine, OperatorRefusal};
 use crate::roster_text::told_tenant;
 use crate::row_fields::row_fields;
@@ -15,23 +16,23 @@ use firm_rules::{Limits, Name};
 
 /// What the words after the operator's `+` ask for. A tenant's line does not pay for its locals.
 #[inline(never)]
-pub fn operator_line(line: &[u8]) -> OperatorLine
-    ensures { result ≡ operator_line_of (words line.now) }
+pub fn operator_line(heading: Heading, line: &[u8]) -> OperatorLine
+    ensures { result ≡ operator_line_of heading (words line.now) }
 {
-    match verb(line) {
+    match verb(heading, line) {
         Ok(line) => line,
         Err(refusal) => OperatorLine::Faulty(refusal),
     }
 }
 
-fn verb(line: &[u8]) -> Result<OperatorLine, OperatorRefusal>
-    ensures { result ≡ operator_verb (words line.now) }
+fn verb(heading: Heading, line: &[u8]) -> Result<OperatorLine, OperatorRefusal>
+    ensures { result ≡ operator_verb heading (words line.now) }
 {
     let Some((verb, rest)) = next_word(line) else {
         return Err(OperatorRefusal::BadCommand);
     };
     if is_word(verb, "admit") {
-        admit(rest)
+        admit(heading, rest)
     } else if is_word(verb, "retire") {
         retire(rest)
     } else {
@@ -39,13 +40,13 @@ fn verb(line: &[u8]) -> Result<OperatorLine, OperatorRefusal>
     }
 }
 
-fn admit(line: &[u8]) -> Result<OperatorLine, OperatorRefusal>
-    ensures { result ≡ admit_line (words line.now) }
+fn admit(heading: Heading, line: &[u8]) -> Result<OperatorLine, OperatorRefusal>
+    ensures { result ≡ admit_line heading (words line.now) }
 {
     let Some(row) = only_word(line) else {
         return Err(OperatorRefusal::BadCommand);
     };
-    let (name, limits) = row_told(row)?;
+    let (name, limits) = row_told(heading, row)?;
     Ok(OperatorLine::Admit(name, limits))
 }
 
@@ -61,13 +62,16 @@ fn retire(line: &[u8]) -> Result<OperatorLine, OperatorRefusal>
     Ok(OperatorLine::Retire(name))
 }
 
-// The tenant that a row describes, whose fields stand between commas.
-fn row_told(row: &[u8]) -> Result<(Name, Limits), OperatorRefusal>
-    ensures { result ≡ row_told row.now }
+// The tenant that a row under this heading describes, whose fields stand between commas.
+fn row_told(heading: Heading, row: &[u8]) -> Result<(Name, Limits), OperatorRefusal>
+    ensures { result ≡ row_told heading row.now }
 {
     let Some(fields) = row_fields(row) else {
         return Err(OperatorRefusal::BadRow);
     };
+    if let (Heading::Plain, Some(_)) = (heading, fields.patience) {
+        return Err(OperatorRefusal::BadRow);
+    }
     told_tenant(&fields).map_err(row_refusal)
 }
 

@@ -47,7 +47,7 @@ impl Model for Register {
 impl Register {
     /// The places of the roster's tenants, in its order, and then empty ones. A roster's row counts as an admission.
     pub fn of(roster: &Roster) -> Register
-        ensures { result ≡ first_places roster.now }
+        ensures { result ≡ first_places roster.now.rows }
     {
         let mut places = [Entry::EMPTY; PLACES];
         for at in 0..roster.len() {

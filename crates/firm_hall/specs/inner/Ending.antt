@@ -1,6 +1,6 @@
 -- How a service ends, and the desks of a hall that no longer serves.
 use Rattle.std.specs.Prelude.{◌≡◌, ℕ, All, List, Result, Ok, Err}
-use Rattle.firm_table.specs.Places.{Place}
+use Rattle.firm_table.specs.Opened.{Opened}
 use Rattle.firm_table.specs.Service.{Device, StoppedFrom}
 use Rattle.firm_table.specs.declared.faults.ServeFault.{ServeFault}
 use Rattle.firm_rounds.specs.Passes.{QueueId}
@@ -23,6 +23,6 @@ pub record AreOf (id : QueueId) (desks : List DeskIs) (empty : List PlaceIs) : T
   pub places : All (λ place. place.queue ≡ id) empty
 
 -- the service reached the end of the input, or stopped with a fault
-abbrev pub Ran : List Place → ℕ → Device → Device → Result Ended ServeFault → Type 0
+abbrev pub Ran : Opened → ℕ → Device → Device → Result Ended ServeFault → Type 0
 Ran opening most reader writer (Ok ended) = ServedWithFrom opening most reader writer ended.rounds
 Ran opening most reader writer (Err fault) = StoppedFrom opening most reader writer fault

@@ -13,6 +13,7 @@ use Rattle.firm_text.specs.declared.operator.OperatorLine.{OperatorLine}
 use Rattle.firm_text.specs.declared.operator.OperatorLine.TheVariants.{Admit, Retire, Faulty}
 use Rattle.firm_text.specs.declared.operator.OperatorReply.{OperatorReply}
 use Rattle.firm_text.specs.declared.registers.Entry.{Entry}
+use Rattle.firm_table.specs.Opened.{Opened}
 use Rattle.firm_table.specs.Places.{Place, book_of}
 use Rattle.firm_table.specs.Output.{answers_from}
 use Rattle.firm_table.specs.Tenants.{tenants_are}
@@ -69,7 +70,7 @@ before_held desk_states output =
     record { books = map book_at desk_states; text = output; asked = weigh asked_at desk_states }
 
 -- the state of the tenants, once these are done
-abbrev pub state_after : List Place → List Entry → Reckoned → State
+abbrev pub state_after : Opened → List Entry → Reckoned → State
 state_after opening register reckoned = state_is opening (tenants_are register reckoned.books) reckoned.text
 
 -- what stands at a place that has a tenant with this book, or none, and was given so often; no round was asked there
@@ -151,13 +152,13 @@ IsReserved items capacity = (items ≡ []) × (most_places ≤ capacity)
 -- written and what is held are then the output for these lines; and as many rounds were asked as the lines ask for.
 pub record Tells (state : State) (asked : ℕ) (text : List ℕ) (written now : Option (List ℕ)) : Type 0 where
   pub told : Told state text written now
-  pub counted : Counted asked told.lines (answers_from state.opening told.lines)
+  pub counted : Counted asked told.lines (answers_from state.opening.places told.lines)
 
-abbrev pub TellsReckoned : List Place → List Entry → Reckoned → List ℕ → Option (List ℕ) → Option (List ℕ) → Type 0
+abbrev pub TellsReckoned : Opened → List Entry → Reckoned → List ℕ → Option (List ℕ) → Option (List ℕ) → Type 0
 TellsReckoned opening register reckoned text written now =
     Tells (state_after opening register reckoned) reckoned.asked text written now
 
-abbrev pub TellsParts : List Place → List Entry → List DeskState → List HeldAnswer → List ℕ → List ℕ
+abbrev pub TellsParts : Opened → List Entry → List DeskState → List HeldAnswer → List ℕ → List ℕ
     → Option (List ℕ)
     → Option (List ℕ) → Type 0
 TellsParts opening register desk_states answers output text written now =
@@ -165,7 +166,7 @@ TellsParts opening register desk_states answers output text written now =
     → TellsReckoned opening register (reckon marks (before_held desk_states output) answers) text written now
 
 -- the same for a whole service
-abbrev pub TellsAll : List Place → ServingIs → List ℕ → Option (List ℕ) → Option (List ℕ) → Type 0
+abbrev pub TellsAll : Opened → ServingIs → List ℕ → Option (List ℕ) → Option (List ℕ) → Type 0
 TellsAll opening serving text written now =
     TellsParts opening serving.register serving.desk_states serving.answers serving.output text written now
 
@@ -177,37 +178,37 @@ pub record Follows (old new : ServingIs) : Type 0 where
 
 -- a step that answers no further line
 abbrev pub Keeps : ServingIs → ServingIs → Type 0
-Keeps old new = (opening : List Place) (text : List ℕ) (written now : Option (List ℕ))
+Keeps old new = (opening : Opened) (text : List ℕ) (written now : Option (List ℕ))
     → TellsAll opening old text written now → TellsAll opening new text written now
 
 -- the same for a step in which the output grew from one text to another
 abbrev pub Passes : ServingIs → ServingIs → Option (List ℕ) → Option (List ℕ) → Type 0
-Passes old new now later = (opening : List Place) (text : List ℕ) (written : Option (List ℕ))
+Passes old new now later = (opening : Opened) (text : List ℕ) (written : Option (List ℕ))
     → TellsAll opening old text written now → TellsAll opening new text written later
 
 -- the answer to one more line
 abbrev pub Takes : ServingIs → ServingIs → Line → Type 0
-Takes old new line = (opening : List Place) (text after : List ℕ) (written now : Option (List ℕ))
-    → input_lines after ≡ input_lines text ++ line ∷ []
+Takes old new line = (opening : Opened) (text after : List ℕ) (written now : Option (List ℕ))
+    → input_lines opening.heading after ≡ input_lines opening.heading text ++ line ∷ []
     → TellsAll opening old text written now → TellsAll opening new after written now
 
 -- an operator's line is done, and its answer is this reply, still to be held
 abbrev pub Obeys : ServingIs → ServingIs → OperatorLine → OperatorReply → Type 0
-Obeys old new request reply = (opening : List Place) (text after : List ℕ) (written now : Option (List ℕ))
-    → input_lines after ≡ input_lines text ++ Operator request ∷ []
+Obeys old new request reply = (opening : Opened) (text after : List ℕ) (written now : Option (List ℕ))
+    → input_lines opening.heading after ≡ input_lines opening.heading text ++ Operator request ∷ []
     → TellsAll opening old text written now
     → TellsParts opening new.register new.desk_states
     (new.answers ++ Known (ToOperator reply) ∷ []) new.output after written now
 
 -- the lines of this text were answered, and what was written is part of the output for them
-pub record Begun (opening : List Place) (text : List ℕ) (written now : Option (List ℕ)) : Type 0 where
+pub record Begun (opening : Opened) (text : List ℕ) (written now : Option (List ℕ)) : Type 0 where
   pub state : State
   pub opened : state.opening ≡ opening
   pub told : Told state text written now
 
 -- so it is, however far the writing of what is held has come
 abbrev pub Begins : ServingIs → Option (List ℕ) → Option (List ℕ) → Type 0
-Begins old now later = (opening : List Place) (text : List ℕ) (written : Option (List ℕ))
+Begins old now later = (opening : Opened) (text : List ℕ) (written : Option (List ℕ))
     → TellsAll opening old text written now → Begun opening text written later
 
 -- the place is empty, or its tenant at home with no command waiting

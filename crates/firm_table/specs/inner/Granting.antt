@@ -16,4 +16,4 @@ pub record IsAnswerAs (all_granted : Bool) (tenants after : TenantsState) (line 
 -- the lines of this text were answered, and memory was refused to none of them if all must be granted
 pub record ToldAs (all_granted : Bool) (state : State) (text : List ℕ) (written now : Option (List ℕ)) : Type 0 where
   pub told : Told state text written now
-  pub granted : all_granted ≡ true → told.lines ≡ map unmarked (input_lines text)
+  pub granted : all_granted ≡ true → told.lines ≡ map unmarked (input_lines state.opening.heading text)

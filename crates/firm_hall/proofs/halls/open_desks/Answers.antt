@@ -10,7 +10,7 @@ pub loop-pass-preserved : goal.loop-pass-preserved
 loop-pass-preserved c =
     let inv = c.loop-pass.invariant in
     let st = c.in-Some.ensures.steps in
-    let roster = c.args.roster.now in
+    let roster = c.args.roster.now.rows in
     let at = vec_len c.loop-pass.desks in
     let tenant = c.unwrap-limits.result in
     let low : at < length roster = search rules in

@@ -21,15 +21,15 @@ returns-clause-empty c =
 pub returns-clause-of_this : goal.returns-clause-of_this
 returns-clause-of_this c =
     let id = c.in_ok-hall.hall.id in
-    let desks : c.in_ok-desks.desks.items ≡ opening_desks id 0 c.args.roster.now =
+    let desks : c.in_ok-desks.desks.items ≡ opening_desks id 0 c.args.roster.now.rows =
     c.in_ok-desks.ensures.desks id c.args.places c.requires.places.0 c.in_ok-hall.ensures.puts in (
-      subst (All (λ (d : DeskIs). d.queue ≡ id)) (sym desks) (desks_of id 0 c.args.roster.now),
+      subst (All (λ (d : DeskIs). d.queue ≡ id)) (sym desks) (desks_of id 0 c.args.roster.now.rows),
       c.in_ok-hall.ensures.of_this,
     )
 
 pub returns-clause-empty_of_this : goal.returns-clause-empty_of_this
 returns-clause-empty_of_this c =
     let id = c.in_ok-hall.hall.id in
-    let rows = length c.args.roster.now in
+    let rows = length c.args.roster.now.rows in
     let empty = c.in_ok-desks.ensures.empty id c.args.places c.requires.places.0 c.in_ok-hall.ensures.puts in
     subst (All (λ (p : PlaceIs). p.queue ≡ id)) (sym empty) (unused_are_of id rows (c.args.places - rows))

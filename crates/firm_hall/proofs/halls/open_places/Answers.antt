@@ -26,11 +26,11 @@ open_desks-requires-clause-unused c =
 
 pub returns-clause-desks : goal.returns-clause-desks
 returns-clause-desks c id places low all =
-    c.in_ok-desks.ensures id (front_of id (length c.args.roster.now) places c.len.result c.args.passes.items
+    c.in_ok-desks.ensures id (front_of id (length c.args.roster.now.rows) places c.len.result c.args.passes.items
     c.split_off.new.self.items c.len.ensures.length low all c.in_ok-rest.ensures.items)
 
 pub returns-clause-empty : goal.returns-clause-empty
 returns-clause-empty c id places low all =
     c.in_ok-empty.ensures
-    ∙ rest_of id (length c.args.roster.now) places c.len.result c.args.passes.items c.in_ok-rest.rest.items
+    ∙ rest_of id (length c.args.roster.now.rows) places c.len.result c.args.passes.items c.in_ok-rest.rest.items
     c.len.ensures.length low all c.in_ok-rest.ensures.tail

@@ -1,22 +1,22 @@
 use Rattle.std.proofs.Common.{List, ap, arith, length}
 use Rattle.firm_rounds.specs.Passes.{PopIs}
-use Rattle.firm_table.specs.Openings.{places_opened}
+use Rattle.firm_table.specs.Openings.{opened}
 use Rattle.firm_hall.proofs.Serves.{unread, pops_wide}
 use Rattle.firm_hall.proofs.service.serve_from.Goals as goal
 
 pub returns-in_default-clause-stopped : goal.returns-in_default-clause-stopped
 returns-in_default-clause-stopped g c =
-    unread (places_opened c.args.setup.opening) c.args.most (g.S.Source.left c.args.reader.now)
+    unread (opened c.args.setup.opening) c.args.most (g.S.Source.left c.args.reader.now)
     (g.W.Sink.written c.args.writer.now) _ _ c.requires.reader c.requires.writer
 
 pub returns-in_default-open-clause-stopped : goal.returns-in_default-open-clause-stopped
 returns-in_default-open-clause-stopped g c =
-    unread (places_opened c.args.setup.opening) c.args.most (g.S.Source.left c.args.reader.now)
+    unread (opened c.args.setup.opening) c.args.most (g.S.Source.left c.args.reader.now)
     (g.W.Sink.written c.args.writer.now) _ _ c.requires.reader c.requires.writer
 
 pub returns-in_default-open-2-clause-stopped : goal.returns-in_default-open-2-clause-stopped
 returns-in_default-open-2-clause-stopped g c =
-    unread (places_opened c.args.setup.opening) c.args.most (g.S.Source.left c.args.reader.now)
+    unread (opened c.args.setup.opening) c.args.most (g.S.Source.left c.args.reader.now)
     (g.W.Sink.written c.args.writer.now) _ _ c.requires.reader c.requires.writer
 
 -- each worker that was started reports

@@ -1,7 +1,9 @@
-use Rattle.std.proofs.Common.{◌≡◌, ◌∙◌, ◌<◌, ap, arith, length, subst, sym}
+use Rattle.std.proofs.Common.{◌≡◌, ◌∙◌, ◌<◌, ap, arith, length, subst, sym, List}
 use Rattle.firm_parts.specs.Parts.{cut_to}
-use Rattle.firm_saved.specs.Saved.{IsSoundSaved}
-use Rattle.firm_parts.proofs.Parts.{cut_all, cut_more, cut_sound}
+use Rattle.firm_text.specs.declared.headings.Heading.{Heading}
+use Rattle.firm_saved.specs.Saved.{IsSoundSaved, saved_with}
+use Rattle.firm_saved.specs.declared.saved.SavedPlace.{SavedPlace}
+use Rattle.firm_parts.proofs.Parts.{cut_all, cut_fits, cut_more, cut_sound}
 use Rattle.firm_parts.proofs.cutting.cut_to.Goals as goal
 
 pub loop-at-preserved : goal.loop-at-preserved
@@ -18,10 +20,17 @@ of-requires c =
     let places = c.into_places-places.result.items in
     let end : c.loop-at.at ≡ length places =
     omega (arith, c.loop-at-test.false, c.loop-at.auto.at-end, c.len-at-end.ensures) in
-    subst IsSoundSaved
-    (sym (cut_all names places c.loop-at.places.items c.loop-at.at end c.loop-at.invariant
-    ∙ ap (cut_to names) c.into_places-places.ensures.places))
-    (cut_sound names c.args.saved c.into_places-places.ensures.sound)
+    let sound = c.into_places-places.ensures.sound in
+    let heading = c.args.saved.heading in
+    let is : c.loop-at.places.items ≡ cut_to names c.args.saved.places =
+    cut_all names places c.loop-at.places.items c.loop-at.at end c.loop-at.invariant
+    ∙ ap (cut_to names) c.into_places-places.ensures.places in
+    subst (λ (h : Heading). IsSoundSaved (saved_with h c.loop-at.places.items)) (sym c.heading-heading.ensures.heading)
+    (subst (λ (l : List SavedPlace). IsSoundSaved (saved_with heading l)) (sym is)
+    (record {
+      places = cut_sound names c.args.saved.places sound.places;
+      fit = cut_fits heading names c.args.saved.places sound.fit;
+    }))
 
 pub returns : goal.returns
 returns c =
@@ -30,5 +39,7 @@ returns c =
     let end : c.loop-at.at ≡ length places =
     omega (arith, c.loop-at-test.false, c.loop-at.auto.at-end, c.len-at-end.ensures) in
     c.of.ensures
-    ∙ cut_all names places c.loop-at.places.items c.loop-at.at end c.loop-at.invariant
-    ∙ ap (cut_to names) c.into_places-places.ensures.places
+    ∙ ap (λ (h : Heading). saved_with h c.loop-at.places.items) c.heading-heading.ensures.heading
+    ∙ ap (saved_with c.args.saved.heading)
+    (cut_all names places c.loop-at.places.items c.loop-at.at end c.loop-at.invariant
+    ∙ ap (cut_to names) c.into_places-places.ensures.places)

@@ -8,4 +8,4 @@ pub returns : goal.returns
 returns c =
     c.is_seated.ensures
     ∙ ap (λ (places : List SavedPlace). is_seated places c.args.name) c.places.ensures.places
-    ∙ seated_book c.args.saved.now c.args.name
+    ∙ seated_book c.args.saved.now.places c.args.name

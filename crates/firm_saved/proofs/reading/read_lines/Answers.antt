@@ -23,13 +23,14 @@ returns-in-Ok-Some-clause-read c =
     let back = c.cut.result.1.now in
     let cut = c.cut.ensures.pieces
     ∙ ap (λ (l : List (List ℕ)). c.cut.result.0.now ∷ l) (behind_mark is_line_feed back c.in-len1-up.len_at_least) in
-    let read : line_read (view c.loop-bytes.draft) c.cut.result.0.now
+    let read : line_read c.args.heading (view c.loop-bytes.draft) c.cut.result.0.now
     ≡ Ok (view c.take_line.new.self, Some c.in-Ok-Some.count) =
     c.in-Ok-Some.ensures.read
     ∙ ap (λ (o : Option ℕ). let r : Result (Draft × Option ℕ) FaultKind = Ok (view c.take_line.new.self, o) in r)
     c.in-Ok-Some.field-0-is in
     subst (GivesState c.last_row.result)
-    (sym (line_ends c.loop-bytes.line (view c.loop-bytes.draft) (slice_split is_line_feed c.loop-bytes.rest.now)
+    (sym (line_ends c.args.heading c.loop-bytes.line (view c.loop-bytes.draft)
+    (slice_split is_line_feed c.loop-bytes.rest.now)
     c.cut.result.0.now (slice_split is_line_feed (after back)) cut (some_piece (after back)) (view c.take_line.new.self)
     c.in-Ok-Some.count read)
     ∙ c.loop-bytes.invariant.same)
@@ -44,7 +45,8 @@ returns-in-Err-clause-read c =
       | inl memory ↦ inl memory
       | inr refused ↦
           inr (sym c.loop-bytes.invariant.same
-          ∙ line_faults c.loop-bytes.line (view c.loop-bytes.draft) (slice_split is_line_feed c.loop-bytes.rest.now)
+          ∙ line_faults c.args.heading c.loop-bytes.line (view c.loop-bytes.draft)
+          (slice_split is_line_feed c.loop-bytes.rest.now)
           c.cut.result.0.now (slice_split is_line_feed (after back)) cut
           (some_piece (after back)) c.in-Err.kind refused)
     ]
@@ -58,12 +60,14 @@ loop-bytes-preserved c =
     let back = c.cut.result.1.now in
     let cut = c.cut.ensures.pieces
     ∙ ap (λ (l : List (List ℕ)). c.cut.result.0.now ∷ l) (behind_mark is_line_feed back c.in-len1-up.len_at_least) in
-    let read : line_read (view c.loop-bytes.draft) c.cut.result.0.now ≡ Ok (view c.take_line.new.self, None) =
+    let read : line_read c.args.heading (view c.loop-bytes.draft) c.cut.result.0.now
+    ≡ Ok (view c.take_line.new.self, None) =
     c.in-Ok-None.ensures.read
     ∙ ap (λ (o : Option ℕ). let r : Result (Draft × Option ℕ) FaultKind = Ok (view c.take_line.new.self, o) in r)
     c.in-Ok-None.field-0-is in
     record {
-      same = sym (line_goes c.loop-bytes.line (view c.loop-bytes.draft) (slice_split is_line_feed c.loop-bytes.rest.now)
+      same = sym (line_goes c.args.heading c.loop-bytes.line (view c.loop-bytes.draft)
+          (slice_split is_line_feed c.loop-bytes.rest.now)
           c.cut.result.0.now (slice_split is_line_feed (after back)) cut (some_piece (after back))
           (view c.take_line.new.self) read)
           ∙ c.loop-bytes.invariant.same;

@@ -8,8 +8,8 @@ use Rattle.firm_saved.proofs.reading.read_lines.Given as goal
 -- what was read so far and the lines that are left give what all lines give
 abbrev pub invariant-loop-bytes : goal.invariant-loop-bytes
 invariant-loop-bytes l = record {
-  same : rows_from l.line (view l.draft) (slice_split is_line_feed l.rest)
-      ≡ rows_from 2 (view l.initial.draft) (slice_split is_line_feed l.text);
+  same : rows_from l.heading l.line (view l.draft) (slice_split is_line_feed l.rest)
+      ≡ rows_from l.heading 2 (view l.initial.draft) (slice_split is_line_feed l.text);
   sound : IsSoundDraft l.draft;
   numbered : l.line + length l.rest ≤ 2 + length l.text;
 }

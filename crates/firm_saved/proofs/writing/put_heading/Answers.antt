@@ -1,5 +1,5 @@
-use Rattle.std.proofs.Common.{◌++◌, ◌∷◌, []}
-use Rattle.firm_saved.specs.StateText.{heading}
+use Rattle.std.proofs.Common.{◌++◌, ◌∷◌, ◌∙◌, [], ℕ, List, ap}
+use Rattle.firm_saved.specs.StateText.{first_line}
 use Rattle.firm_saved.proofs.Puts.{bytes_kept, kept_after, last_added}
 use Rattle.firm_saved.proofs.writing.put_heading.Goals as goal
 
@@ -14,4 +14,6 @@ returns-clause-kept c =
 pub returns-clause-added : goal.returns-clause-added
 returns-clause-added c =
     last_added c.end_line.result c.end_line.new.output.items c.extend_from_slice.new.self.items
-    (c.args.output.now.items ++ heading) (10 ∷ []) c.in_ok-extend_from_slice.ensures.items c.end_line.ensures.added
+    (c.args.output.now.items ++ first_line c.args.heading) (10 ∷ [])
+    (c.in_ok-extend_from_slice.ensures.items
+    ∙ ap (λ (l : List ℕ). c.args.output.now.items ++ l) c.first_line.ensures) c.end_line.ensures.added

@@ -12,8 +12,8 @@ given_places-requires c =
     omega (
       arith,
       ap (λ (l : List SavedPlace). length l) c.places.ensures.places,
-      length-map c.args.saved.now entry_of,
-      c.places.ensures.sound.register.all,
+      length-map c.args.saved.now.places entry_of,
+      c.places.ensures.sound.places.register.all,
     )
 
 pub put_places-requires : goal.put_places-requires
@@ -22,7 +22,7 @@ put_places-requires c =
       arith,
       ap (λ (l : List SavedPlace). length l) c.given_places.ensures,
       ap (λ (l : List SavedPlace). length (given_places l)) c.places.ensures.places,
-      (given_sound c.args.saved.now c.places.ensures.sound).few,
+      (given_sound c.args.saved.now.places c.places.ensures.sound.places).few,
     )
 
 pub returns-in_err-count-clause-kept : goal.returns-in_err-count-clause-kept

@@ -9,14 +9,14 @@ use Rattle.firm_table.proofs.openings.restored_register.Goals as goal
 
 pub bounds-places-at : goal.bounds-places-at
 bounds-places-at c =
-    let wide = saved_wide c.args.saved.now c.places-places.ensures.sound.register in
+    let wide = saved_wide c.args.saved.now.places c.places-places.ensures.sound.places.register in
     let same = ap (λ (places : List SavedPlace). length places) c.places-places.ensures.places in
     omega (arith, wide, same)
 
 pub loop-at-preserved : goal.loop-at-preserved
 loop-at-preserved c =
-    let saved = c.args.saved.now in
-    let sound = c.places-places.ensures.sound.register in
+    let saved = c.args.saved.now.places in
+    let sound = c.places-places.ensures.sound.places.register in
     let at = c.loop-at.at in
     let is = saved_entry saved _ at _ c.places-places.ensures.places sound (omega arith) c.index-places-at.is in
     ap (λ (entries : List Entry). set entries at c.entry_of.result) c.loop-at.invariant
@@ -31,13 +31,14 @@ entered saved entries at end sound is =
 
 pub restored-requires : goal.restored-requires
 restored-requires c =
-    let register = c.places-places.ensures.sound.register in
+    let register = c.places-places.ensures.sound.places.register in
     subst IsRegister
-    (sym (entered c.args.saved.now c.loop-at.entries c.loop-at.at (omega arith) register c.loop-at.invariant)) register
+    (sym (entered c.args.saved.now.places c.loop-at.entries c.loop-at.at (omega arith) register c.loop-at.invariant))
+    register
 
 pub returns : goal.returns
 returns c =
-    let sound = c.places-places.ensures.sound in
-    let is : c.restored.result ≡ register_of c.args.saved.now = c.restored.ensures
-    ∙ entered c.args.saved.now c.loop-at.entries c.loop-at.at (omega arith) sound.register c.loop-at.invariant in
+    let sound = c.places-places.ensures.sound.places in
+    let is : c.restored.result ≡ register_of c.args.saved.now.places = c.restored.ensures
+    ∙ entered c.args.saved.now.places c.loop-at.entries c.loop-at.at (omega arith) sound.register c.loop-at.invariant in
     record { places = is; in_order = subst AreGivenInOrder (sym is) sound.in_order }

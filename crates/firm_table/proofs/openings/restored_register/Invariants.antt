@@ -5,4 +5,4 @@ use Rattle.firm_table.proofs.openings.restored_register.Given as goal
 
 -- the first entries, `at` in number, are those of the state
 abbrev pub invariant-loop-at : goal.invariant-loop-at
-invariant-loop-at l = l.entries ≡ entries_to l.at (register_of l.saved)
+invariant-loop-at l = l.entries ≡ entries_to l.at (register_of l.saved.places)

@@ -1,14 +1,14 @@
 use Rattle.std.proofs.Common.{◌≡◌, ◌∙◌, refl, rules, sym, ap, take, drop, List, ℕ, [], ◌∷◌, ◌++◌, append-nil, true}
 use Rattle.std.proofs.lemmas.List.{append_cancel_right, take-append-drop}
 use Rattle.std.specs.List.{position_or_len}
-use Rattle.firm_text.specs.Inputs.{input_lines}
+use Rattle.firm_text.specs.declared.headings.Heading.{Heading}
 use Rattle.firm_text.specs.Lines.{is_line_feed}
-use Rattle.firm_text.specs.declared.inputs.Line.{Line}
-use Rattle.firm_table.proofs.Pieces.{cut_at, both_ended, ended_more, halts_at, input_more}
+use Rattle.firm_table.proofs.Pieces.{cut_at, both_ended, ended_more, halts_at, input_more, taken_line}
 use Rattle.firm_table.proofs.reading.answer_first.Goals as goal
 
 pub returns-in-Err-clause-halted : goal.returns-in-Err-clause-halted
 returns-in-Err-clause-halted g c =
+    let heading : Heading = (g.C.Clerk.opening c.args.clerk.now).heading in
     let bytes : List ℕ = take (position_or_len is_line_feed c.args.piece.now) c.args.piece.now in
     let ended : c.feed-fed.result.ended ≡ true = search rules in
     let behind : drop c.feed-fed.result.used c.args.piece.now ≡ c.split_at.result.1.now = cc in
@@ -21,12 +21,14 @@ returns-in-Err-clause-halted g c =
     written _ h.both whole
     (ended_more h.text (h.rest ++ bytes) h.ended stands.in_line).ends
     (c.in-Err.ensures.begins h.text (h.text ++ ((h.rest ++ bytes) ++ 10 ∷ [])) written
-    (input_more h.text (h.rest ++ bytes) h.ended stands.in_line
-    ∙ ap (λ (l : Line). input_lines h.text ++ l ∷ []) (sym (c.take-line.ensures.line (h.rest ++ bytes) stands)))
+    (input_more heading h.text (h.rest ++ bytes) h.ended stands.in_line
+    ∙ taken_line heading c.heading.result h.text (h.rest ++ bytes) c.take_under-line.result c.heading.ensures
+    (c.take_under-line.ensures.line (h.rest ++ bytes) stands))
     h.told)
 
 pub returns-in-Ok-clause-heard : goal.returns-in-Ok-clause-heard
 returns-in-Ok-clause-heard g c heard front written cut h =
+    let heading : Heading = (g.C.Clerk.opening c.args.clerk.now).heading in
     let bytes : List ℕ = take (position_or_len is_line_feed c.args.piece.now) c.args.piece.now in
     let ended : c.feed-fed.result.ended ≡ true = search rules in
     let behind : drop c.feed-fed.result.used c.args.piece.now ≡ c.split_at.result.1.now = cc in
@@ -41,11 +43,11 @@ returns-in-Ok-clause-heard g c heard front written cut h =
       rest = [];
       both = both_ended heard h.text h.rest bytes front h.both same ∙ sym (append-nil _);
       ended = ended_more h.text (h.rest ++ bytes) h.ended stands.in_line;
-      stands = c.take-line.ensures.stands;
+      stands = c.take_under-line.ensures.stands;
       told = c.in-Ok.ensures.told h.text (h.text ++ ((h.rest ++ bytes) ++ 10 ∷ [])) written
-          (input_more h.text (h.rest ++ bytes) h.ended stands.in_line
-          ∙ ap (λ (l : Line). input_lines h.text ++ l ∷ [])
-          (sym (c.take-line.ensures.line (h.rest ++ bytes) stands)))
+          (input_more heading h.text (h.rest ++ bytes) h.ended stands.in_line
+          ∙ taken_line heading c.heading.result h.text (h.rest ++ bytes) c.take_under-line.result c.heading.ensures
+          (c.take_under-line.ensures.line (h.rest ++ bytes) stands))
           h.told;
     }
 

@@ -1,11 +1,12 @@
 use Rattle.std.proofs.Common.{◌∙◌, [], refl, sym, ap, subst}
 use Rattle.std.proofs.KnownBytes.{Consumes-nil}
 use Rattle.firm_table.specs.declared.faults.ServeFault.TheVariants.{Memory}
-use Rattle.firm_table.specs.Openings.{places_opened}
+use Rattle.firm_table.specs.Openings.{opened}
 use Rattle.firm_table.specs.Progress.{State}
 use Rattle.firm_table.specs.inner.Granting.{ToldAs}
 use Rattle.firm_table.specs.inner.Serving.{state_of}
 use Rattle.firm_table.proofs.Ending.{served_to}
+use Rattle.firm_table.proofs.Fits.{ends_fit}
 use Rattle.firm_table.proofs.Pieces.{ended_none}
 use Rattle.firm_table.proofs.Granting.{nothing_told_as, told_up_to_date}
 use Rattle.firm_table.proofs.Progress.{answers_up_to_date}
@@ -15,13 +16,13 @@ use Rattle.firm_table.proofs.serving.serve_to_state.Goals as goal
 
 pub returns-in_default-clause-stopped : goal.returns-in_default-clause-stopped
 returns-in_default-clause-stopped g c =
-    stopped_within (places_opened c.args.opening) c.args.most _ _ _ _ _ _ [] Memory (Consumes-nil _)
+    stopped_within (opened c.args.opening) c.args.most _ _ _ _ _ _ [] Memory (Consumes-nil _)
     (record {
       answered = [];
       rest = [];
       both = refl;
       ends = ended_none.ends;
-      begins = nothing_written (places_opened c.args.opening) _;
+      begins = nothing_written (opened c.args.opening) _;
     })
     (c.requires.reader, c.requires.writer)
 
@@ -30,14 +31,14 @@ serve_lines-requires-clause-opening g c =
     subst
     (λ (state : State). ToldAs c.in-Ok.service.all_granted state []
     (g.W.Sink.written c.args.writer.now) (g.W.Sink.written c.args.writer.now))
-    (sym c.in-Ok.ensures.state) (nothing_told_as _ (places_opened c.args.opening) _)
+    (sym c.in-Ok.ensures.state) (nothing_told_as _ (opened c.args.opening) _)
 
 pub returns-in-Ok-serve_lines-clause-served : goal.returns-in-Ok-serve_lines-clause-served
 returns-in-Ok-serve_lines-clause-served g c =
     let began = ap (λ (state : State). state.opening) c.in-Ok.ensures.state in
     let same = c.serve_lines.ensures.opening ∙ began in
     let e = c.in-Ok-serve_lines.ensures in
-    served_to (places_opened c.args.opening) c.serve_lines.new.clerk.all_granted
+    served_to (opened c.args.opening) c.serve_lines.new.clerk.all_granted
     (state_of c.serve_lines.new.clerk) c.args.most _ _ _ same
     (c.serve_lines.ensures.kept ∙ c.in-Ok.ensures.granted) refl e.finished e.told
     (rw began at e.served)
@@ -46,5 +47,10 @@ pub returns-in-Err-clause-in_full : goal.returns-in-Err-clause-in_full
 returns-in-Err-clause-in_full g c reading =
     let same = c.serve_lines.ensures.opening ∙ ap (λ (state : State). state.opening) c.in-Ok.ensures.state in
     let told = c.in-Err.ensures.waiting reading in
-    answers_up_to_date (places_opened c.args.opening) (state_of c.serve_lines.new.clerk) _ _ same told.0
+    answers_up_to_date (opened c.args.opening) (state_of c.serve_lines.new.clerk) _ _ same told.0
     (told_up_to_date _ _ _ _ told.1)
+
+pub returns-in-Ok-serve_lines-clause-fit : goal.returns-in-Ok-serve_lines-clause-fit
+returns-in-Ok-serve_lines-clause-fit g c =
+    ends_fit c.admits_what_fits.ensures c.steps_count_once.ensures (opened c.args.opening) c.args.most _ _ _
+    c.heading.ensures.fit (returns-in-Ok-serve_lines-clause-served g c)

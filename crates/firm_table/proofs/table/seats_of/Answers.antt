@@ -12,22 +12,23 @@ first_is (Some row) = refl
 
 pub loop-place-preserved : goal.loop-place-preserved
 loop-place-preserved c =
-    let few : length c.args.roster.now ≤ most_places = omega (arith, c.len.ensures.few, c.len.ensures.length) in
+    let few : length c.args.roster.now.rows ≤ most_places = omega (arith, c.len.ensures.few, c.len.ensures.length) in
     let added : c.push.new.self.items
-    ≡ c.loop-place.seats.items ++ first_seat (slice_get c.args.roster.now c.loop-place.place) ∷ [] = search rules in
+    ≡ c.loop-place.seats.items ++ first_seat (slice_get c.args.roster.now.rows c.loop-place.place) ∷ [] = search rules
+    in
     added ∙ ap (λ (seats : List Seat). seats ++ first_seat
-    (slice_get c.args.roster.now c.loop-place.place) ∷ []) c.loop-place.invariant
-    ∙ ap (λ (seat : Seat). take c.loop-place.place (opening_seats c.args.roster.now) ++ seat ∷ [])
-    (sym (first_is (slice_get c.args.roster.now c.loop-place.place)))
-    ∙ sym (opened_next opening_seat unused_seat c.args.roster.now few c.loop-place.place c.loop-place-test.true)
+    (slice_get c.args.roster.now.rows c.loop-place.place) ∷ []) c.loop-place.invariant
+    ∙ ap (λ (seat : Seat). take c.loop-place.place (opening_seats c.args.roster.now.rows) ++ seat ∷ [])
+    (sym (first_is (slice_get c.args.roster.now.rows c.loop-place.place)))
+    ∙ sym (opened_next opening_seat unused_seat c.args.roster.now.rows few c.loop-place.place c.loop-place-test.true)
 
 pub returns : goal.returns
 returns c =
-    let few : length c.args.roster.now ≤ most_places = omega (arith, c.len.ensures.few, c.len.ensures.length) in
+    let few : length c.args.roster.now.rows ≤ most_places = omega (arith, c.len.ensures.few, c.len.ensures.length) in
     let end : c.loop-place.place ≡ most_places =
     omega (arith, c.loop-place.auto.place-end, c.loop-place-test.false) in
-    let all : c.loop-place.seats.items ≡ opening_seats c.args.roster.now =
-    c.loop-place.invariant ∙ ap (λ (n : ℕ). take n (opening_seats c.args.roster.now)) end
-    ∙ opened_all opening_seat unused_seat c.args.roster.now few in
-    let long = ap length all ∙ opened_length opening_seat unused_seat c.args.roster.now few in
+    let all : c.loop-place.seats.items ≡ opening_seats c.args.roster.now.rows =
+    c.loop-place.invariant ∙ ap (λ (n : ℕ). take n (opening_seats c.args.roster.now.rows)) end
+    ∙ opened_all opening_seat unused_seat c.args.roster.now.rows few in
+    let long = ap length all ∙ opened_length opening_seat unused_seat c.args.roster.now.rows few in
     record { opening = all; few = omega (arith, long) }

@@ -1,10 +1,13 @@
 use Rattle.std.proofs.Common.{arith, rules, ◌<◌, get_or, Ok, Err, inr, [], ◌≡◌, ◌∙◌, ◌+◌, ◌∷◌, false, length}
-use Rattle.std.proofs.Common.{map, ap, sym, subst, drop}
+use Rattle.std.proofs.Common.{All, map, ap, sym, subst, drop}
+use Rattle.std.proofs.lemmas.List.Elements.{All-push}
 use Rattle.std.proofs.lemmas.List.{at_drop_all, at_drop_more, length_push}
 use Rattle.csv.specs.Records.{fields_of}
-use Rattle.firm_text.specs.Rosters.{NamesDiffer, is_taken, tenants_of}
+use Rattle.firm_text.specs.Rosters.{FitsHeading, NamesDiffer, RosterRow, heading_of, is_taken, records_roster}
+use Rattle.firm_text.specs.Rosters.{roster_with, tenants_of}
 use Rattle.firm_text.proofs.Differ.{names_differ_push}
-use Rattle.firm_text.proofs.Judged.{none_counted, some_counted, tenants_of_fault, tenants_of_next}
+use Rattle.firm_text.proofs.Judged.{none_counted, recorded, recorded_fault, some_counted, tenants_of_fault}
+use Rattle.firm_text.proofs.Judged.{tenants_of_next}
 use Rattle.firm_text.proofs.roster_text.tenants_in.Goals as goal
 
 pub loop-row-preserved : goal.loop-row-preserved
@@ -31,6 +34,9 @@ loop-row-preserved c =
           c.push.new.self.items tenant seen (sym c.in_ok-tenant.ensures.value) pushed;
       few = let same_length = ap length pushed in let seen_length = ap length seen in omega arith;
       differ = subst NamesDiffer (sym pushed) (names_differ_push earlier tenant c.loop-row.invariant.differ new);
+      fit = subst (All (λ (row : RosterRow). FitsHeading (heading_of c.args.width) row.1)) (sym pushed)
+          (All-push (λ (row : RosterRow). FitsHeading (heading_of c.args.width) row.1) earlier tenant
+          c.loop-row.invariant.fit c.in_ok-tenant.ensures.fits);
     }
 
 pub returns-in_err-tenant-clause-refused : goal.returns-in_err-tenant-clause-refused
@@ -48,6 +54,8 @@ returns-in_err-tenant-clause-refused c =
     ∙ tenants_of_fault c.args.width (fields_of c.row-item.result)
     (map fields_of (drop (c.loop-row.row-index + 1) c.args.rows.now)) c.deref.result.now earlier
     c.in_err-tenant.field-0.0 c.deref.ensures.value c.in_err-tenant.ensures.value in
+    let given : records_roster c.args.width (map fields_of c.args.rows.now) ≡ Err c.in_err-tenant.field-0.0 =
+    recorded_fault c.args.width (map fields_of c.args.rows.now) c.in_err-tenant.field-0.0 told in
     search rules
 
 pub returns-then-is_empty-clause-refused : goal.returns-then-is_empty-clause-refused
@@ -55,17 +63,20 @@ returns-then-is_empty-clause-refused c =
     let earlier = c.loop-row.tenants.items in
     let none : length earlier ≡ 0 = search rules in
     inr
+    (recorded_fault c.args.width (map fields_of c.args.rows.now) _
     (c.loop-row.invariant.same
     ∙ at_drop_all (λ rows. tenants_of c.args.width (map fields_of rows) earlier) c.args.rows.now c.loop-row.row-index
     c.loop-row-test.false
-    ∙ none_counted earlier none)
+    ∙ none_counted earlier none))
 
 pub returns-clause-admitted : goal.returns-clause-admitted
 returns-clause-admitted c =
     let earlier = c.loop-row.tenants.items in
     let some : 0 < length earlier = search rules in
-    c.loop-row.invariant.same
+    recorded c.args.width (map fields_of c.args.rows.now) earlier
+    (c.loop-row.invariant.same
     ∙ at_drop_all (λ rows. tenants_of c.args.width (map fields_of rows) earlier) c.args.rows.now c.loop-row.row-index
     c.loop-row-test.false
-    ∙ some_counted earlier some
+    ∙ some_counted earlier some)
+    ∙ ap (λ h. Ok (roster_with h earlier)) (sym c.heading_of.ensures)
     ∙ ap Ok (sym c.of.ensures)

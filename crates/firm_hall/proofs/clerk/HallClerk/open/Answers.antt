@@ -1,6 +1,6 @@
 use Rattle.std.proofs.Common.{◌∙◌, [], List, ap, length, refl}
 use Rattle.firm_rounds.specs.Passes.{PutIs}
-use Rattle.firm_table.specs.Openings.{places_opened}
+use Rattle.firm_table.specs.Openings.{opened, places_opened}
 use Rattle.firm_text.specs.Rosters.{most_places}
 use Rattle.firm_hall.proofs.Opening.{puts_wide}
 use Rattle.firm_hall.proofs.Starting.{desk_states_open, fits_open, tells_open}
@@ -26,7 +26,7 @@ invariant_of-serving g c =
 pub returns-clause-told : goal.returns-clause-told
 returns-clause-told g c written =
     let id = c.args.setting.hall.now.id in
-    let opening = places_opened c.args.opening in
+    let opening = opened c.args.opening in
     let desk_states = c.in_ok-desk_states.ensures.opened id c.requires.passes in
     rw (c.register.ensures.places, c.in_ok-held.ensures)
     (tells_open c.answers_add_up.ensures.opening id opening c.in_ok-desk_states.desk_states.items [] [] desk_states refl

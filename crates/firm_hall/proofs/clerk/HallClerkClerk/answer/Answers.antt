@@ -1,7 +1,7 @@
 use Rattle.std.proofs.Common.{◌≡◌, ℕ, List, ◌++◌, ◌∷◌, []}
 use Rattle.std.specs.Prelude.{Option}
 use Rattle.firm_text.specs.Inputs.{input_lines}
-use Rattle.firm_table.specs.Openings.{places_opened}
+use Rattle.firm_table.specs.Openings.{opened}
 use Rattle.firm_table.specs.Service.{BeginsAnswersFrom}
 use Rattle.firm_hall.specs.inner.Serving.{TellsAll}
 use Rattle.firm_hall.proofs.Giving.{on_err_always}
@@ -10,9 +10,9 @@ use Rattle.firm_hall.proofs.clerk.HallClerkClerk.answer.Goals as goal
 
 pub returns-in_err-take_turn-clause-begins : goal.returns-in_err-take_turn-clause-begins
 returns-in_err-take_turn-clause-begins g c =
-    let opening = places_opened c.args.self.now.opening in
+    let opening = opened c.args.self.now.opening in
     let begins : (text after : List ℕ) (written : Option (List ℕ))
-    → input_lines after ≡ input_lines text ++ c.args.line ∷ []
+    → input_lines opening.heading after ≡ input_lines opening.heading text ++ c.args.line ∷ []
     → TellsAll opening c.args.self.now.serving text written (g.W.Sink.written c.args.writer.now)
     → BeginsAnswersFrom opening after written (g.W.Sink.written c.take_turn.new.writer) =
     λ text after written more told.
@@ -22,6 +22,6 @@ returns-in_err-take_turn-clause-begins g c =
 
 pub returns-clause-told : goal.returns-clause-told
 returns-clause-told g c text after written more told =
-    let opening = places_opened c.args.self.now.opening in
+    let opening = opened c.args.self.now.opening in
     c.take_line.ensures.takes opening text after written _ more
     (c.in_ok-take_turn.ensures.told opening text written told)

@@ -1,16 +1,16 @@
 use Rattle.std.proofs.lemmas.Result.{on_ok_weaker}
-use Rattle.firm_table.specs.Openings.{places_opened}
+use Rattle.firm_table.specs.Openings.{opened}
 use Rattle.firm_hall.proofs.Coming.{stays_open}
 use Rattle.firm_hall.proofs.Telling.{begun_answers}
 use Rattle.firm_hall.proofs.clerk.HallClerkClerk.write_out.Goals as goal
 
 pub returns-clause-told : goal.returns-clause-told
 returns-clause-told g c =
-    on_ok_weaker c.wait.result (λ told. told (places_opened c.args.self.now.opening)) c.wait.ensures.told
+    on_ok_weaker c.wait.result (λ told. told (opened c.args.self.now.opening)) c.wait.ensures.told
 
 pub returns-clause-begins : goal.returns-clause-begins
 returns-clause-begins g c text written told =
-    let opening = places_opened c.args.self.now.opening in
+    let opening = opened c.args.self.now.opening in
     begun_answers opening text written _ (c.wait.ensures.begins opening text written told)
 
 pub returns-clause-open : goal.returns-clause-open

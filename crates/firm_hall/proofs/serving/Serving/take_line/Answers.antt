@@ -19,7 +19,7 @@ returns-in-Long-clause-takes g c =
     (λ opening text after written now more told.
     known_told c.answers_add_up.ensures.one_more opening s.register s.desk_states.items s.held.answers s.held.output
     Long LineTooLong (λ books. record { answers = λ places shows. refl; leaves = λ places shows. shows }) refl text
-    after written now (more ∙ ap (λ (l : Line). input_lines text ++ l ∷ []) c.in-Long.is) told)
+    after written now (more ∙ ap (λ (l : Line). input_lines opening.heading text ++ l ∷ []) c.in-Long.is) told)
 
 pub invariant_of-self : goal.invariant_of-self
 invariant_of-self g c =
@@ -34,7 +34,7 @@ returns-in-Nameless-clause-takes g c =
     (λ opening text after written now more told.
     known_told c.answers_add_up.ensures.one_more opening s.register s.desk_states.items s.held.answers s.held.output
     Nameless UnknownTenant (λ books. record { answers = λ places shows. refl; leaves = λ places shows. shows }) refl
-    text after written now (more ∙ ap (λ (l : Line). input_lines text ++ l ∷ []) c.in-Nameless.is) told)
+    text after written now (more ∙ ap (λ (l : Line). input_lines opening.heading text ++ l ∷ []) c.in-Nameless.is) told)
 
 pub invariant_of-self-in-Nameless : goal.invariant_of-self-in-Nameless
 invariant_of-self-in-Nameless g c =
@@ -45,12 +45,12 @@ invariant_of-self-in-Nameless g c =
 pub returns-in-For-clause-takes : goal.returns-in-For-clause-takes
 returns-in-For-clause-takes g c opening text after written now more told =
     c.command.ensures.takes opening text after written now
-    (more ∙ ap (λ (l : Line). input_lines text ++ l ∷ []) c.in-For.is) told
+    (more ∙ ap (λ (l : Line). input_lines opening.heading text ++ l ∷ []) c.in-For.is) told
 
 pub returns-in-Operator-clause-takes : goal.returns-in-Operator-clause-takes
 returns-in-Operator-clause-takes g c opening text after written now more told =
     let obeyed = c.obey-reply.ensures.obeys opening text after written now
-    (more ∙ ap (λ (l : Line). input_lines text ++ l ∷ []) c.in-Operator.is) told in
+    (more ∙ ap (λ (l : Line). input_lines opening.heading text ++ l ∷ []) c.in-Operator.is) told in
     rw c.push-in-Operator.ensures (rw (← c.self-in-Operator.view_is) at obeyed)
 
 pub invariant_of-self-in-Operator : goal.invariant_of-self-in-Operator

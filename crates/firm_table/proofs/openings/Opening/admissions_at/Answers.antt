@@ -7,14 +7,14 @@ use Rattle.firm_table.proofs.openings.Opening.admissions_at.Goals as goal
 
 pub bounds-places-place : goal.bounds-places-place
 bounds-places-place c =
-    let wide = saved_wide c.in-State.saved.now c.places.ensures.sound.register in
+    let wide = saved_wide c.in-State.saved.now.places c.places.ensures.sound.places.register in
     let same = ap (λ (places : List SavedPlace). length places) c.places.ensures.places in
     omega (arith, wide, same, c.requires)
 
 pub returns-in-State : goal.returns-in-State
 returns-in-State c =
-    let saved = c.in-State.saved.now in
-    let sound = c.places.ensures.sound.register in
+    let saved = c.in-State.saved.now.places in
+    let sound = c.places.ensures.sound.places.register in
     let here : c.index-places-place.result ≡ get_or saved c.args.place untouched =
     saved_found saved _ c.args.place _ c.places.ensures.places sound c.requires c.index-places-place.is in
     let read : get_or c.places.result.now c.args.place c.index-places-place.result

@@ -7,9 +7,9 @@ use Rattle.firm_table.proofs.openings.Opening.places.Goals as goal
 
 pub returns-in-State : goal.returns-in-State
 returns-in-State c =
-    let saved = c.in-State.saved.now in
+    let saved = c.in-State.saved.now.places in
     let all = length-map saved restored_place in
-    let wide = saved_wide saved c.places.ensures.sound.register in
+    let wide = saved_wide saved c.places.ensures.sound.places.register in
     let same = ap (λ (places : List SavedPlace). length places) c.places.ensures.places in
     rw c.in-State.is
     (record { all = omega (arith, all, same); most = omega (arith, wide, same) })

@@ -6,7 +6,7 @@ use Rattle.firm_table.proofs.openings.Opening.register.Goals as goal
 
 pub returns-in-Roster : goal.returns-in-Roster
 returns-in-Roster c =
-    let roster = c.in-Roster.roster.now in
+    let roster = c.in-Roster.roster.now.rows in
     let some : 0 < length roster = omega (arith, c.len.ensures.some, c.len.ensures.length) in
     rw c.in-Roster.is (record {
       places = c.of.ensures ∙ sym (roster_register roster);
@@ -16,6 +16,6 @@ returns-in-Roster c =
 pub returns-in-State : goal.returns-in-State
 returns-in-State c =
     rw c.in-State.is (record {
-      places = c.restored_register.ensures.places ∙ sym (saved_register c.in-State.saved.now);
+      places = c.restored_register.ensures.places ∙ sym (saved_register c.in-State.saved.now.places);
       in_order = c.restored_register.ensures.in_order;
     })

@@ -20,7 +20,8 @@ pub returns-clause-text : goal.returns-clause-text
 returns-clause-text c =
     let saved : List SavedPlace = tenants_state c.args.self.now in
     let given : List SavedPlace = take c.given_count-given.result saved in
-    state_added c.put_row.result c.args.output.now.items c.put_row.new.output.items saved given c.in-Ok-put_places.count
+    state_added c.args.heading c.put_row.result c.args.output.now.items c.put_row.new.output.items saved given
+    c.in-Ok-put_places.count
     (c.given_count-given.ensures.count saved (register_is c)) c.in-Ok-put_places.ensures.count
     (subst (λ (text : List ℕ). OnOk c.put_row.result
     (c.put_row.new.output.items ≡ text ++ row_text (row.Rows c.in-Ok-put_places.count)))
@@ -33,9 +34,13 @@ returns-clause-sound c =
     let saved : List SavedPlace = tenants_state c.args.self.now in
     let register = register_is c in
     on_ok c.put_row.result
-    (c.given_count-given.ensures.sound saved register
-    (subst IsRegister (sym c.entries.ensures.entries) c.entries.ensures.sound)
-    (subst AreGivenInOrder (sym c.entries.ensures.entries) c.self.invariant.in_order) c.in-Ok-put_places.ensures.sound)
+    (record {
+      places = c.given_count-given.ensures.sound saved register
+          (subst IsRegister (sym c.entries.ensures.entries) c.entries.ensures.sound)
+          (subst AreGivenInOrder (sym c.entries.ensures.entries) c.self.invariant.in_order)
+          c.in-Ok-put_places.ensures.sound;
+      fit = c.requires;
+    })
 
 pub returns-clause-kept : goal.returns-clause-kept
 returns-clause-kept c =

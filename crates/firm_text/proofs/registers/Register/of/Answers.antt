@@ -9,7 +9,7 @@ use Rattle.firm_text.proofs.registers.Register.of.Goals as goal
 
 pub loop-at-preserved : goal.loop-at-preserved
 loop-at-preserved c =
-    let tenants = c.args.roster.now in
+    let tenants = c.args.roster.now.rows in
     let at = c.loop-at.at in
     let tenant = c.unwrap-name.result in
     let is : get_or tenants at tenant ≡ tenant =
@@ -20,13 +20,13 @@ loop-at-preserved c =
 
 pub returns : goal.returns
 returns c =
-    let end : c.loop-at.at ≡ length c.args.roster.now = omega arith in
-    c.loop-at.invariant ∙ ap (λ (n : ℕ). places_to n c.args.roster.now) end ∙ all_placed c.args.roster.now
+    let end : c.loop-at.at ≡ length c.args.roster.now.rows = omega arith in
+    c.loop-at.invariant ∙ ap (λ (n : ℕ). places_to n c.args.roster.now.rows) end ∙ all_placed c.args.roster.now.rows
 
 pub invariant_of-result : goal.invariant_of-result
 invariant_of-result c =
-    let end : c.loop-at.at ≡ length c.args.roster.now = omega arith in
+    let end : c.loop-at.at ≡ length c.args.roster.now.rows = omega arith in
     let all =
-    c.loop-at.invariant ∙ ap (λ (n : ℕ). places_to n c.args.roster.now) end ∙ all_placed c.args.roster.now
+    c.loop-at.invariant ∙ ap (λ (n : ℕ). places_to n c.args.roster.now.rows) end ∙ all_placed c.args.roster.now.rows
     in
-    subst IsRegister (sym all) (sound_first c.args.roster.now c.len-at-end.ensures.differ (omega arith))
+    subst IsRegister (sym all) (sound_first c.args.roster.now.rows c.len-at-end.ensures.differ (omega arith))
