@@ -47,7 +47,7 @@ abbrev pub settled : List SavedPlace → List ℕ × Book → Result ℕ Operato
 settled places tenant (Ok at) = Ok (settled_at places at tenant)
 settled places tenant (Err refusal) = Err (record { tenant = tenant.0; refusal = refusal })
 
--- the places once the tenant of another, if there is one, has come
+-- the places once the tenant of another, if any, has come
 abbrev pub joined_by : List SavedPlace → Option (List ℕ × Book) → Result (List SavedPlace) JoinFault
 joined_by places None = Ok places
 joined_by places (Some tenant) = settled places tenant (place_for (register_of places) tenant.0)

@@ -1,4 +1,4 @@
--- What the file that a program opens with was read as, and what a service opens with.
+-- The file that a program opens with, and the opening of a service that it gives.
 use Rattle.std.specs.Prelude.{◌≡◌, ℕ, List, Ok, Err}
 use Rattle.firm_saved.specs.Saved.{IsSoundSaved, SavedIs}
 use Rattle.firm_saved.specs.Reading.{state_of}

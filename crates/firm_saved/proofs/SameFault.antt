@@ -201,7 +201,7 @@ same_fault heading line d (bytes ∷ next ∷ rest) ys f n e at alike =
     by (suc m) at alike late (Ok (d2, Some count)) is again e =
         at_last d2 count m is at (first m bytes (next ∷ rest) ys alike) (last_fault line d2 count (next ∷ rest) f e)
 
--- lines behind the first that begin alike have the same fault
+-- lines after the first that begin alike have the same fault
 headed_fault : (heading : Heading) (xs ys : List (List ℕ)) (f : StateFault) (m : ℕ) → headed_state heading xs ≡ Err f
     → f.line + 1 ≡ 2 + m → Alike m xs ys → headed_state heading ys ≡ Err f
 headed_fault heading xs ys f m e at alike = by (rows_from heading 2 empty_draft xs) refl e

@@ -339,7 +339,7 @@ state_split heading rows each few =
     (lines_clean heading rows each)
     (and_from (above 10 last) true (line_clean heading (row.Rows (length rows)) few) refl)))
 
--- the places of the lines behind the first
+-- the places of the lines after the first
 lines_state : LaterSlotsCostNoLess → (heading : Heading) (places : List SavedPlace) → AreSoundSaved places
     → All (PlaceFits heading) (given_places places)
     → rows_from heading 2 empty_draft

@@ -72,8 +72,8 @@ abbrev pub names_patience : List (List ℕ) → Bool
 names_patience [] = false
 names_patience (word ∷ rest) = bytes_eq word (codes "patience")
 
--- the patience behind its label, or the longest where the label is missing, and the words behind it; under a plain
--- heading no row has one
+-- the patience after its label, or the longest without a label, and the words after it; no row has the label under a
+-- plain heading
 abbrev pub patience_at : Heading → List (List ℕ) → Result (ℕ × List (List ℕ)) FaultKind
 patience_at Plain words = Ok (longest_patience, words)
 patience_at Extended words = if names_patience words then labelled_at words else Ok (longest_patience, words)

@@ -66,7 +66,7 @@ rows_from heading line draft (bytes ∷ next ∷ rest) =
     at_line line (line_read heading draft bytes)
     >>= λ read. go_on line (next ∷ rest) (λ after. rows_from heading (line + 1) after (next ∷ rest)) read.0 read.1
 
--- the state of this heading and of the lines behind the first
+-- the state of this heading and of the lines after the first
 abbrev pub headed_state : Heading → List (List ℕ) → Result SavedIs StateFault
 headed_state heading rest = rows_from heading 2 empty_draft rest >>= λ places. Ok (saved_with heading places)
 

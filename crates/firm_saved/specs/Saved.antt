@@ -47,7 +47,7 @@ pub record SavedIs : Type 0 where
 abbrev pub saved_with : Heading → List SavedPlace → SavedIs
 saved_with heading places = record { heading = heading; places = places }
 
--- the limits of a place's tenant, if there is one, are such as a row under this heading can give
+-- the limits of a place's tenant, if any, are such as a row under this heading can give
 abbrev pub PlaceFits : Heading → SavedPlace → Type 0
 PlaceFits heading place =
     IfSome place.tenant (λ (tenant : List ℕ × Book). FitsHeading heading tenant.1.rows.limits)

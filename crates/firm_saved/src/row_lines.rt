@@ -125,7 +125,7 @@ fn number_in(read: Result<&[u8], FaultKind>) -> (u64, Result<&[u8], FaultKind>)
     }
 }
 
-// The patience, which stands only where it is not the longest and the heading is extended, and the rest behind it.
+// The patience, written under an extended heading unless it is the longest, and the rest after it.
 fn patience_at(heading: Heading, behind: &[u8]) -> Result<(u64, &[u8]), FaultKind>
     ensures { MatchResult result (λ read. patience_at heading (words_behind behind.now) ≡ Ok (read.0, words_behind read.1.now))
         (λ kind. patience_at heading (words_behind behind.now) ≡ Err kind) }

@@ -88,7 +88,7 @@ pub record JoinsAll (count : ℕ) (saved both : SavedIs) : Type 0 where
   pub others : List SavedIs
   pub as_many : length others ≡ count
   pub sound : All IsSoundSaved others
-  pub whole : all_joined_state saved others ≡ Ok both
+  pub whole : all_joined saved others ≡ Ok both
 
 -- a tenant of a sound state finds no place in this one: the first that doesn't, and why
 pub record NotJoined (before : SavedIs) (fault : Fault) : Type 0 where

@@ -1,4 +1,4 @@
--- What a service opens with: the heading under which it reads lines, and its places before the first.
+-- The opening of a service: the heading under which it reads lines, and its places before the first.
 use Rattle.std.specs.Prelude.{List}
 use Rattle.firm_text.specs.Rosters.{RosterIs}
 use Rattle.firm_text.specs.declared.headings.Heading.{Heading}

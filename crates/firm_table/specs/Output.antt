@@ -1,5 +1,4 @@
--- What a service writes for what it read: a function of what it opens with, or of its roster, and of the
--- lines, each with its mark.
+-- The output of a service: a function of its opening, or of its roster, and of the lines, each with its mark.
 use Rattle.std.specs.Prelude.{ℕ, false, List, [], ◌∷◌, ◌++◌, ◌≡◌, map, bytes_eq, if◌then◌else◌}
 use Rattle.std.specs.List.{flat_map}
 use Rattle.firm_rules.specs.declared.replies.Reply.{Reply}

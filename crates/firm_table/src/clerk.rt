@@ -18,7 +18,7 @@ pub trait Clerk {
     /// Its value for this clerk.
     ghost kept: { Self → Self.Kept };
 
-    /// What it opened with: the heading, and the places before the first line.
+    /// Its opening: the heading, and the places before the first line.
     ghost opening: { Self → Opened };
 
     /// The clerk can be given a line.

@@ -1,4 +1,4 @@
--- What a line of the operator can be refused for before anything is known of the service, and what limits it can give.
+-- Laws of an operator's line by itself: its refusals, and the limits that it can give.
 use Rattle.std.specs.Prelude.{◌≡◌, ◌≤◌, ℕ, List}
 use Rattle.firm_rules.specs.Limits.{TenantLimits}
 use Rattle.firm_text.specs.Inputs.{line_under}
