@@ -13,24 +13,22 @@ import asyncio
 import contextlib
 import json
 import os
-import pwd
 import random
 import signal
 import subprocess
 import sys
 import tempfile
 import time
-from collections.abc import Iterator
 from functools import partial
 from pathlib import Path
 from types import SimpleNamespace
-from typing import Any
 
 import agent_places
+import agent_users
 from agent_disks import failing_disk, full_disk, hung_disk
 from agent_kit import AGENT, LIMIT_SECONDS, SOON_SECONDS, WAITS_FOR_GO, Case, children, is_there
-from harness.checks import Check, Missed, Skipped, Suite, print_skipped, require, run_script, run_suites
-from harness.deployed import NotAllowed, agent_machines, agent_queue, supervisor, work_of
+from harness.checks import Check, Skipped, Suite, print_skipped, require, run_script, run_suites
+from harness.deployed import agent_machines, agent_queue, supervisor
 from harness.files import write_program
 from queue_stand_in import LONG_SECONDS, Cluster, Row, clock
 
@@ -38,20 +36,10 @@ AT_A_TIME = 8  # checks, which mostly wait
 LEASE_SECONDS = 10.0  # where it is to end
 BUSY_SECONDS = 40  # at most, by which anything is late on a busy host
 TURNS = 16  # of a loop: a lost connection is taken in within fewer
-GAMES = 5  # an account that each Debian host has, and whose number is a system account's unless UID_MIN says otherwise
-# An agent with other groups than its tasks' users have, for which accounts from a number on are people's.
-OF_PEOPLE_FROM = """\
-import os, pathlib, sys
-from firm_service import agent, agent_queue
-agent_queue.LOGIN_DEFS = pathlib.Path(sys.argv.pop(1))
-os.setgroups([0, 4])
-sys.exit(agent.main())
-"""
 ONCE = (  # the lock is that of all its processes, and gone with the last
     "exec 9> $FIRM_TASK.lock; flock -n 9 || echo $FIRM_TASK >> doubled; "
     "for i in 1 2 3 4 5 6; do sleep 0.05; done; echo end >> $FIRM_TASK.log"
 )
-WORK: Row = {"command": ["true"], "grace": 5, "dir": "/"}
 # An agent whose wall clock goes a day forth and back with each look.
 JUMPS = """\
 import sys, time
@@ -394,105 +382,6 @@ def not_shown() -> None:
         require(case.until_told("ended", "a")["status"] == 0, "how a ended")
 
 
-def other_user() -> None:
-    """As root, a task is its user's process, with that user's rights, groups, home and output; a system account, and a
-    number without an account, have none."""
-    if os.getuid() != 0:
-        raise Skipped("it needs root")
-    with Cluster() as case:
-        case.folder.chmod(0o755)
-        (case.folder / "secret").write_text("x")
-        (case.folder / "secret").chmod(0o600)
-        account = pwd.getpwuid(GAMES)
-        words = "id -u; id -g; id -G; echo $HOME $USER; cat secret 2>&1 || :; env | grep -c ^SUDO_SECRET || :"
-        case.submit("a", words, user=GAMES, gid=0, groups=[0])
-        case.submit("b", ["true"], user=GAMES, output=str(case.folder / "out"))
-        case.submit("c", ["true"], user=123456)
-        (case.folder / "closed").mkdir(mode=0o700)
-        case.submit("d", ["true"], user=GAMES, dir=str(case.folder / "closed"))
-        case.submit("e", ["true"], user=GAMES - 1)
-        (case.folder / "login.defs").write_text(f"# comment\nUID_MIN\t{GAMES}\nUID_MAX 60000\n")
-        words_of_agent = [sys.executable, "-c", OF_PEOPLE_FROM, str(case.folder / "login.defs")]
-        case.start_registered(before=words_of_agent, machines="m1=5")
-        case.firmd.round("start a m1 start b m1 start c m1 start d m1 start e m1")
-        require(case.until_told("ended", "a")["status"] == 0, case.told())
-        output = Path(case.until_told("running", "a")["output"])
-        lines = output.read_text().splitlines()
-        expected = [str(GAMES), str(account.pw_gid), f"{account.pw_dir} {account.pw_name}"]
-        require([lines[0], lines[1], lines[3]] == expected, lines)
-        groups = os.getgrouplist(account.pw_name, account.pw_gid)
-        require({*map(int, lines[2].split())} == {*groups}, f"groups {lines[2]}, not {groups}")
-        require(output.stat().st_uid == GAMES and "Permission denied" in lines[4], lines)
-        faults = {
-            "b": f"{case.folder}/out: Permission denied",
-            "c": "no user has the number 123456 here",
-            "d": f"{case.folder}/closed: Permission denied",
-            "e": f"the queue names user {GAMES - 1}: system accounts run no tasks",
-        }
-        for task, fault in faults.items():
-            end = case.until_told("ended", task)
-            require((end["status"], end["fault"]) == (126, fault), end)
-
-
-def whose_work() -> None:
-    """Work is run by an agent of root as the user that the queue names, or as the queue's own: as root for root's queue
-    alone, and as no system account for any."""
-    if os.getuid() != 0:
-        raise Skipped("it needs root")
-    system, people = [1, 33, 999, 65_534, 65_535], [1_000, 60_001, 123_456, 2**31, 2**32 - 2]
-    with tempfile.TemporaryDirectory(prefix="firm-") as name:
-        definitions = Path(name, "login.defs")
-        with replaced(agent_queue, "LOGIN_DEFS", definitions):  # there is none: the numbers from 1,000 on are people's
-            for owner in (0, 33, 1_000):
-                found = {user: user_of_work(owner, user) for user in (0, *system, *people)}
-                expected: dict[int, object] = {user: f"user {user}" for user in (0, *system)}
-                for user in people if owner else [0, *people]:
-                    expected[user] = user
-                require(found == expected, f"{owner}'s queue: {found}")
-            unnamed = [user_of_work(owner, None) for owner in (0, 33, 65_534, 1_000)]
-            require(unnamed == [0, "user 33", "user 65534", 1_000], unnamed)
-            for text, least in (("UID_MIN 500\n", 500), ("#UID_MIN 5\nUID_MIN x\n", 1_000), ("UID_MIN 0x64 #", 100)):
-                definitions.write_text(text)
-                found = {user: user_of_work(7, user) for user in (0, least - 1, least, 65_534)}
-                expected = {least: least, **{user: f"user {user}" for user in (0, least - 1, 65_534)}}
-                require(found == expected, f"{text!r}: {found}")
-    others: list[object] = [0, False, True, 0.0, 7.0, -1, 2**32 - 1, 2**32, "0", "7", [0], {}]
-    taken = [user for user in others if is_work({**WORK, "user": user})]
-    require(not taken, f"taken for users: {taken}")
-    require(work_of({**WORK, "user": 33}, 7, False).bounds == {}, "over ssh it is the login's")
-    with replaced(os, "geteuid", lambda: 1_000):  # an agent that is not root's can't become another, and isn't asked to
-        require(work_of({**WORK, "user": 1_001}, 0, True).bounds == {}, "of an agent that is not root's")
-
-
-def user_of_work(owner: int, user: int | None) -> int | str:
-    """Whose process an agent of root makes of an owner's queue's work for a user, or whom the refusal names."""
-    try:
-        return int(work_of({**WORK, "user": user}, owner, True).bounds.get("user", 0))
-    except NotAllowed as refusal:
-        require(str(refusal).endswith(": system accounts run no tasks"), refusal)
-        return str(refusal).removeprefix("the queue names ").partition(":")[0]
-
-
-@contextlib.contextmanager
-def replaced(place: Any, name: str, value: object) -> Iterator[None]:
-    """Has a module another value meanwhile."""
-    before = getattr(place, name)
-    setattr(place, name, value)
-    try:
-        yield
-    finally:
-        setattr(place, name, before)
-
-
-def is_work(row: object) -> bool:
-    """Whether an agent takes what a queue of another user gives it."""
-    try:
-        work_of(row, 1_000, True)
-    except NotAllowed:
-        return False
-    return True
-
-
 def no_work() -> None:
     """What a queue gives in place of work is refused, and told; what is work is done."""
     work: Row = {"command": ["true"], "grace": 5, "dir": "/", "env": None, "output": None, "time": None, "memory": None}
@@ -507,9 +396,11 @@ def no_work() -> None:
         "memory": [0, -1, 1.5, "max", True, 2**70],
         "processors": [0, nan, endless, 1e308, "1", False],
     }
-    require(is_work(work), "it is work")
-    taken = [(field, value) for field in others for value in others[field] if is_work({**work, field: value})]
-    require(not taken and not any(map(is_work, (None, [], 5, "work"))), f"taken: {taken}")
+    require(agent_users.is_work(work), "it is work")
+    taken = [
+        (field, value) for field in others for value in others[field] if agent_users.is_work({**work, field: value})
+    ]
+    require(not taken and not any(map(agent_users.is_work, (None, [], 5, "work"))), f"taken: {taken}")
     with Cluster() as case:
         case.submit("a", ["true"], env=["x"])
         case.submit("b", ["true"])
@@ -794,8 +685,8 @@ QUICK = [
     stopped_as_its_queue_goes,
     told_by_the_queue,
     not_shown,
-    other_user,
-    whose_work,
+    agent_users.other_user,
+    agent_users.whose_work,
     no_work,
     failing_disk,
     told_before,

@@ -270,7 +270,7 @@ def shards_apart(program: str) -> None:
 
 
 def reply_of_host(here: Door, address: str, certificate: Path) -> bytes:
-    """What a host of shard one says to who comes past the door; nothing where it lets nobody in."""
+    """Return the first bytes from a host of shard one, asked without the door; empty if it closes the connection."""
     context = ssl.create_default_context(cafile=str(here.hosts.path))
     context.load_cert_chain(certificate)
     name, _, port = address.partition(":")

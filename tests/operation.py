@@ -355,7 +355,7 @@ def folders_of_others(setup: Setup) -> None:
 
 
 def links_in_the_place_of_files(setup: Setup) -> None:
-    """What is written anew beside a file, or locked, is never another file that a link leads to."""
+    """A symbolic link in the place of a draft or of a lock is refused, not followed."""
     with tempfile.TemporaryDirectory(prefix="firm-") as name:
         victim, path, table = Path(name, "victim"), Path(name, "file"), Path(name, "door.toml")
         table.write_text((ROOT / "examples/cluster/door.toml").read_text().replace("out/tenants.map", str(path)))

@@ -108,7 +108,7 @@ def scripts_are_those_of_the_tree() -> None:
         require(f"from {module} import main\n" in in_tree[name], f"{name} does not import main of {module}")
 
 
-# What a unit, a page or a file for tmpfiles.d must not have: root would follow what that folder's user has put there.
+# Forbidden in units, pages and files for tmpfiles.d: root would follow a link that the folder's user has put there.
 AS_ROOT = {
     "a line of a unit that root runs": re.compile(r"^Exec\w+=[-@:|]*[+!].*|^PermissionsStartOnly=.*", re.M),
     "a command of root's in a user's folder": re.compile(
@@ -162,7 +162,7 @@ def link_in_the_place_of_the_state() -> None:
         require((found.st_uid, found.st_gid, found.st_mode & 0o7777) == (0, 0, 0o755), found)
         (home / "state").unlink()
         for _ in range(2):
-            require(start(home) == 0, "a folder of its own")
+            require(start(home) == 0, "the folder can't be made")
             found = (home / "state").stat()
             require((found.st_uid, found.st_gid, found.st_mode & 0o7777) == (FIRM_USER, VIEW_GROUP, 0o2750), found)
 

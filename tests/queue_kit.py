@@ -674,7 +674,7 @@ def as_user(user: int, path: Path, requests: list[Json]) -> list[Json]:
 
 
 def as_user_does(user: int, work: Callable[[], Any], groups: Sequence[int] = ()) -> Any:
-    """What a function gives, as JSON has it, in a child of another user, with these groups beside its own."""
+    """Return a function's value, as JSON has it, from a child of another user and of these groups besides."""
     given, taken = os.pipe()
     child = os.fork()
     if child == 0:

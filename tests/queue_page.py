@@ -252,8 +252,8 @@ def flood(setup: Setup) -> None:
 
 
 def unread_answers(setup: Setup) -> None:
-    """What a user leaves unread at the page counts as at the queue's socket: past the bound no further answer is made
-    for that user, until some is read or its connection closed; others are answered."""
+    """Unread answers of the page count as those of the queue's socket: past the bound a user gets no further one until
+    a connection is read or closed; others are answered."""
     if os.geteuid():
         raise Skipped("it needs root, to be other users")
     with with_page(setup) as case:

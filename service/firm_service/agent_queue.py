@@ -62,10 +62,9 @@ def work_of(answer: Any, owner: int, is_here: bool) -> Work:
 
 
 def user_of(fields: Fields, owner: int) -> int | None:
-    """Return whose process the work is to be; None: this one's, root's, for root's own queue alone.
+    """Return the user as whom an agent of root runs the work; None for root, on behalf of root's own queue.
 
-    A service's account owns that service's files and secrets, and nobody logs in as one, so no queue, root's neither,
-    has an agent run work as a system account.
+    No queue may name a system account: it owns the files and secrets of a service, and nobody logs in as it.
     """
     named = fields.whole("user", 0, MOST_USER)
     user = owner if named is None else named
@@ -77,9 +76,9 @@ def user_of(fields: Fields, owner: int) -> int | None:
 
 
 def is_system_account(user: int) -> bool:
-    """Whether a number is that of a service on this host, or stands for no user.
+    """Return whether a number is a service's on this host, or nobody's.
 
-    UID_MAX is not a limit: it ends what useradd gives out, and directories have people beyond it.
+    UID_MAX is no limit: it bounds the numbers that useradd gives out, and directories have people above it.
     """
     return user < uid_min() or user in NOBODY
 

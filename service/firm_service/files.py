@@ -37,7 +37,7 @@ def make_folder(path: Path, mode: int = 0o777) -> None:
 
 
 def open_lock(path: Path) -> IO[bytes]:
-    """A file to be locked, which is made where it is not there. A link there is not followed."""
+    """Open a file to be locked, and create it if it is missing. Refuse a symbolic link with ELOOP."""
     flags = os.O_RDWR | os.O_CREAT | os.O_NOFOLLOW
     return open(os.open(path, flags, PRIVATE), "r+b", buffering=0)
 
@@ -51,7 +51,7 @@ def require_own(folder: Path) -> None:
 
 
 def write_synced(path: Path, text: bytes, mode: int = 0o666) -> None:
-    """Writes a file, and returns once its text is on the disk; its name may not be. A link there is not followed."""
+    """Write a file, and return once its text is on the disk; its name may not be. Refuse a symbolic link with ELOOP."""
     with open(os.open(path, os.O_WRONLY | os.O_CREAT | os.O_TRUNC | os.O_NOFOLLOW, mode), "wb") as file:
         file.write(text)
         file.flush()

@@ -109,7 +109,7 @@ class Pages:
         return None
 
     async def send(self, request: web.Request, response: web.StreamResponse) -> None:
-        """Sends an answer, unless that is left to aiohttp."""
+        """Send an answer; aiohttp sends what is not sent here."""
 
     def application(self) -> web.Application:
         found = web.Application(middlewares=[self.guard], client_max_size=1)
@@ -125,7 +125,7 @@ class Pages:
             self.gates.begin(request.protocol)
         response: web.StreamResponse
         try:
-            async with self.turn(request):  # refusals take one too: else they would cost others more than answers
+            async with self.turn(request):  # for refusals too: a client may send them as fast as requests
                 refusal = self.refusal(request)
                 response = await handler(request) if refusal is None else refusal
                 await asyncio.sleep(0)
@@ -139,7 +139,7 @@ class Pages:
         return response
 
     def refusal(self, request: web.Request) -> web.Response | None:
-        """Why a request is answered by no handler; None where it is."""
+        """Return the answer to a request that no handler is to see, if it is one."""
         hosts: list[str] = request.headers.getall("Host", [])
         if len(hosts) != 1 or not self.address.is_named(hosts[0]):
             return web.Response(status=403, text="Host is neither this address nor the loopback\n")
@@ -248,7 +248,7 @@ class Gates:
         return gate.owner if gate is not None else None
 
     def held(self) -> Held:
-        """All connections, for where descriptors run out."""
+        """Return all connections, for `Relief`."""
         return {"page": [gate.transport for gate in self.open.values() if gate.transport is not None]}
 
     def _close(self, handler: RequestHandler) -> None:
@@ -280,7 +280,7 @@ async def serve_http(listening: Sequence[socket.socket], address: Address, shown
 
 
 async def gates_of(site: Pages) -> Gates:
-    """What takes a site's connections."""
+    """Return the gates of a site, to which a listener gives each connection."""
     logger = logging.Logger(site.server)
     logger.addHandler(Noted(site.faults))
     # No request's body is read, so it stays as it comes: decompressed, a small one could fill the memory.

@@ -162,7 +162,7 @@ def check(path: Path) -> str:
 
 
 def name_fault(certificate: str) -> str:
-    """Return why hosts would refuse the door's certificate; empty where it can't be read here, or has the name."""
+    """Return why hosts would refuse the door's certificate; empty if it has the name, or can't be read here."""
     words = ["openssl", "x509", "-in", certificate, "-noout", "-subject", "-nameopt", "sep_multiline,utf8"]
     try:
         done = subprocess.run(words, capture_output=True, text=True, errors="replace")

@@ -47,7 +47,7 @@ def page_text() -> str:
 
 
 def head_of(command: Sequence[str]) -> str:
-    """What the page shows of a command, which may have megabytes."""
+    """Return the beginning of a command, which may have megabytes."""
     text = ""
     for word in command:
         text += f"{word[:COMMAND_LETTERS]} "
@@ -129,7 +129,7 @@ class QueueSite(Pages):
     server = "firm-queue"
 
     def __init__(self, parts: Parts, faults: Faults) -> None:
-        # A browser comes by a port of its own loopback, which ssh forwards to the socket.
+        # Browsers reach the socket by a port of the loopback that ssh or a proxy forwards.
         super().__init__(Address(LOOPBACK, 0), page_text(), faults, asyncio.Lock())
         self._parts, self._lists = parts, Lists(parts.core, parts.agents)
         self._registry = CollectorRegistry()
@@ -151,7 +151,7 @@ class QueueSite(Pages):
         states = [State.STARTING, State.RUNNING, State.ENDING, State.FAILED, State.TIMEOUT, State.LOST]
         asked = {"ask": "tasks", "states": [*states], "limit": MOST_TASKS}
         found |= await self._parts.requests.answer(reader, asked)
-        found["tasks"] = [{**row, "command": None} for row in found["tasks"]]  # which may be long, and isn't shown
+        found["tasks"] = [{**row, "command": None} for row in found["tasks"]]  # not shown, and perhaps long
         found["submissions"] = self._submissions(reader.user)
         return web.json_response({**found, "day": asdict(await self._day(reader.user))})
 
@@ -173,7 +173,7 @@ class QueueSite(Pages):
         return Reader(owner)
 
     def _share(self, request: web.Request) -> Share:
-        """A request's share of what its user has, at the queue's socket and here."""
+        """Return a share of the same user's account as at the queue's socket."""
         transport = request.transport
         end = transport.abort if isinstance(transport, asyncio.Transport) else lambda: None
         return share_of(self._reader(request).user, request.protocol, end)
@@ -187,7 +187,7 @@ class QueueSite(Pages):
             yield
 
     async def send(self, request: web.Request, response: web.StreamResponse) -> None:
-        """Sends an answer, which its user holds until it is read."""
+        """Send an answer, whose bytes count as the user's until the client has read them."""
         with suppress(web.HTTPForbidden, ConnectionError):
             share = self._share(request)
             self._parts.shares.add(share, response.content_length or 0, is_answer=True)
