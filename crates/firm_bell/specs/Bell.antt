@@ -83,8 +83,8 @@ pub data IsHeard (owes wakes : ℕ) (views : List BellSight) : Type 0 where
 
 -- If more rounds wait than are still being put, they are heard; a caller that puts one has still to look whether a
 -- worker rests. The bell is shut if and only if a seat knows so: the one that shut it, or one that learnt it. A worker
--- has ended only once the bell was shut, when no round waited; and none waits now, unless a seat raised their count once
--- the bell was shut.
+-- has ended only once the bell was shut, when no round waited; and none waits now, unless a seat raised their count
+-- once the bell was shut.
 pub record IsKept (w : BellWords) (views : List BellSight) : Type 0 where
   pub heard : seats puts views < w.waiting → IsHeard w.owes w.wakes views
   pub shut : IsShut w → Any (λ v. v.knows_shut ≡ true) views
