@@ -85,7 +85,8 @@ module _ (one_more : OneMoreIsTold) (opening : Opened) (register : List Entry) (
           text = sym (append-nil before.text);
         };
         adds = record { least = omega arith; most = omega arith };
-      }) text text_after written now (more ∙ ap (λ (l : Line). input_lines opening.heading text ++ l ∷ []) is) (told marks)
+      }) text text_after written now (more
+      ∙ ap (λ (l : Line). input_lines opening.heading text ++ l ∷ []) is) (told marks)
 
   -- and which changes the book of a place for which no command waits
   pub changed_told : (later_register : List Entry) (after : List DeskState) (answer : LineAnswer) (place : ℕ)

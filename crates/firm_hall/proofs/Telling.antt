@@ -47,7 +47,8 @@ pub record AddsAnswer (asked later : ℕ) (line : Line) (answer : LineAnswer) : 
 
 pub tells_more : OneMoreIsTold
     → (state : State) (tenants : TenantsState) (pending : List ℕ) (line : Line) (asked later : ℕ) (text after : List ℕ)
-    (written now : Option (List ℕ)) → input_lines state.opening.heading after ≡ input_lines state.opening.heading text ++ line ∷ []
+    (written now : Option (List ℕ))
+    → input_lines state.opening.heading after ≡ input_lines state.opening.heading text ++ line ∷ []
     → (a : IsAnswer state.tenants tenants line state.pending pending) → AddsAnswer asked later line a.answer
     → Tells state asked text written now → Tells (state_is state.opening tenants pending) later after written now
 tells_more one_more state tenants pending line asked later text after written now more a adds tells =
@@ -63,7 +64,8 @@ tells_more one_more state tenants pending line asked later text after written no
     ap (λ (ls : List MarkedLine). rounds_in ls (answers_from state.opening.places q.0.lines)) q.1
     ∙ ap (λ (xs : List LineAnswer). rounds_in (old ++ given ∷ []) xs) q.2
     ∙ rounds_more old answers given a.answer long in
-    let refusals : refusals_in (answers_from state.opening.places q.0.lines) ≡ refusals_in answers + refusal_in a.answer =
+    let refusals : refusals_in (answers_from state.opening.places q.0.lines)
+    ≡ refusals_in answers + refusal_in a.answer =
     ap refusals_in q.2 ∙ refusals_more answers a.answer in
     let counted = tells.counted in
     record {
@@ -119,7 +121,9 @@ pub begun_more : OneMoreBegins
     → BeginsAnswersFrom opening after written now
 begun_more short opening text after written now line more begun =
     subst (λ (o : Opened). BeginsAnswersFrom o after written now) begun.opened
-    (short begun.state text after written now line begun.told more)
+    (short begun.state text after written now line begun.told
+    (subst (λ (o : Opened). input_lines o.heading after ≡ input_lines o.heading text ++ line ∷ []) (sym begun.opened)
+    more))
 
 -- the front of it was
 pub tells_written : (state : State) (asked : ℕ) (text : List ℕ) (written now later : Option (List ℕ))

@@ -27,7 +27,7 @@ use std::sync::Wait;
 /// A serving hall, and the room reserved for its desks at the end.
 pub(crate) struct HallClerk<'h, R: Wait> {
     pub(crate) setting: Setting<'h, R>,
-    // What the service opened with.
+    // With what the service opened.
     pub(crate) opening: Opening<'h>,
     pub(crate) serving: Serving,
     pub(crate) desks: Vec<Desk>,

@@ -10,7 +10,8 @@ returns-in-Faulty-clause-obeys c opening text after written now more told =
     let s = c.args.self.now in
     faulty_told c.answers_add_up.ensures.one_more opening s.register s.desk_states s.answers s.output
     c.in-Faulty.refusal text after written now
-    (more ∙ ap (λ (request : OperatorLine). input_lines opening.heading text ++ Operator request ∷ []) c.in-Faulty.is) told
+    (more ∙ ap (λ (request : OperatorLine). input_lines opening.heading text ++ Operator request ∷ []) c.in-Faulty.is)
+    told
 
 pub returns-in-Admit-clause-obeys : goal.returns-in-Admit-clause-obeys
 returns-in-Admit-clause-obeys c opening text after written now more told =
