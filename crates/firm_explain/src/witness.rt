@@ -1,5 +1,5 @@
-//! Witnesses: of the placements in which a task has another choice one that costs least, described by what else changes;
-//! if it costs no more, also by what puts the round's before it.
+//! Witnesses: of the placements in which a task has another choice one that costs least, described by what else
+//! changes; if it costs no more, also by what puts the round's before it.
 
 use crate::market::Market;
 use crate::moves::Moves;
