@@ -110,14 +110,14 @@ class Forgery(NamedTuple):
         """Whether it is an output that firm_explain may write."""
         if not self.is_alone:
             return is_true(self.case, self.text)
-        answers = re.findall(r"(?m)^(?!#).*\n?(?:#.*\n?)*", self.text)
+        answers = list(filter(None, re.findall(r"(?m)^(?!#).*\n?(?:#.*\n?)*", self.text)))
         return "".join(answers) == self.text and all(self.is_true_alone(answer) for answer in answers)
 
     def is_true_alone(self, answer: str) -> bool:
         """The same of a reply and the comments behind it; nothing can be said against one that is no round's."""
         lines = answer.removesuffix("\n").split("\n")
         if not is_round(lines[0]):
-            return len(lines) == 1
+            return len(lines) == 1 and lines[0] != ""
         found = alone(self.case, lines)
         return found is not None and is_true(found, answer)
 
@@ -581,6 +581,8 @@ def forged(options: argparse.Namespace, first: int, count: int, share: Share) ->
                 raise AssertionError(f"seed {seed}, {forgery.kind}, {case.words}: accepted: {path}.output")
         other = case
     print_counts(seen)
+    require(sum(seen.values()) > 50 * count, "few forgeries")
+    require(not seen["other order", TRUE, False], "a true order is refused")
 
 
 def print_counts(seen: Counter[tuple[str, str, bool]]) -> None:
@@ -696,7 +698,7 @@ def main() -> int:
     checks: dict[str, Check] = {
         "forged by hand": partial(forged_by_hand, options),
         "forged rents": partial(forged_rents, options),
-        "forgeries": partial(forged, options, options.first, 30 if options.quick else 1000, Share(40, 6, 1, 2)),
+        "forgeries": partial(forged, options, options.first, 52 if options.quick else 1000, Share(45, 5, 1, 2)),
     }
     chosen = {
         name: check for name, check in checks.items() if not options.words or any(w in name for w in options.words)
