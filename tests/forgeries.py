@@ -311,6 +311,15 @@ class Anew:
             for other in [None, *self.book.slots]
         }
 
+    def dearer(self, own: Rents) -> list[Rents]:
+        """The rents of the task, each with one that is too high, by as much as another placement costs more."""
+        at, found = self.truth.names.index(self.why or ""), []
+        for machine in self.book.slots:
+            costs = sorted({placed.cost for placed in self.truth.all if placed.choices[at] == machine})
+            if machine != self.choices()[at] and costs[1:]:
+                found.append(own | {machine: own[machine] + costs[1] - costs[0]})
+        return found
+
     def pool(self) -> list[Rents]:
         """Rents that show the placement: the lowest, the highest and those of tasks, and what lies between two."""
         found = [*self.tables, *(self.own_rents(name, self.choices()) for name in self.truth.names)]
@@ -432,7 +441,8 @@ def all_anew(made: Anew) -> Iterator[tuple[str, str]]:
     raised = {place: rent + draw.choice([0, 0, 1]) if place else 0 for place, rent in draw.choice([low, high]).items()}
     yield "false rents", made.text(choices, draw.choice([[raised, high], [low, raised]]), own, orders[0])
     if own:
-        yield "false rents of the task", made.text(choices, [low, high], raised, orders[0])
+        for rents in [raised, *made.dearer(own)]:
+            yield "false rents of the task", made.text(choices, [low, high], rents, orders[0])
     equal = [other.choices for other in made.truth.all if other.cost == made.truth.cost and other.choices != choices]
     for later in draw.sample(equal, min(3, len(equal))):
         at = made.truth.names.index(made.why) if made.why else 0
@@ -682,6 +692,9 @@ def forged_rents(options: argparse.Namespace) -> None:
         )
         for tables in ([low, low], [high, high], [high, low]):
             require_refused(case.stream, made.text(choices, tables, own, order).encode(), tables, *case.words)
+        for rents in made.dearer(own) if own else []:
+            text = made.text(choices, [low, high], rents, order)
+            require_refused(case.stream, text.encode(), (lines, words, rents), *case.words)
         for made.has_task_again, rents in product([False, True], [low, high] if own else []):
             if rents != own:
                 text = made.text(choices, [low, high], rents, order)
