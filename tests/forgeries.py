@@ -110,14 +110,14 @@ class Forgery(NamedTuple):
         """Whether it is an output that firm_explain may write."""
         if not self.is_alone:
             return is_true(self.case, self.text)
-        answers = re.findall(r"(?m)^(?!#).*\n?(?:#.*\n?)*", self.text)
+        answers = list(filter(None, re.findall(r"(?m)^(?!#).*\n?(?:#.*\n?)*", self.text)))
         return "".join(answers) == self.text and all(self.is_true_alone(answer) for answer in answers)
 
     def is_true_alone(self, answer: str) -> bool:
         """The same of a reply and the comments behind it; nothing can be said against one that is no round's."""
         lines = answer.removesuffix("\n").split("\n")
         if not is_round(lines[0]):
-            return len(lines) == 1
+            return len(lines) == 1 and lines[0] != ""
         found = alone(self.case, lines)
         return found is not None and is_true(found, answer)
 
@@ -311,6 +311,15 @@ class Anew:
             for other in [None, *self.book.slots]
         }
 
+    def dearer(self, own: Rents) -> list[Rents]:
+        """The rents of the task, each with one that is too high, by as much as another placement costs more."""
+        at, found = self.truth.names.index(self.why or ""), []
+        for machine in self.book.slots:
+            costs = sorted({placed.cost for placed in self.truth.all if placed.choices[at] == machine})
+            if machine != self.choices()[at] and costs[1:]:
+                found.append(own | {machine: own[machine] + costs[1] - costs[0]})
+        return found
+
     def pool(self) -> list[Rents]:
         """Rents that show the placement: the lowest, the highest and those of tasks, and what lies between two."""
         found = [*self.tables, *(self.own_rents(name, self.choices()) for name in self.truth.names)]
@@ -432,7 +441,8 @@ def all_anew(made: Anew) -> Iterator[tuple[str, str]]:
     raised = {place: rent + draw.choice([0, 0, 1]) if place else 0 for place, rent in draw.choice([low, high]).items()}
     yield "false rents", made.text(choices, draw.choice([[raised, high], [low, raised]]), own, orders[0])
     if own:
-        yield "false rents of the task", made.text(choices, [low, high], raised, orders[0])
+        for rents in [raised, *made.dearer(own)]:
+            yield "false rents of the task", made.text(choices, [low, high], rents, orders[0])
     equal = [other.choices for other in made.truth.all if other.cost == made.truth.cost and other.choices != choices]
     for later in draw.sample(equal, min(3, len(equal))):
         at = made.truth.names.index(made.why) if made.why else 0
@@ -581,6 +591,8 @@ def forged(options: argparse.Namespace, first: int, count: int, share: Share) ->
                 raise AssertionError(f"seed {seed}, {forgery.kind}, {case.words}: accepted: {path}.output")
         other = case
     print_counts(seen)
+    require(sum(seen.values()) > 50 * count, "few forgeries")
+    require(not seen["other order", TRUE, False], "a true order is refused")
 
 
 def print_counts(seen: Counter[tuple[str, str, bool]]) -> None:
@@ -680,6 +692,9 @@ def forged_rents(options: argparse.Namespace) -> None:
         )
         for tables in ([low, low], [high, high], [high, low]):
             require_refused(case.stream, made.text(choices, tables, own, order).encode(), tables, *case.words)
+        for rents in made.dearer(own) if own else []:
+            text = made.text(choices, [low, high], rents, order)
+            require_refused(case.stream, text.encode(), (lines, words, rents), *case.words)
         for made.has_task_again, rents in product([False, True], [low, high] if own else []):
             if rents != own:
                 text = made.text(choices, [low, high], rents, order)
@@ -696,7 +711,7 @@ def main() -> int:
     checks: dict[str, Check] = {
         "forged by hand": partial(forged_by_hand, options),
         "forged rents": partial(forged_rents, options),
-        "forgeries": partial(forged, options, options.first, 30 if options.quick else 1000, Share(40, 6, 1, 2)),
+        "forgeries": partial(forged, options, options.first, 52 if options.quick else 1000, Share(45, 5, 1, 2)),
     }
     chosen = {
         name: check for name, check in checks.items() if not options.words or any(w in name for w in options.words)

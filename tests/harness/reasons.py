@@ -1,16 +1,15 @@
 """The comment lines that firm_explain writes behind a round, word for word.
 
-All but the rents follows from the rows before the round, its placement and the rents, by arithmetic. `fault_by` reads
-the rents in the lines of an output, writes the lines anew, and compares them as texts.
+All but the rents follows from the rows before the round, its placement and the rents, by arithmetic. `reasons` reads
+the rents in the lines of an output and writes the lines anew; tests/certificates compares them.
 """
 
 from __future__ import annotations
 
-import argparse
 import re
 from collections import Counter
-from itertools import groupby, zip_longest
-from typing import Callable, Iterator, Mapping, NamedTuple, Protocol, Sequence
+from itertools import groupby
+from typing import Iterator, Mapping, NamedTuple, Protocol, Sequence
 
 Choice = str | None  # a machine; None is to wait
 Rents = Mapping[Choice, int]
@@ -92,34 +91,6 @@ class Asked(NamedTuple):
     machine: int | None = None
     all: bool = False
     rows: bool = False
-
-
-def read_options(words: Sequence[str]) -> Asked:
-    parser = argparse.ArgumentParser(prog="--claims")
-    parser.add_argument("--tenant", metavar="NAME")
-    parser.add_argument("--why", metavar="TASK")
-    parser.add_argument("--machine", type=int, metavar="SLOTS")
-    parser.add_argument("--all", action="store_true")
-    parser.add_argument("--rows", action="store_true")
-    return Asked(**vars(parser.parse_args(words)))
-
-
-def fault_by(words: Sequence[str]) -> Callable[[Round], str]:
-    """Says of a round which comment line is not the one that firm_explain writes with these options, or nothing."""
-    asked = read_options(words)
-
-    def fault_of(found: Round) -> str:
-        where, is_asked = " ".join(found.reply[:2]), asked.tenant in (None, found.reply[0])
-        if is_asked and not found.comments:
-            return f"{where}: no reasons"
-        if bool(found.rows) != (asked.rows and is_asked):
-            return f"{where}: {'rows that are not asked for' if found.rows else 'no rows'}"
-        for wanted, line in zip_longest(reasons(found, asked) if is_asked else (), found.comments):
-            if wanted != line:
-                return f"{where}: {line}; it should be {wanted}"
-        return ""
-
-    return fault_of
 
 
 def reasons(found: Round, asked: Asked) -> Iterator[str]:
