@@ -69,7 +69,7 @@ class Case:
         return {}
 
     def truth(self, number: int) -> small_books.Round | None:
-        """What is true of the round of this number; None where its placements are too many."""
+        """Return the truth on the round of this number; None if it has too many placements."""
         if number not in self.truths and small_books.Book(self.rows[number]).size() <= MOST_PLACEMENTS:
             self.truths[number] = small_books.Round(self.rows[number])
         return self.truths.get(number)
@@ -100,7 +100,7 @@ class Forgery(NamedTuple):
     is_alone: bool = False  # judged by its rows
 
     def said(self) -> str:
-        """What tests/certificates says of it."""
+        """Return the verdict of tests/certificates."""
         words = self.case.words
         if self.is_alone:
             return judge_alone(self.text.encode(), *words)
@@ -110,11 +110,11 @@ class Forgery(NamedTuple):
         """Whether it is an output that firm_explain may write."""
         if not self.is_alone:
             return is_true(self.case, self.text)
-        answers = list(filter(None, re.findall(r"(?m)^(?!#).*\n?(?:#.*\n?)*", self.text)))
+        answers: list[str] = list(filter(None, re.findall(r"(?m)^(?!#).*\n?(?:#.*\n?)*", self.text)))
         return "".join(answers) == self.text and all(self.is_true_alone(answer) for answer in answers)
 
     def is_true_alone(self, answer: str) -> bool:
-        """The same of a reply and the comments behind it; nothing can be said against one that is no round's."""
+        """Judge a reply and the comments after it; one that is no round's is true by its form."""
         lines = answer.removesuffix("\n").split("\n")
         if not is_round(lines[0]):
             return len(lines) == 1 and lines[0] != ""

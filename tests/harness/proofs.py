@@ -22,7 +22,7 @@ MOST_SPELLED = 20  # of a group with more places than these an order says ".."
 
 
 class Task(NamedTuple):
-    """What the choices of a task cost it: nothing on the machine that it runs on, its home, if it has one."""
+    """The costs of a task's choices. To stay on the machine that it runs on, its home, costs nothing."""
 
     home: Choice
     preferred: Sequence[str]
