@@ -2,8 +2,8 @@
 
 usage: tools/run tests/forgeries.py [--quick] [--first SEED] [--explain FILE] [WORD..]
 From firm_explain's outputs for random small streams come thousands of others: lines altered, removed, repeated, moved
-or taken from elsewhere; whole outputs for a stream that differs in a line, or for other options; and rounds with another
-placement, other rents, another order or other witnesses, in which all else is written anew to match. An output is true
+or taken from elsewhere; whole outputs for a stream that differs in a line, or for other options; and rounds with other
+placements, rents, orders or witnesses, in which all else is written anew to match. An output is true
 if firm_explain writes it, but for orders and witnesses, which it may choose: harness/small_books.py judges those by
 enumeration. Those that are true after all are counted. With words only the checks whose names have one of them. Each
 check has a line; the exit status is 1 where one failed. The long run takes some minutes.
@@ -69,7 +69,7 @@ class Case:
         return {}
 
     def truth(self, number: int) -> small_books.Round | None:
-        """What is true of the round of this number; None where its placements are too many."""
+        """Return the truth on the round of this number; None if it has too many placements."""
         if number not in self.truths and small_books.Book(self.rows[number]).size() <= MOST_PLACEMENTS:
             self.truths[number] = small_books.Round(self.rows[number])
         return self.truths.get(number)
@@ -100,7 +100,7 @@ class Forgery(NamedTuple):
     is_alone: bool = False  # judged by its rows
 
     def said(self) -> str:
-        """What tests/certificates says of it."""
+        """Return the verdict of tests/certificates."""
         words = self.case.words
         if self.is_alone:
             return judge_alone(self.text.encode(), *words)
@@ -110,11 +110,11 @@ class Forgery(NamedTuple):
         """Whether it is an output that firm_explain may write."""
         if not self.is_alone:
             return is_true(self.case, self.text)
-        answers = list(filter(None, re.findall(r"(?m)^(?!#).*\n?(?:#.*\n?)*", self.text)))
+        answers: list[str] = list(filter(None, re.findall(r"(?m)^(?!#).*\n?(?:#.*\n?)*", self.text)))
         return "".join(answers) == self.text and all(self.is_true_alone(answer) for answer in answers)
 
     def is_true_alone(self, answer: str) -> bool:
-        """The same of a reply and the comments behind it; nothing can be said against one that is no round's."""
+        """Judge a reply and the comments after it; one that is no round's is true by its form."""
         lines = answer.removesuffix("\n").split("\n")
         if not is_round(lines[0]):
             return len(lines) == 1 and lines[0] != ""
@@ -187,7 +187,7 @@ def without_memory(case: Case, refused: Sequence[int]) -> tuple[Case, Output]:
 
 
 def may_be(case: Case, number: int, line: str, true: str) -> bool:
-    """Whether a line that firm_explain may choose is as true as another one: an order, or a placement that costs so much."""
+    """Whether a line that firm_explain may choose is as true as its own: an order, or a placement of a cost."""
     truth = case.truth(number) if number >= 0 else None
     if truth is None:
         return False
@@ -677,7 +677,7 @@ def forged_by_hand(options: argparse.Namespace) -> None:
 
 
 def forged_rents(options: argparse.Namespace) -> None:
-    """Rents that show the placement, and are not the lowest, the highest, or those by which a task's numbers are exact."""
+    """Rents that show the placement, but are not the lowest, the highest, or the exact ones of a task."""
     draw = random.Random(1)
     for lines, words in ((PAIR, ""), (PAIR, "--why b"), (PAIR, "--why a"), (EVENING, "--why w1"), (NIGHT, "--why b2")):
         case = Case(options.explain, commands(lines), words.split())

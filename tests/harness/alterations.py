@@ -105,7 +105,7 @@ def moved_line(draw: random.Random, lines: Output, _: Output) -> str | None:
 
 
 def kind_of(line: str) -> str:
-    """What a line says, without its names and numbers."""
+    """The form of a line, without its numbers."""
     return re.sub(r"\d+", "", " ".join(line.split(" ")[: 3 if line.startswith("#") else 4]))
 
 
@@ -119,7 +119,7 @@ def taken_line(draw: random.Random, lines: Output, others: Output) -> str | None
 
 
 def blocks(lines: Output) -> list[tuple[int, int]]:
-    """Where the comments of each round begin and end."""
+    """The first line of each round's comments, and the line after them."""
     starts = [at + 1 for at, line in enumerate(lines) if is_round(line)]
     ends = [next((at for at in range(start, len(lines)) if lines[at][:1] != "#"), len(lines)) for start in starts]
     return list(zip(starts, ends))
@@ -158,7 +158,7 @@ def other_changes(draw: random.Random, lines: Output, _: Output) -> str | None:
 
 
 def other_reply(draw: random.Random, lines: Output, _: Output) -> str | None:
-    """A reply that is another, with nothing else changed but the comments behind it."""
+    """A reply that is another, with nothing else changed but its comments."""
     found = [at for at, line in enumerate(lines) if not line.startswith("#")]
     at = draw.choice(found[-1:] * 3 + found)
     start = " ".join(lines[at].split(" ")[:2])

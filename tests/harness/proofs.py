@@ -22,7 +22,7 @@ MOST_SPELLED = 20  # of a group with more places than these an order says ".."
 
 
 class Task(NamedTuple):
-    """What the choices of a task cost it: nothing on the machine that it runs on, its home, if it has one."""
+    """The costs of a task's choices. To stay on the machine that it runs on, its home, costs nothing."""
 
     home: Choice
     preferred: Sequence[str]
@@ -231,7 +231,7 @@ class Order:
         self.cuts = list(range(len(groups) + 1))  # above each group; a cut that is crossed names one above it
 
     def text(self, book: Book, rest: int | None) -> str:
-        """The groups as they are written: the places of each in order of addition, the largest as `..` if it is long."""
+        """The groups as they are written: each with its places in order of addition, a long one as `..`."""
         groups: list[list[str]] = [[] for _ in range(1 + max(self.of.values()))]
         for place in book.places:
             groups[self.of[place]].append(place or "waiting")

@@ -123,7 +123,7 @@ class Round:
         return any(self.shows_first(groups, low) for groups in readings(text, self.book))
 
     def shows_first(self, groups: Groups, low: Mapping[Choice, int]) -> bool:
-        """Whether each better choice stands lower, with a cut between that no slot and no later task crosses upwards."""
+        """Whether each better choice stands lower, with a cut between that no slot or later task crosses upwards."""
         for at, has in enumerate(self.choices):
             ups = [groups_of for groups_of in self.ups(at + 1, groups, low)]
             for better in self.better(at, low):
