@@ -67,17 +67,7 @@ def limits_of_model(tenant: service.Tenant) -> object:
 
 
 def limits_of_book(book: Book) -> object:
-    limits = book.limits
-    return (
-        limits.tenant,
-        limits.nodes,
-        limits.arcs,
-        limits.life,
-        limits.spread,
-        limits.churn,
-        limits.remote,
-        limits.patience,
-    )
+    return tuple(getattr(book.limits, field) for field in roster.FULL_HEADING)
 
 
 def books_of_stream(seed: int) -> None:
