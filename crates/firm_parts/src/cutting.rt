@@ -14,7 +14,8 @@ pub fn has_tenant(saved: &Saved, name: Name) -> bool
     is_seated(saved.places(), name)
 }
 
-/// The state with the tenants of these names alone, of the same heading. The others have left, as if the operator had retired them.
+/// The state with the tenants of these names alone, of the same heading. The others have left, as if the operator had
+/// retired them.
 pub fn cut_to(saved: Saved, names: &[Name]) -> Saved
     ensures { result ≡ cut_state names.now saved }
 {

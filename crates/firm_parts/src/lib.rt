@@ -1,7 +1,7 @@
 //! A state (docs/FORMATS.md) with some of its tenants alone, and the state that two make up.
 //!
-//! A `Saved` as firm_saved has it. `cut_state`, `joined_state` and `book_in`, the book that places have for a name, are in
-//! `specs/Parts.antt`.
+//! A `Saved` as firm_saved has it. `cut_state`, `joined_state` and `book_in`, the book that places have for a name, are
+//! in `specs/Parts.antt`.
 //!
 //! # What is proved
 //!

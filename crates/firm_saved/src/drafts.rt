@@ -56,8 +56,8 @@ impl Draft {
         }
     }
 
-    /// Takes the next line under this heading, with a buffer to write its row into; gives the count of the last row, if it is that. The
-    /// draft is of no use after an error.
+    /// Takes the next line under this heading, with a buffer to write its row into; gives the count of the last row, if
+    /// it is that. The draft is of no use after an error.
     pub fn take_line(
         &mut self,
         alloc: Global,

@@ -20,7 +20,8 @@ use firm_text::{Heading, number};
 // No round costs more: 3,000,000 for each of 4,096 machines and tasks.
 const MOST_COST: u64 = 4_096 * 3_000_000;
 
-/// The row that a line is under this heading. Each row has one line: its words are read, written into the buffer, and must be the line.
+/// The row that a line is under this heading. Each row has one line: its words are read, written into the buffer, and
+/// must be the line.
 pub fn row_of(heading: Heading, line: &[u8], buffer: &mut Vec<u8>) -> Result<Row, FaultKind>
     ensures { Gives (λ row. row) result (row_of heading line.now) }
 {
@@ -83,7 +84,8 @@ fn tenant_row(heading: Heading, behind: &[u8]) -> Result<Row, FaultKind>
 }
 
 fn limits_at(heading: Heading, behind: &[u8]) -> Result<(Limits, &[u8]), FaultKind>
-    ensures { MatchResult result (λ read. limits_at heading (words_behind behind.now) ≡ Ok (read.0, words_behind read.1.now))
+    ensures { MatchResult result
+        (λ read. limits_at heading (words_behind behind.now) ≡ Ok (read.0, words_behind read.1.now))
         (λ kind. limits_at heading (words_behind behind.now) ≡ Err kind) }
 {
     let (nodes, rest) = number_in(Ok(behind));
@@ -127,7 +129,8 @@ fn number_in(read: Result<&[u8], FaultKind>) -> (u64, Result<&[u8], FaultKind>)
 
 // The patience, written under an extended heading unless it is the longest, and the rest after it.
 fn patience_at(heading: Heading, behind: &[u8]) -> Result<(u64, &[u8]), FaultKind>
-    ensures { MatchResult result (λ read. patience_at heading (words_behind behind.now) ≡ Ok (read.0, words_behind read.1.now))
+    ensures { MatchResult result
+        (λ read. patience_at heading (words_behind behind.now) ≡ Ok (read.0, words_behind read.1.now))
         (λ kind. patience_at heading (words_behind behind.now) ≡ Err kind) }
 {
     match heading {
