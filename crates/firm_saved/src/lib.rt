@@ -3,8 +3,8 @@
 //! A `Saved` has the heading of its service and its places, and is always sound (`specs/Saved.antt`); `state_text`
 //! (`specs/StateText.antt`) gives its text from a list of rows, and by the law `a_text_has_one_state` two sound states
 //! with one text are one. `state_of` (`specs/Reading.antt`) is a text's state, or its first fault: it takes one line
-//! after the other as a row (`Lines.antt`) and judges each by those before it (`Drafts.antt`). Behind the same lines
-//! before it, no sound state's text has the line of the fault (`specs/StateLaws.antt`).
+//! after the other as a row (`Lines.antt`) and judges each by those before it (`Drafts.antt`). After the same lines, no
+//! sound state's text has the line of the fault (`specs/StateLaws.antt`).
 //!
 //! A text is read once, row by row: a row's words are taken as far as they tell, and the row must then be written as
 //! the line. Its place among the rows before it is judged without a search through them.

@@ -116,8 +116,7 @@ impl Saved {
         Saved { heading, places }
     }
 
-    /// The heading, under which the lines of a service that goes on from this state are read. Each tenant's limits fit
-    /// it.
+    /// The heading, under which a service that goes on from this state reads its lines. Each tenant's limits fit it.
     pub fn heading(&self) -> Heading
         ensures heading { result ≡ self.now.heading }
         ensures fit { All (PlaceFits self.now.heading) self.now.places }

@@ -24,7 +24,7 @@ use firm_text::{Entry, Heading};
 use itoa::Buffer;
 use std::alloc::AllocError;
 
-/// Adds the first line of the text of a state with this heading. Where memory runs out, some bytes may have been added,
+/// Adds the first line of the text of a state with this heading. If memory is refused, some bytes may have been added,
 /// here and below.
 #[tactic(auto, using(crate::proofs::Puts::kept_trans))]
 pub fn put_heading(output: &mut Vec<u8>, heading: Heading) -> Result<(), AllocError>

@@ -103,7 +103,7 @@ pub fn serve_to_state<R: Source, W: Sink>(
     let Ok(mut service) = Service::open(alloc, opening, true) else {
         return Err(ServeFault::Memory);
     };
-    // The tenants before the first line fit the heading. By laws so does each that a line admits, and steps keep their
+    // The tenants before the first line fit the heading; by laws so does each that a line admits, and steps keep
     // limits.
     opening.heading();
     admits_what_fits();
