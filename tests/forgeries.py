@@ -14,11 +14,10 @@ from __future__ import annotations
 import argparse
 import random
 import re
-import subprocess
 from collections import Counter
 from functools import cached_property, partial
 from itertools import product
-from typing import Any, Callable, Iterator, NamedTuple, Sequence
+from typing import Any, Iterator, NamedTuple, Sequence
 
 from explain import CHECKER, Stream, Written, judge, judge_alone, require_refused
 from harness import program, service, small_books
@@ -445,7 +444,6 @@ def all_anew(made: Anew) -> Iterator[tuple[str, str]]:
             yield "false rents of the task", made.text(choices, [low, high], rents, orders[0])
     equal = [other.choices for other in made.truth.all if other.cost == made.truth.cost and other.choices != choices]
     for later in draw.sample(equal, min(3, len(equal))):
-        at = made.truth.names.index(made.why) if made.why else 0
         by = made.own_rents(made.why, later) if made.why else None
         for order in orders:
             yield "later placement", made.text(later, [low, high], by, order)

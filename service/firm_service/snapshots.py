@@ -19,7 +19,7 @@ from dataclasses import dataclass
 from pathlib import Path
 
 from .extent import Extent
-from .faults import RESTORE, Exit, Fault, say
+from .faults import Fault, say
 from .files import PRIVATE, make_folder, replace_synced, require_room
 from .records import Base, sealed
 from .recovery import extent_path, read_header, segment_path
