@@ -5,7 +5,7 @@ usage: tools/run tests/compare.py [--program FILE] [--under COMMAND] [--workers 
 Half of the streams open with a roster, the others with the plain service's state after some of the lines.
 Each difference has a line with its seed and is kept under out/tests; the exit status is 1 where there is one, or where
 500 streams or more have hardly a start, a move, a preemption, an eviction, an opening of each kind, or an admission
-with a patience, accepted or refused. `--streams 100000` takes half an hour on two processors.
+with a patience, accepted or refused. `--streams 100000` takes a quarter of an hour of processor time.
 """
 
 from __future__ import annotations
