@@ -212,8 +212,6 @@ FAULTY_STATES = {
     STATE.replace(b"state 1", b"state 1 extend"): "1 version in line 1",
     STATE.replace(b"remote 0", b"remote 0 patience 3"): "2 row in line 3",
     STATE.replace(b"costs\n", b"\n"): "2 row in line 4",
-    STATE.replace(b"remote 0", b"remote 0 patience 5"): "2 row in line 3",
-    STATE.replace(b"state 1", b"state 1 eight"): "1 version in line 1",
     STATE.replace(b"tenant a", b"tenant A"): "3 name in line 3",
     STATE.replace(b"nodes 2", b"nodes 1"): "4 number in line 3",
     STATE.replace(
