@@ -89,6 +89,11 @@ def whose_work() -> None:
                 found = {user: user_of_work(7, user) for user in (0, least - 1, least, 65_534)}
                 expected = {least: least, **{user: f"user {user}" for user in (0, least - 1, 65_534)}}
                 require(found == expected, f"{text!r}: {found}")
+            for text in ("UID_MIN 0\n", "UID_MIN -1\n", "UID_MIN 5\nUID_MIN 1000\n"):  # no file makes root a person
+                definitions.write_text(text)
+                found = {user: user_of_work(7, user) for user in (0, 5)}
+                expected = {0: "user 0", 5: 5 if "1000" not in text else "user 5"}
+                require(found == expected, f"{text!r}: {found}")
     others: list[object] = [0, False, True, 0.0, 7.0, -1, 2**32 - 1, 2**32, "0", "7", [0], {}]
     taken = [user for user in others if is_work({**WORK, "user": user})]
     require(not taken, f"taken for users: {taken}")

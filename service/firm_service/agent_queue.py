@@ -84,13 +84,14 @@ def is_system_account(user: int) -> bool:
 
 
 def uid_min() -> int:
-    """Return the lowest number of a person's account on this host."""
+    """Return the lowest number of a person's account on this host: by the last line that has it, and never root's."""
+    found = DEFAULT_UID_MIN
     with suppress(OSError, ValueError):
         for line in LOGIN_DEFS.read_text(errors="replace").splitlines():
             words = line.split()
             if words[:1] == ["UID_MIN"] and len(words) > 1:
-                return int(words[1], 0)
-    return DEFAULT_UID_MIN
+                found = max(1, int(words[1], 0))
+    return found
 
 
 def command_of(fields: Fields) -> str | list[str]:
