@@ -291,15 +291,17 @@ def hostile(work: Callable[[], Iterator[None]]) -> Iterator[None]:
     given, taken = os.pipe()
     child = os.fork()
     if child == 0:
-        os.setgroups([])
-        os.setgid(ANN)
-        os.setuid(ANN)
-        turns = work()
-        next(turns)
-        os.write(taken, b".")
-        for _ in turns:
-            pass
-        os._exit(1)
+        try:
+            os.setgroups([])
+            os.setgid(ANN)
+            os.setuid(ANN)
+            turns = work()
+            next(turns)
+            os.write(taken, b".")
+            for _ in turns:
+                pass
+        finally:
+            os._exit(1)
     try:
         os.close(taken)
         with open(given, "rb") as ready:
@@ -347,7 +349,8 @@ def hold_loopback(path: Path) -> Iterator[None]:
 
 def come_and_go(path: Path) -> Iterator[None]:
     while True:
-        connected(path).close()
+        with suppress(OSError):
+            connected(path).close()
         yield
 
 
@@ -365,14 +368,14 @@ def send_bodies(path: Path) -> Iterator[None]:
     held = dict[int, socket.socket]()
     poll = select.epoll()
     while True:
-        while len(held) < CONNECTIONS:
-            connection = connected(path)
-            connection.setblocking(False)
-            held[connection.fileno()] = connection
-            poll.register(connection, select.EPOLLOUT)
-            with suppress(OSError):
-                connection.sendall(CHUNKED)
-        for number, _ in poll.poll():
+        with suppress(OSError):  # too many wait to be accepted, or it is closed already
+            while len(held) < CONNECTIONS:
+                connection = connected(path)
+                held[connection.fileno()] = connection
+                poll.register(connection, select.EPOLLOUT)
+                connection.setblocking(False)
+                connection.send(CHUNKED)
+        for number, _ in poll.poll(1.0):
             try:
                 held[number].send(b"1\r\na\r\n" * 30_000)
             except BlockingIOError:
