@@ -102,6 +102,23 @@ def whose_work() -> None:
         require(work_of({**WORK, "user": 1_001}, 0, True).bounds == {}, "of an agent that is not root's")
 
 
+def replaced_socket() -> None:
+    """An agent of root takes no work from a socket that a third user could replace, who would have it run as any."""
+    if os.getuid() != 0:
+        raise Skipped("it needs root")
+    with Cluster() as case:
+        others = case.folder / "others"
+        others.mkdir()
+        (others / "queue").symlink_to(case.folder / "queue")
+        os.chown(others, GAMES, GAMES)
+        case.start_agent(queue=others / "queue")
+        fault = f"it belongs to user {GAMES}, who could put a link in the place of queue"
+        case.until(lambda: fault in (case.folder / "log").read_text(), "the agent says whose the folder is")
+        require("a1" not in case.queue.agents, "it is registered")
+        os.chown(others, 0, 0)
+        case.until(lambda: "a1" in case.queue.agents, "it is registered once the folder is root's")
+
+
 def user_of_work(owner: int, user: int | None) -> int | str:
     """Whose process an agent of root makes of an owner's queue's work for a user, or whom the refusal names."""
     try:

@@ -18,6 +18,7 @@ from .agent_machines import Machines
 from .agent_state import Event, Key, Run
 from .agent_table import Machine, Work
 from .books import Task
+from .files import require_kept
 from .logs import INFO, WARNING, tell
 from .queue.fields import MOST_BYTES, MOST_GRACE, MOST_LETTERS, MOST_PROCESSORS, MOST_SECONDS, MOST_WORDS
 from .queue.fields import Fields, Refused, bad, checked_text
@@ -186,6 +187,12 @@ class QueueSource:
     async def _connect(self) -> None:
         """One connection, until it is lost; that raises OSError, or a group of errors."""
         link = await Link.open(self.path)
+        if os.geteuid() == 0 and self.has_here:  # who put another socket there would have work run as any user
+            try:
+                require_kept(self.path, link.owner)
+            except OSError:
+                link.close()
+                raise
         async with asyncio.TaskGroup() as group:
             group.create_task(link.hear(self._hear))
             group.create_task(self._converse(link))
