@@ -89,12 +89,34 @@ def whose_work() -> None:
                 found = {user: user_of_work(7, user) for user in (0, least - 1, least, 65_534)}
                 expected = {least: least, **{user: f"user {user}" for user in (0, least - 1, 65_534)}}
                 require(found == expected, f"{text!r}: {found}")
+            for text in ("UID_MIN 0\n", "UID_MIN -1\n", "UID_MIN 5\nUID_MIN 1000\n"):  # no file makes root a person
+                definitions.write_text(text)
+                found = {user: user_of_work(7, user) for user in (0, 5)}
+                expected = {0: "user 0", 5: 5 if "1000" not in text else "user 5"}
+                require(found == expected, f"{text!r}: {found}")
     others: list[object] = [0, False, True, 0.0, 7.0, -1, 2**32 - 1, 2**32, "0", "7", [0], {}]
     taken = [user for user in others if is_work({**WORK, "user": user})]
     require(not taken, f"taken for users: {taken}")
     require(work_of({**WORK, "user": 33}, 7, False).bounds == {}, "over ssh it is the login's")
     with replaced(os, "geteuid", lambda: 1_000):  # an agent that is not root's can't become another, and isn't asked to
         require(work_of({**WORK, "user": 1_001}, 0, True).bounds == {}, "of an agent that is not root's")
+
+
+def replaced_socket() -> None:
+    """An agent of root takes no work from a socket that a third user could replace, who would have it run as any."""
+    if os.getuid() != 0:
+        raise Skipped("it needs root")
+    with Cluster() as case:
+        others = case.folder / "others"
+        others.mkdir()
+        (others / "queue").symlink_to(case.folder / "queue")
+        os.chown(others, GAMES, GAMES)
+        case.start_agent(queue=others / "queue")
+        fault = f"it belongs to user {GAMES}, who could put a link in the place of queue"
+        case.until(lambda: fault in (case.folder / "log").read_text(), "the agent says whose the folder is")
+        require("a1" not in case.queue.agents, "it is registered")
+        os.chown(others, 0, 0)
+        case.until(lambda: "a1" in case.queue.agents, "it is registered once the folder is root's")
 
 
 def user_of_work(owner: int, user: int | None) -> int | str:

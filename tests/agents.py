@@ -687,6 +687,7 @@ QUICK = [
     not_shown,
     agent_users.other_user,
     agent_users.whose_work,
+    agent_users.replaced_socket,
     no_work,
     failing_disk,
     told_before,

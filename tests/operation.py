@@ -352,6 +352,25 @@ def folders_of_others(setup: Setup) -> None:
                 require(done.returncode == 4 and victim.read_text() == "victim", (command, done))
                 told = f"it belongs to user {NOBODY}: run this as that user" if owner else "symbolic links"
                 require(told in done.stderr, (command, done.stderr))
+        command = [*FIRMD, "--firm", setup.program, "--roster", "r", "--socket", f"{name}/s", "--state"]
+        for state, told in led_by_others(Path(name)).items():
+            done = subprocess.run([*command, str(state)], stdin=subprocess.DEVNULL, capture_output=True, text=True)
+            require(done.returncode == 4 and told in done.stderr, (state, done))
+            require(not (state / "lock").exists() and not (Path(name) / "made").exists(), f"{state} is written")
+
+
+def led_by_others(folder: Path) -> dict[Path, str]:
+    """Return folders of root's, and some to be made, that others could lead elsewhere, and why each is refused."""
+    way, target, shared = folder / "way", folder / "target", folder / "shared"
+    for one in (way, target, shared):
+        one.mkdir()
+    shared.chmod(0o1777)
+    for link, goal in (("link", "way/state"), ("way/state", "../target"), ("way/new", "../made")):
+        (folder / link).symlink_to(goal)
+    os.chown(way, NOBODY, NOBODY)
+    whose = f"it belongs to user {NOBODY}, who could put a link in the place of "
+    found = {way / "state": f"{whose}state", folder / "link": f"{whose}state", way / "new/state": f"{whose}new"}
+    return {**found, shared: "all users may write there", shared / "x": "all users may write there"}
 
 
 def links_in_the_place_of_files(setup: Setup) -> None:

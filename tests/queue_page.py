@@ -16,6 +16,7 @@ import json
 import os
 import re
 import resource
+import select
 import shutil
 import signal
 import socket
@@ -43,6 +44,8 @@ LIMIT_SECONDS = 120.0  # for any answer
 GROUP = 60  # games, which each Debian host has
 BEATS = 20
 MANY_MACHINES = 4_096  # that an agent may have
+CONNECTIONS = 100  # that the page may have
+CHUNKED = b"GET /x HTTP/1.1\r\nHost: localhost\r\nTransfer-Encoding: chunked\r\n\r\n"
 GET = b"GET /queue.json HTTP/1.1\r\nHost: localhost\r\n\r\n"
 # A queue whose users may leave little unread.
 SMALL_BOUNDS = """\
@@ -232,14 +235,15 @@ def crowd_of_readers(setup: Setup) -> None:
 
 def flood(setup: Setup) -> None:
     """Whatever a user does to the page, beats of agents and requests at the queue's socket are answered soon: beside
-    connections that come and go, requests that are refused, and thousands of connections over the loopback."""
+    connections that come and go, requests that are refused, bodies without end in the smallest chunks, and thousands of
+    connections over the loopback."""
     if os.geteuid():
         raise Skipped("it needs root, to be other users")
     with with_page(setup) as case:
         case.start()
         with case.client() as client, ExitStack() as stack:
             client.ask("register", agent="a1", id="x", machines={"m1": 1}, runs=[])
-            for work in (hold_loopback, come_and_go, be_refused):
+            for work in (hold_loopback, come_and_go, be_refused, send_bodies):
                 stack.enter_context(hostile(partial(work, page_of(case))))
             took = []
             for _ in range(BEATS):
@@ -287,15 +291,17 @@ def hostile(work: Callable[[], Iterator[None]]) -> Iterator[None]:
     given, taken = os.pipe()
     child = os.fork()
     if child == 0:
-        os.setgroups([])
-        os.setgid(ANN)
-        os.setuid(ANN)
-        turns = work()
-        next(turns)
-        os.write(taken, b".")
-        for _ in turns:
-            pass
-        os._exit(1)
+        try:
+            os.setgroups([])
+            os.setgid(ANN)
+            os.setuid(ANN)
+            turns = work()
+            next(turns)
+            os.write(taken, b".")
+            for _ in turns:
+                pass
+        finally:
+            os._exit(1)
     try:
         os.close(taken)
         with open(given, "rb") as ready:
@@ -343,7 +349,8 @@ def hold_loopback(path: Path) -> Iterator[None]:
 
 def come_and_go(path: Path) -> Iterator[None]:
     while True:
-        connected(path).close()
+        with suppress(OSError):
+            connected(path).close()
         yield
 
 
@@ -353,6 +360,28 @@ def be_refused(path: Path) -> Iterator[None]:
         with suppress(OSError), connected(path) as connection:
             connection.sendall(b"POST /x HTTP/1.1\r\nHost: localhost\r\n\r\n" * 7)
             connection.recv(65_536)
+        yield
+
+
+def send_bodies(path: Path) -> Iterator[None]:
+    """Sends on as many connections as there may be what takes a server longest to parse for its bytes."""
+    held = dict[int, socket.socket]()
+    poll = select.epoll()
+    while True:
+        with suppress(OSError):  # too many wait to be accepted, or it is closed already
+            while len(held) < CONNECTIONS:
+                connection = connected(path)
+                held[connection.fileno()] = connection
+                poll.register(connection, select.EPOLLOUT)
+                connection.setblocking(False)
+                connection.send(CHUNKED)
+        for number, _ in poll.poll(1.0):
+            try:
+                held[number].send(b"1\r\na\r\n" * 30_000)
+            except BlockingIOError:
+                pass
+            except OSError:
+                held.pop(number).close()
         yield
 
 

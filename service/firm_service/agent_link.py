@@ -4,17 +4,15 @@ from __future__ import annotations
 
 import asyncio
 import json
-import socket
-import struct
 from collections import deque
 from collections.abc import Callable
 from pathlib import Path
 
 from .agent_state import Event
+from .sight import Peer
 from .supervisor import short
 
 LONGEST_LINE = 1 << 23  # bytes, as the queue takes them
-PEER = struct.Struct("3i")  # process, user and group
 
 
 class Refusal(Exception):
@@ -43,8 +41,7 @@ class Link:
         self._reader, self._writer = reader, writer
         self._asked: deque[asyncio.Future[Event]] = deque()
         self._is_lost = False
-        found = writer.get_extra_info("socket").getsockopt(socket.SOL_SOCKET, socket.SO_PEERCRED, PEER.size)
-        self.owner = int(PEER.unpack(found)[1])  # the user at the other end
+        self.owner = Peer.of(writer.get_extra_info("socket")).user
 
     @classmethod
     async def open(cls, path: Path) -> Link:

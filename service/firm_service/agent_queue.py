@@ -18,6 +18,7 @@ from .agent_machines import Machines
 from .agent_state import Event, Key, Run
 from .agent_table import Machine, Work
 from .books import Task
+from .files import require_kept
 from .logs import INFO, WARNING, tell
 from .queue.fields import MOST_BYTES, MOST_GRACE, MOST_LETTERS, MOST_PROCESSORS, MOST_SECONDS, MOST_WORDS
 from .queue.fields import Fields, Refused, bad, checked_text
@@ -84,13 +85,14 @@ def is_system_account(user: int) -> bool:
 
 
 def uid_min() -> int:
-    """Return the lowest number of a person's account on this host."""
+    """Return the lowest number of a person's account on this host: by the last line that has it, and never root's."""
+    found = DEFAULT_UID_MIN
     with suppress(OSError, ValueError):
         for line in LOGIN_DEFS.read_text(errors="replace").splitlines():
             words = line.split()
             if words[:1] == ["UID_MIN"] and len(words) > 1:
-                return int(words[1], 0)
-    return DEFAULT_UID_MIN
+                found = max(1, int(words[1], 0))
+    return found
 
 
 def command_of(fields: Fields) -> str | list[str]:
@@ -185,6 +187,12 @@ class QueueSource:
     async def _connect(self) -> None:
         """One connection, until it is lost; that raises OSError, or a group of errors."""
         link = await Link.open(self.path)
+        if os.geteuid() == 0 and self.has_here:  # who put another socket there would have work run as any user
+            try:
+                require_kept(self.path, link.owner)
+            except OSError:
+                link.close()
+                raise
         async with asyncio.TaskGroup() as group:
             group.create_task(link.hear(self._hear))
             group.create_task(self._converse(link))

@@ -158,8 +158,9 @@ class State:
         self, folder: Path, owner: str, is_patient: bool = False, observer: Observer = lambda event, run: None
     ) -> None:
         """Raises `StateError`, and OSError where the folder can't be read and written."""
-        folder.mkdir(mode=0o750, parents=True, exist_ok=True)
         require_own(folder)
+        folder.mkdir(mode=0o750, parents=True, exist_ok=True)
+        require_own(folder)  # another may have made it meanwhile
         self.lock = open_lock(folder / "lock")
         try:
             fcntl.flock(self.lock, fcntl.LOCK_EX | fcntl.LOCK_NB)

@@ -5,12 +5,14 @@ from __future__ import annotations
 import errno
 import os
 import stat
+from collections.abc import Iterator
 from contextlib import suppress
 from pathlib import Path
 from typing import IO
 
 PRIVATE = 0o600  # for what has rows of several tenants
 OWNERS = 0o700  # of a folder
+MOST_LINKS = 40  # that the system follows on the way to a file
 
 
 def sync_folder(path: Path) -> None:
@@ -44,10 +46,48 @@ def open_lock(path: Path) -> IO[bytes]:
 
 def require_own(folder: Path) -> None:
     """Raise PermissionError for a folder of another user but root: its owner could have this process write elsewhere,
-    with more rights than that user has, by a link in the place of any file."""
-    owner = folder.stat().st_uid
-    if owner not in (0, os.geteuid()):
-        raise PermissionError(errno.EPERM, f"it belongs to user {owner}: run this as that user", str(folder))
+    with more rights than that user has, by a link in the place of any file. Root needs all folders above it too."""
+    with suppress(FileNotFoundError):
+        owner = folder.stat().st_uid
+        if owner not in (0, os.geteuid()):
+            raise PermissionError(errno.EPERM, f"it belongs to user {owner}: run this as that user", str(folder))
+        if os.geteuid() == 0 and folder.stat().st_mode & stat.S_IWOTH:
+            raise PermissionError(errno.EPERM, "all users may write there", str(folder))
+    if os.geteuid() == 0:
+        require_kept(folder, 0)
+
+
+def require_kept(path: Path, user: int) -> None:
+    """Raise PermissionError if another user than root and this one can have a path lead elsewhere: who owns a folder on
+    its way can, and in one that is open to all, as /tmp, anybody can but where root has the next name."""
+    for folder, name in steps_of(path):
+        found = folder.stat()
+        is_shared = bool(found.st_mode & stat.S_IWOTH) and not is_roots(folder / name, found.st_mode)
+        if is_shared or found.st_uid not in (0, user):
+            whose = "all users may write there" if is_shared else f"it belongs to user {found.st_uid}"
+            raise PermissionError(errno.EPERM, f"{whose}, who could put a link in the place of {name}", str(folder))
+
+
+def steps_of(path: Path) -> Iterator[tuple[Path, str]]:
+    """Yield the folders on the way to a path with the names in them, through links and as far as there are any."""
+    at, left, links = Path("/"), [*reversed(path.absolute().parts[1:])], 0
+    while left and at.is_dir():
+        name = left.pop()
+        yield at, name
+        here = at / name
+        if here.is_symlink() and links < MOST_LINKS:
+            target, links = here.readlink(), links + 1
+            at = Path("/") if target.is_absolute() else at
+            left += reversed(target.parts[1:] if target.is_absolute() else target.parts)
+        else:
+            at = at.parent if name == ".." else here
+
+
+def is_roots(path: Path, mode: int) -> bool:
+    """Whether nobody but root can remove a name from a folder of this mode."""
+    with suppress(FileNotFoundError):
+        return bool(mode & stat.S_ISVTX) and path.lstat().st_uid == 0
+    return False
 
 
 def write_synced(path: Path, text: bytes, mode: int = 0o666) -> None:

@@ -16,8 +16,9 @@ LOCK = "lock"
 def lock_alone(folder: Path, mode: int = 0o750) -> IO[bytes]:
     """Has this process alone the folder, which is made where it is not there, until it ends or closes this file."""
     try:
-        make_folder(folder, mode)
         require_own(folder)
+        make_folder(folder, mode)
+        require_own(folder)  # another may have made it meanwhile
         lock = open_lock(folder / LOCK)
     except OSError as error:
         raise Fault(Exit.STATE, f"cannot use the state {folder}: {reason(error)}") from error

@@ -23,6 +23,7 @@ from itertools import islice
 from pathlib import Path
 
 from aiohttp import web
+from aiohttp.streams import EMPTY_PAYLOAD
 from aiohttp.typedefs import Handler
 from aiohttp.web_protocol import RequestHandler
 
@@ -108,6 +109,10 @@ class Pages:
         """Whose a connection is, where that matters."""
         return None
 
+    async def parse_turn(self, gate: Gate) -> None:
+        """Return once a further piece of what a connection has sent may be parsed."""
+        await asyncio.sleep(0)
+
     async def send(self, request: web.Request, response: web.StreamResponse) -> None:
         """Send an answer; aiohttp sends what is not sent here."""
 
@@ -187,6 +192,7 @@ class Gate(asyncio.Protocol):
         self.transport: asyncio.Transport | None = None
         self.owner: Hashable = None
         self.since = 0.0  # when its last request began, or the connection
+        self._parsing: asyncio.Task[None] | None = None
 
     def connection_made(self, transport: asyncio.BaseTransport) -> None:
         if not isinstance(transport, asyncio.Transport):
@@ -196,12 +202,26 @@ class Gate(asyncio.Protocol):
         self._handler.connection_made(transport)
 
     def data_received(self, data: bytes) -> None:
+        """Read no further until this is parsed: that takes time too, which nothing else bounds."""
+        if self.transport is not None:
+            self.transport.pause_reading()
+            self._parsing = asyncio.get_running_loop().create_task(self._parse(data))
+
+    async def _parse(self, data: bytes) -> None:
+        handler = self._handler
         for place in range(0, len(data), PIECE_BYTES):
-            self._handler.data_received(data[place : place + PIECE_BYTES])
+            await self._gates.site.parse_turn(self)
+            if self.transport is None or self.transport.is_closing():
+                return
+            handler.data_received(data[place : place + PIECE_BYTES])
             # Parsed, and not yet answered; or kept unparsed behind one that asks for another protocol.
-            if len(self._handler._messages) > MOST_REQUESTS or len(self._handler._message_tail) > PIECE_BYTES:
+            if len(handler._messages) > MOST_REQUESTS or len(handler._message_tail) > PIECE_BYTES:
                 self._gates.faults.count("http", "a connection sent many requests without reading: it is closed")
                 return self.abort()
+            if any(body is not EMPTY_PAYLOAD for _, body in handler._messages):
+                return  # nobody reads a body: the connection is closed once its request is answered
+        if self.transport is not None:
+            self.transport.resume_reading()
 
     def eof_received(self) -> None:
         self._handler.eof_received()
@@ -214,7 +234,11 @@ class Gate(asyncio.Protocol):
 
     def connection_lost(self, error: BaseException | None) -> None:
         self._gates.open.pop(self._handler, None)
+        works = [self._parsing, self._handler._task_handler]
         self._handler.connection_lost(error)
+        for work in works:  # aiohttp would have requests wait for their turns, though nobody reads the answers
+            if work is not None:
+                work.cancel()
 
     def abort(self) -> None:
         if self.transport is not None:
@@ -284,7 +308,8 @@ async def gates_of(site: Pages) -> Gates:
     logger = logging.Logger(site.server)
     logger.addHandler(Noted(site.faults))
     # No request's body is read, so it stays as it comes: decompressed, a small one could fill the memory.
-    runner = web.AppRunner(site.application(), access_log=None, logger=logger, auto_decompress=False)
+    settings = {"access_log": None, "logger": logger, "auto_decompress": False, "lingering_time": 0.0}
+    runner = web.AppRunner(site.application(), **settings)
     await runner.setup()
     if runner.server is None:
         raise RuntimeError("the runner has no server")

@@ -18,7 +18,7 @@ from prometheus_client.registry import Collector
 
 from ..address import LOOPBACK, Address
 from ..faults import Faults
-from ..web import PAGE, Pages, Route
+from ..web import PAGE, Gate, Pages, Route
 from .agents import Agents
 from .core import Core
 from .day import Day, day_of
@@ -185,6 +185,10 @@ class QueueSite(Pages):
         async with self._parts.shares.alone(share):
             await self._parts.shares.turn(share)
             yield
+
+    async def parse_turn(self, gate: Gate) -> None:
+        if isinstance(gate.owner, User):
+            await self._parts.shares.turn(share_of(gate.owner, gate, gate.abort))
 
     async def send(self, request: web.Request, response: web.StreamResponse) -> None:
         """Send an answer, whose bytes count as the user's until the client has read them."""
