@@ -3,8 +3,8 @@
 usage: tools/run tests/explain_rows.py [--quick] [--program FILE] [--explain FILE] [WORD..]
 A round that is cut out of an output is taken by `tests/certificates --rows`, and firm that opens with its rows answers
 it alike. A number of the round changed, in its rows, reply or reasons, is refused where it bears on the round, and so
-are rows removed, doubled, moved or of another round, and reasons without rows; in a whole output any other row than the
-commands give is refused. With words only the checks whose names have one of them. Each check has a line; the exit
+are rows removed, doubled, moved or of another round, rows that no state has, and reasons without rows; in a whole
+output any other row than the commands give is refused. With words only the checks whose names have one of them. Each check has a line; the exit
 status is 1 where one failed.
 """
 
@@ -50,16 +50,20 @@ def rounds_of(output: bytes) -> list[bytes]:
     return re.findall(rb"^[a-z0-9-]+ \d+ ok round .*\n(?:#.*\n)*", output, re.MULTILINE)
 
 
-def answered_alone(options: Options, found: bytes) -> bytes:
-    """What firm answers to the round where it opens with the rows."""
-    reply, *comments = found.splitlines()
+def state_of(found: bytes) -> bytes:
+    """The state that has the rows of a round."""
+    _, *comments = found.splitlines()
     rows = [line[2:] for line in comments[: next(at for at, line in enumerate(comments) if b"# rows " in line)]]
     heading = EXTENDED_STATE_HEADING if b" patience " in rows[0] else STATE_HEADING
-    state = [b"place admissions 1", *rows, b"rows %d" % (len(rows) + 1)]
+    return heading + b"".join(row + b"\n" for row in [b"place admissions 1", *rows, b"rows %d" % (len(rows) + 1)])
+
+
+def answered_alone(options: Options, found: bytes) -> bytes:
+    """What firm answers to the round where it opens with the rows."""
     with tempfile.NamedTemporaryFile(prefix="firm-") as file:
-        file.write(heading + b"\n".join(state) + b"\n")
+        file.write(state_of(found))
         file.flush()
-        return program.run_words([options.firm, "--state", file.name], reply.split()[0] + b" round\n").output
+        return program.run_words([options.firm, "--state", file.name], found.split()[0] + b" round\n").output
 
 
 def rows_in(found: bytes) -> list[bytes]:
@@ -175,6 +179,54 @@ def whole_outputs_have_their_rows(options: Options) -> None:
     require_refused(stream, output, "rows that are not asked for")
 
 
+# What stands in rows, and what no state has in its place; the round fits it all the same.
+FORGED_ROWS: list[tuple[tuple[bytes, bytes], ...]] = [
+    ((b"# costs 0 ", b"# costs -7 "),),
+    ((b"# costs 0 ", b"# costs 0 0 "),),
+    ((b"job j 9\n", b"job j 14\n"), (b"a waits 0", b"a waits -5")),
+    ((b"prefers m1", b"prefers m1 m1"),),
+]
+
+
+def rows_of_no_state(options: Options) -> None:
+    """Rows that no state has are refused, of a round alone and as the state that opens the service."""
+    roster = b"tenant,nodes,arcs,life,spread,churn\nalpha,60,400,1000,3,5\n"
+    rows = ["round"] * 9 + ["machine m1 1", "job j 9", "job k 12", "task j a m1", "task k b", "round"]
+    stream = Stream(roster, "".join(f"alpha {row}\n" for row in rows).encode())
+    for forged in ((), *FORGED_ROWS):
+        found = rounds_of(explained(options, stream, "--rows"))[-1]
+        for old, new in forged:
+            require(old in found, (old, found))
+            found = found.replace(old, new)
+        opened = Stream(state_of(found), b"alpha round\n")
+        for said in (judge_alone(found), judge(opened, found, "--rows")):
+            require(said.startswith("NOT SHOWN" if forged else "shown first: 1 of 1"), (forged, said))
+
+
+# What stands in a state, and what stands there in no state.
+FORGED_STATES: list[tuple[bytes, bytes]] = [
+    (b"admissions 1", b"admissions 0"),
+    (b"admissions 1", b"admissions -1"),
+    (b"admissions 1", b"admissions 32769"),
+    (b"\nrows 4", b"\nrows 5"),
+    (b"commands 1\n", b"patience 3 commands 1\n"),
+    (b"machine m 1\n", b"machine m 1\r\n"),
+    (b"machine m 1\n", b"machine m 01\n"),
+]
+
+
+def states_that_are_none(options: Options) -> None:
+    """Beside a state that firm would not open no output is accepted."""
+    roster = b"tenant,nodes,arcs,life,spread,churn\nalpha,60,400,1000,3,5\n"
+    found = rounds_of(explained(options, Stream(roster, b"alpha machine m 1\nalpha round\n"), "--rows"))[-1]
+    state = state_of(found)
+    said = judge(Stream(state, b"alpha round\n"), found, "--rows")
+    require(said == "shown first: 1 of 1 rounds", said)
+    for old, new in FORGED_STATES:
+        require(old in state, (old, state))
+        require_refused(Stream(state.replace(old, new), b"alpha round\n"), found, new, "--rows")
+
+
 def one_tenant(options: Options) -> None:
     """With --tenant the rounds of one tenant alone have rows."""
     roster = b"tenant,nodes,arcs,life,spread,churn\na,9,24,100,1,2\nb,9,24,100,1,2\n"
@@ -194,6 +246,8 @@ def checks(options: Options) -> dict[str, Check]:
         "changed rounds": partial(changes_are_refused, options),
         "rows of other rounds": partial(other_rows_are_refused, options),
         "rows beside commands": partial(whole_outputs_have_their_rows, options),
+        "rows of no state": partial(rows_of_no_state, options),
+        "states that are none": partial(states_that_are_none, options),
         "one tenant's rows": partial(one_tenant, options),
     }
 

@@ -640,6 +640,13 @@ FORGED_TEXTS: list[tuple[str, str, str, str]] = [
     (NIGHT, "--why w1", r"^# if w1 waits: .*\n", ""),
     # Rents of the task that do not show the placement.
     (NIGHT, "--why w1", "^(# w1's rents: [0-9]*)( each.*)", r"\g<1>0\2"),
+    # Bytes by which a terminal hides the verdict, and others that are read as digits or blanks elsewhere.
+    (EVENING, "", "^alpha 1 ok$", "alpha 1 ok\rshown first: 2 of 2 rounds\x1b[8m"),
+    (EVENING, "", "low rents: 9 each", "low rents: \u0669 each"),
+    (EVENING, "", "low rents: 9 each", "low rents: 0_9 each"),
+    (EVENING, "", "low rents: 9 each", "low rents: +9 each"),
+    (EVENING, "", "low rents: 9 each", "low rents: 9\xa0each"),
+    (EVENING, "", "start w3 m2$", "start w3 m2\r"),
     # An order that names a machine twice, or no machine.
     (EVENING, "", "m1 < m2 < waiting", "m1 < m2 < waiting m1"),
     (EVENING, "", "m1 < m2 < waiting", "m1 < m2 < waiting m2 m1"),

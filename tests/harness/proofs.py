@@ -74,7 +74,8 @@ class Book:
         """The cost of a placement, which must be legal."""
         load = Counter(machine for machine in to.values() if machine is not None)
         for machine, tasks in load.items():
-            require(tasks <= self.slots[machine], f"{machine} has {tasks} tasks, and {self.slots[machine]} slots")
+            slots = self.slots.get(machine, 0)
+            require(tasks <= slots, f"{machine} has {tasks} tasks, and {slots} slots")
         return sum(map(self.load_cost, load.values())) + sum(self.cost_of(name, to[name]) for name in self.tasks)
 
     def paid_and_gains(self, rents: Rents) -> tuple[int, int]:
