@@ -4,8 +4,8 @@ usage: tools/run tests/explain_rows.py [--quick] [--program FILE] [--explain FIL
 A round that is cut out of an output is taken by `tests/certificates --rows`, and firm that opens with its rows answers
 it alike. A number of the round changed, in its rows, reply or reasons, is refused where it bears on the round, and so
 are rows removed, doubled, moved or of another round, rows that no state has, and reasons without rows; in a whole
-output any other row than the commands give is refused. With words only the checks whose names have one of them. Each check has a line; the exit
-status is 1 where one failed.
+output any other row than the commands give is refused. With words only the checks whose names have one of them. Each
+check has a line; the exit status is 1 where one failed.
 """
 
 from __future__ import annotations
