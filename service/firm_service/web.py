@@ -308,8 +308,9 @@ async def gates_of(site: Pages) -> Gates:
     logger = logging.Logger(site.server)
     logger.addHandler(Noted(site.faults))
     # No request's body is read, so it stays as it comes: decompressed, a small one could fill the memory.
-    settings = {"access_log": None, "logger": logger, "auto_decompress": False, "lingering_time": 0.0}
-    runner = web.AppRunner(site.application(), **settings)
+    runner = web.AppRunner(
+        site.application(), access_log=None, logger=logger, auto_decompress=False, lingering_time=0.0
+    )
     await runner.setup()
     if runner.server is None:
         raise RuntimeError("the runner has no server")
