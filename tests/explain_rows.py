@@ -3,16 +3,19 @@
 usage: tools/run tests/explain_rows.py [--quick] [--program FILE] [--explain FILE] [WORD..]
 A round that is cut out of an output is taken by `tests/certificates --rows`, and firm that opens with its rows answers
 it alike. A number of the round changed, in its rows, reply or reasons, is refused where it bears on the round, and so
-are rows removed, doubled, moved or of another round, rows that no state has, and reasons without rows; in a whole
-output any other row than the commands give is refused. With words only the checks whose names have one of them. Each
-check has a line; the exit status is 1 where one failed.
+are rows removed, doubled, moved or of another round, rows or states that firm can't have, and reasons without rows. In
+a whole output any other row than the commands give is refused. What the checker can't run with gives status 2.
+With words only the checks whose names have one of them. Each check has a line; the exit
+status is 1 where one failed.
 """
 
 from __future__ import annotations
 
 import argparse
+import io
 import re
 import tempfile
+from contextlib import redirect_stderr
 from functools import partial
 from typing import Iterator
 
@@ -25,6 +28,7 @@ from explain import (
     judge_alone,
     require_refused,
     run_timed,
+    said_of,
     small_stream,
     worked_stream,
 )
@@ -179,7 +183,7 @@ def whole_outputs_have_their_rows(options: Options) -> None:
     require_refused(stream, output, "rows that are not asked for")
 
 
-# What stands in rows, and what no state has in its place; the round fits it all the same.
+# Texts in rows, each with one that no state has in its place, though the round fits it.
 FORGED_ROWS: list[tuple[tuple[bytes, bytes], ...]] = [
     ((b"# costs 0 ", b"# costs -7 "),),
     ((b"# costs 0 ", b"# costs 0 0 "),),
@@ -203,7 +207,7 @@ def rows_of_no_state(options: Options) -> None:
             require(said.startswith("NOT SHOWN" if forged else "shown first: 1 of 1"), (forged, said))
 
 
-# What stands in a state, and what stands there in no state.
+# Texts in a state, each with one that no state has in its place.
 FORGED_STATES: list[tuple[bytes, bytes]] = [
     (b"admissions 1", b"admissions 0"),
     (b"admissions 1", b"admissions -1"),
@@ -227,6 +231,18 @@ def states_that_are_none(options: Options) -> None:
         require_refused(Stream(state.replace(old, new), b"alpha round\n"), found, new, "--rows")
 
 
+def other_statuses(options: Options) -> None:
+    """The checker ends with 2 for options that firm_explain refuses, for a missing file and for a faulty roster."""
+    stream = rows_stream()
+    output = explained(options, stream, "--rows")
+    with redirect_stderr(io.StringIO()):
+        for words in (["--machine", "0"], ["--machine", "65"], ["--machine", "-1"], ["--why", "A"], ["--tenant", ""]):
+            require(judge(stream, output, "--rows", *words) == "2", words)
+        require(judge(stream, output, "--row") == "2", "part of an option's name")
+        require(said_of(["--rows", "/nonexistent"]) == "2", "a missing file")
+        require(judge(stream._replace(roster=b"tenant\n"), output, "--rows") == "2", "a faulty roster")
+
+
 def one_tenant(options: Options) -> None:
     """With --tenant the rounds of one tenant alone have rows."""
     roster = b"tenant,nodes,arcs,life,spread,churn\na,9,24,100,1,2\nb,9,24,100,1,2\n"
@@ -248,6 +264,7 @@ def checks(options: Options) -> dict[str, Check]:
         "rows beside commands": partial(whole_outputs_have_their_rows, options),
         "rows of no state": partial(rows_of_no_state, options),
         "states that are none": partial(states_that_are_none, options),
+        "other statuses": partial(other_statuses, options),
         "one tenant's rows": partial(one_tenant, options),
     }
 
