@@ -5,8 +5,7 @@ A round that is cut out of an output is taken by `tests/certificates --rows`, an
 it alike. A number of the round changed, in its rows, reply or reasons, is refused where it bears on the round, and so
 are rows removed, doubled, moved or of another round, rows or states that firm can't have, and reasons without rows. In
 a whole output any other row than the commands give is refused. What the checker can't run with gives status 2.
-With words only the checks whose names have one of them. Each check has a line; the exit
-status is 1 where one failed.
+With words only the checks whose names have one of them. Each check has a line; the exit status is 1 where one failed.
 """
 
 from __future__ import annotations

@@ -575,7 +575,7 @@ def full_disk(setup: Setup) -> None:
         raise Skipped("it needs root, for a small file system")
     with setup.case(f"--lease={LEASE_SECONDS}") as case:
         case.state.mkdir()
-        subprocess.run(["mount", "-t", "tmpfs", "-o", "size=4m", "none", case.state], check=True)
+        subprocess.run(["mount", "-t", "tmpfs", "-o", "size=4m,mode=755", "none", case.state], check=True)
         try:
             case.start()
             with case.client() as client:

@@ -68,7 +68,7 @@ def mount(path: Path, *options: str) -> None:
 def small_file_system(daemon: Daemon) -> Callable[[], None]:
     """Puts the state on a file system of 128 kB; what is given makes it larger."""
     daemon.state.mkdir()
-    mount(daemon.state, "-t", "tmpfs", "-o", "size=128k", "tmpfs")
+    mount(daemon.state, "-t", "tmpfs", "-o", "size=128k,mode=755", "tmpfs")
     rooms: list[str] = []
 
     def make_room() -> None:

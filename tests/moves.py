@@ -590,7 +590,7 @@ def full_disk(setup: Options) -> None:
         found.there.stop()
         shutil.rmtree(found.there.state)
         found.there.state.mkdir()
-        subprocess.run(["mount", "-t", "tmpfs", "-o", "size=6m", "none", found.there.state], check=True)
+        subprocess.run(["mount", "-t", "tmpfs", "-o", "size=6m,mode=755", "none", found.there.state], check=True)
         try:
             found.there.start()
             found.speak_all()

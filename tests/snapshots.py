@@ -466,7 +466,7 @@ def full_disk(setup: Options) -> None:
     """On a full disk no segment is begun for a snapshot, and none takes the room that lines have: firmd goes on."""
     with setup.daemon("--snapshot-minutes", "0.0001") as daemon:
         daemon.state.mkdir()
-        firmd_disks.mount(daemon.state, "-t", "tmpfs", "-o", "size=4m", "tmpfs")
+        firmd_disks.mount(daemon.state, "-t", "tmpfs", "-o", "size=4m,mode=755", "tmpfs")
         try:
             filling = daemon.state / "filling"
             filling.write_bytes(bytes(4 * 2**20 - 2**16))  # what is left is for lines, and not for a segment
