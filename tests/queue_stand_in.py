@@ -262,7 +262,7 @@ class Cluster(Case):
     def start_agent(
         self, name: str = "a1", machines: str = "m1=4", before: list[str] | None = None, queue: Path = Path("queue")
     ) -> None:
-        files = {"queue": queue, "view": "view", "state": name}
+        files: dict[str, str | Path] = {"queue": queue, "view": "view", "state": name}
         options = [f"--{option}={self.folder / file}" for option, file in files.items()]
         path = {**os.environ, "PATH": f"{self.folder}:{os.environ['PATH']}"}
         words = [*(before or AGENT), "run", *options, f"--name={name}", f"--machines={machines}"]
