@@ -68,7 +68,7 @@ OWN_RENTS, ITS_WAIT, BOTH_TABLES = (
 
 
 def claims_of(found: Any) -> Iterator[Claim]:
-    """What a round says of other choices."""
+    """Yield a round's claims on other choices."""
     has_own_rents = False
     for line in found.comments:
         if has_change(line):
@@ -90,7 +90,7 @@ def claim_in(text: str) -> re.Match[str]:
 
 
 def claims_are_exact(found: Any) -> Iterator[str]:
-    """What is said of other choices, beside the cheapest of all placements with such a choice."""
+    """Compare claims on other choices with the cheapest of all placements that have such a choice."""
     for claim in claims_of(found):
         cost = least_cost(found.tenant, found.tenant.slots, {claim.task: claim.choice})
         wanted = cost - int(found.reply[5])
@@ -255,7 +255,7 @@ def ties_name_the_decider(options: Options, count: int) -> None:
 
 
 def slots_are_exact(found: Any) -> Iterator[str]:
-    """What one slot more or less of each machine, and one more machine of one slot, save or cost by a round's rents."""
+    """Compare a round's rents with the value of one slot more or less of each machine, and of one more machine."""
     tenant, cost = found.tenant, int(found.reply[5])
     low, high = (found.rents(line) for line in found.comments[1:3])
     load = Counter(found.to.values())
