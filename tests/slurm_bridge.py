@@ -25,7 +25,7 @@ from functools import partial
 from pathlib import Path
 
 from harness import program, sessions
-from harness.checks import Check, Suite, require, run_script, run_suites
+from harness.checks import Check, Missed, Suite, require, run_script, run_suites
 from harness.deployed import SERVICE
 from harness.guard import guard
 from slurmdbd_kit import OTHERS, Slurmdbd
@@ -38,6 +38,9 @@ AT_A_TIME = 4  # checks
 USER = "nobody"
 PAGE = program.ROOT / "docs" / "CLUSTER.md"
 MOVING = "4096,65536,1099511627776,10,5,0"  # a third task on a machine costs more than a move
+LIGHT, ROUNDS = 32, 6  # jobs that are preempted again and again, and how often
+STEADY_SECONDS = 4.0  # for which they ran before their owner requeues some, so that no launch is disturbed
+REQUEUE_SECONDS = 15.0  # in which these run again on an idle host; Slurm by itself takes 121
 DOWN_SECONDS = 120.0  # for Slurm to give a node up
 PAGE_SECONDS = 900.0  # from the first command of the page to the end of a job, once the packages are there
 
@@ -119,7 +122,7 @@ def judge(place: Site, count: int, slots: int) -> dict[str, int]:
 
 
 def count_running(place: Site) -> int:
-    return sum(state == "RUNNING" for state, _ in place.cluster.squeue().values())
+    return len(running(place))
 
 
 def large(firm: str) -> None:
@@ -285,6 +288,47 @@ def moved(firm: str) -> None:
         wait(place.is_empty, "the end of all jobs")
         carried_out = judge(place, 3, 4)
         require(carried_out.get("move", 0) >= 2, f"moves: {carried_out}")
+
+
+def preempted(firm: str) -> None:
+    """Jobs that are preempted, or requeued by their owner, run again at once where they ran; none is lost."""
+    with site(firm, 2, 16) as place:
+        place.start_bridge()
+        wait(lambda: len(place.rows()["machines"]) == 2, "two machines")
+        array = place.submit(LIGHT, 3600, "light", user=USER)
+        runs = partial(all_run, place, array)
+        wait(runs, "all light jobs")
+        chance, slowest = random.Random(1), 0.0
+        for _ in range(ROUNDS):
+            heavy = place.submit(LIGHT, 3600, "heavy")
+            wait(lambda: not any(name.startswith(array) for name in running(place)), "all of them are preempted")
+            time.sleep(chance.uniform(0, 1.5))
+            place.cluster.run("scancel", heavy)
+            wait(runs, "the light jobs again")
+            time.sleep(STEADY_SECONDS)
+            chosen = chance.sample(range(1, LIGHT + 1), LIGHT // 2)
+            place.cluster.run("scontrol", "requeue", f"{array}_[{','.join(map(str, chosen))}]", user=USER)
+            slowest = max(slowest, wait(runs, "the requeued jobs", REQUEUE_SECONDS))
+        told = f"{ROUNDS * LIGHT} preemptions and {ROUNDS * (LIGHT // 2)} requeues, none lost"
+        tell(f"{told}; at most {slowest:.1f} s after a requeue all run")
+        place.cluster.run("scancel", array)
+        wait(place.is_empty, "the end of all jobs")
+        Judge(place).require_single()
+
+
+def all_run(place: Site, array: str) -> bool:
+    """Whether all light jobs run; asks that none is lost."""
+    try:
+        jobs = place.cluster.squeue()
+    except Missed:  # slurmctld may be busy
+        return False
+    states = [state for name, (state, _) in jobs.items() if name.startswith(f"{array}-")]
+    require(len(states) == LIGHT, f"{LIGHT - len(states)} of {LIGHT} jobs are lost")
+    return states.count("RUNNING") == LIGHT
+
+
+def running(place: Site) -> list[str]:
+    return [name for name, (state, _) in place.cluster.squeue().items() if state == "RUNNING"]
 
 
 def put_off(firm: str) -> None:
@@ -591,6 +635,7 @@ CHECKS: dict[str, Callable[[str], None]] = {
     "large": large,
     "decided": decided,
     "moved": moved,
+    "preempted": preempted,
     "put off": put_off,
     "accounts": accounts,
     "orders": orders,

@@ -23,8 +23,9 @@ from typing import Any, NamedTuple, Protocol
 
 from firmd_kit import JOURNAL_TOOL, Daemon
 from harness.checks import Missed, Skipped, require
-from harness.deployed import SERVICE
+from harness.deployed import SERVICE, slurm
 
+reading = slurm.reading
 PROGRAMS = ("munged", "slurmctld", "slurmd", "sbatch", "squeue", "sinfo", "scontrol", "scancel")
 PLUGIN = "slurm-wlm/job_submit_lua.so"
 BRIDGE = [sys.executable, str(SERVICE / "firm-slurm")]
@@ -172,7 +173,8 @@ class Cluster:
 
     @property
     def environment(self) -> dict[str, str]:
-        return {**os.environ, "SLURM_CONF": str(self.conf), "PATH": f"{os.environ['PATH']}:/usr/sbin"}
+        own = {"SLURM_CONF": str(self.conf), "SLURM_BITSTR_LEN": "0", "PATH": f"{os.environ['PATH']}:/usr/sbin"}
+        return {**os.environ, **own}
 
     def try_run(self, *words: str, user: str | None = None) -> subprocess.CompletedProcess[str]:
         prefix = [] if user is None else ["runuser", "-u", user, "--"]
@@ -262,8 +264,12 @@ class Cluster:
 
     def squeue(self) -> dict[str, tuple[str, str]]:
         """The state and the node of each job that has not ended."""
-        rows = self.run("squeue", "-h", "-r", "-o", "%i|%T|%N").splitlines()
-        return {name.replace("_", "-"): (state, node) for name, state, node in (row.split("|") for row in rows)}
+        found: dict[str, tuple[str, str]] = {}
+        for row in self.run("squeue", "-h", "--array-unique", "-o", "%i|%T|%N").splitlines():
+            name, state, node = row.split("|")
+            for number, index in reading.elements_of(name):
+                found[f"{number}" if index is None else f"{number}-{index}"] = (state, node)
+        return found
 
 
 @dataclass

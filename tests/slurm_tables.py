@@ -38,7 +38,7 @@ USES = {
     "down+not_responding": GONE,
 }
 # A line of squeue behind its partition and number, and what differs from a job that the hook holds.
-HELD_ROW = "PENDING|0|JobHeldUser|light|(null)|(null)|||N/A|N/A|N/A|(null)"
+HELD_ROW = "PENDING|0|JobHeldUser|light|(null)|(null)|||N/A|N/A|N/A|0|400|(null)"
 JOBS: list[tuple[str, dict[str, Any]]] = [
     (HELD_ROW, {}),
     (HELD_ROW.replace("light|(null)", "(null)|high"), {"account": "", "qos": "high"}),
@@ -55,26 +55,27 @@ JOBS: list[tuple[str, dict[str, Any]]] = [
     (HELD_ROW.replace("PENDING", "SPECIAL_EXIT"), {"hold": OTHER}),
     (HELD_ROW.replace("PENDING", "RESV_DEL_HOLD"), {"hold": OTHER}),
     (
-        "PENDING|42|Resources|light|(null)|(null)|m1||500|560|N/A|(null)",
+        "PENDING|42|Resources|light|(null)|(null)|m1||500|560|N/A|0|400|(null)",
         {"hold": RELEASED, "pinned": "m1", "eligible": 500.0, "evaluated": 560.0},
     ),
     (
-        "PENDING|42|Resources|light|(null)|(null)|m1||500|560|N/A|firm:held",
+        "PENDING|42|Resources|light|(null)|(null)|m1||500|560|N/A|0|400|firm:held",
         {"hold": MISSED, "pinned": "m1", "eligible": 500.0, "evaluated": 560.0},
     ),
     (
-        "RUNNING|42|None|light|(null)|(null)|m1|m1|500|501|501|(null)",
+        "RUNNING|42|None|light|(null)|(null)|m1|m1|500|501|501|0|400|(null)",
         {
             **{"hold": RELEASED, "state": RUNNING, "node": "m1", "pinned": "m1"},
             **{"eligible": 500.0, "evaluated": 501.0, "started": 501.0},
         },
     ),
+    (HELD_ROW.replace("|0|400|", "|2|500|"), {"requeued": 500.0}),
     (
-        "COMPLETING|0|JobHeldUser|light|(null)|(null)||m1|N/A|N/A|501|(null)",
+        "COMPLETING|0|JobHeldUser|light|(null)|(null)||m1|N/A|N/A|501|0|400|(null)",
         {"hold": RELEASED, "state": LEAVING, "node": "m1", "started": 501.0},
     ),
 ]
-JOB = reading.Job("1", "light", "", (), None, PENDING, HELD, False, None, None, None, None, None)
+JOB = reading.Job("1", "light", "", (), None, PENDING, HELD, False, None, None, None, None, None, None)
 
 
 def job(name: str = "1", **fields: Any) -> reading.Job:
@@ -190,6 +191,13 @@ DEEDS: list[tuple[str, str, list[reading.Job], list[list[str]]]] = [
     ("runs in firm, will start", "1:m1", [pinned("1", "m1")], []),
     ("runs in firm, requeued by its user", "1:m1", [pinned("1", "m1", eligible=NOW + 120)],
      [["update JobId=1 StartTime=now"]]),
+    ("requeued by its user a moment ago", "1:m1", [pinned("1", "m1", eligible=NOW + 120, requeued=NOW - 0.9)], []),
+    ("requeued a moment ago, held", "1:m1", [job(requeued=NOW - 0.9, evaluated=NOW - 9)], []),
+    ("requeued a second ago, held", "1:m1", [job(requeued=NOW - 1, evaluated=NOW - 9)], [[PIN], ["release 1"]]),
+    ("requeued in its launch, held", "1:m1", [job(requeued=NOW - 9, evaluated=NOW - 11)], []),
+    ("the same, two minutes later", "1:m1", [job(requeued=NOW - 121, evaluated=NOW - 123)], [[PIN], ["release 1"]]),
+    ("requeued, and looked at since", "1:m1", [job(requeued=NOW - 9, evaluated=NOW - 8)], [[PIN], ["release 1"]]),
+    ("waits in firm, was just launched", "1:-", [running("1", "m1")._replace(started=NOW - 2)], []),
     ("runs in both", "1:m1", [running("1", "m1")], []),
     ("runs elsewhere", "1:m1", [running("1", "m2")], [["requeuehold Incomplete 1"]]),
     ("leaves a node", "1:m1", [job("1", state=LEAVING, node="m2")], []),
@@ -252,8 +260,11 @@ def jobs() -> None:
         (found,) = reading.read_jobs(f"batch|7_3|{row}|\n")["batch"].values()
         wanted = job("7-3", **fields)
         require(found == wanted, f"{row}: {found} instead of {wanted}")
-    text = "".join(f"a|{name}|{HELD_ROW}|\n" for name in ("10", "9_10", "9_2", "8_[1-3]", "7+1", "6|"))
-    require(list(reading.read_jobs(text)["a"]) == ["9-2", "9-10", "10"], "the order of jobs")
+    text = "".join(
+        f"a|{name}|{HELD_ROW}|\n" for name in ("10", "9_10", "9_2", "8_[0,3-4,7-11:2%2]", "7+1", "6|", "5_[")
+    )
+    wanted = ["8-0", "8-3", "8-4", "8-7", "8-9", "8-11", "9-2", "9-10", "10"]
+    require(list(reading.read_jobs(text)["a"]) == wanted, "the order of jobs, and all elements of an array")
 
 
 def nodes() -> None:

@@ -11,7 +11,7 @@ from .reading import JOB_FIELDS, NODE_FIELDS, Picture, format_of, read_jobs, rea
 
 ANSWER_SECONDS = 60.0
 MOST_AT_A_TIME, LEAST_TOGETHER = 4, 20  # commands that scontrol gives at a time, and how many of them one by one
-# Without the merging of an array's elements (-r), with their whole lists of indices, and times as seconds.
+# Whole lists of an array's indices, and times as seconds.
 ENVIRONMENT = {"SLURM_TIME_FORMAT": "%s", "SLURM_BITSTR_LEN": "0"}
 PRESET = ("SQUEUE_", "SINFO_", "SCONTROL_")  # options of users, in the environment
 
@@ -55,7 +55,7 @@ async def look(partitions: Sequence[str]) -> Picture:
     names, at = ",".join(partitions), time.time()
     nodes, jobs = await asyncio.gather(
         answer("sinfo", "-h", "-N", "-p", names, "-O", format_of(NODE_FIELDS)),
-        answer("squeue", "-h", "-r", "-p", names, "-O", format_of(JOB_FIELDS)),
+        answer("squeue", "-h", "--array-unique", "-p", names, "-O", format_of(JOB_FIELDS)),
     )
     try:
         return Picture(without_shared(read_nodes(nodes), partitions), read_jobs(jobs), at)

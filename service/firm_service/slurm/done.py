@@ -63,7 +63,8 @@ def deeds(book: Book, jobs: dict[str, Job], now: float) -> Deeds:
             if job.is_stuck:
                 found.set_time(job, f"now+{LATER_SECONDS:.0f}")
         elif job.state is State.RUNNING and job.node != task.machine:
-            found.requeues.append(job)
+            if job.is_steady(now):
+                found.requeues.append(job)
         elif job.is_pending and job.is_firms(now):
             place(found, job, task.machine, now)
     return found
@@ -72,9 +73,9 @@ def deeds(book: Book, jobs: dict[str, Job], now: float) -> Deeds:
 def place(found: Deeds, job: Job, machine: str | None, now: float) -> None:
     """What a pending job of firm's needs to start on a machine, or nowhere."""
     if job.hold is not Hold.NONE:
-        if machine is not None:
+        if machine is not None and job.may_start(now):
             found.start(job, machine)
     elif job.pinned != machine or machine is None:
         found.holds.append(job)  # it may be starting elsewhere: the next look shows whether it is held
-    elif job.eligible is not None and job.eligible > now:
+    elif job.eligible is not None and job.eligible > now and job.may_start(now):
         found.set_time(job, "now")  # Slurm has what it requeues wait two minutes

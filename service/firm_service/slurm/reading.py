@@ -5,13 +5,14 @@ from __future__ import annotations
 import re
 from collections.abc import Iterator, Sequence
 from enum import Enum
+from operator import itemgetter
 from typing import NamedTuple
 
 END = "|"  # of a field; the hook keeps it, and line feeds, out of what users write, and a comment comes last
 NODE_FIELDS = ("PartitionName", "NodeHost", "CPUsState", "StateComplete")
 JOB_FIELDS = (
     *("Partition", "JobArrayID", "State", "PriorityLong", "Reason", "Account", "QOS", "Dependency"),
-    *("ReqNodes", "NodeList", "EligibleTime", "LastSchedEval", "StartTime", "Comment"),
+    *("ReqNodes", "NodeList", "EligibleTime", "LastSchedEval", "StartTime", "RestartCnt", "SubmitTime", "Comment"),
 )
 NOTHING = frozenset({"", "N/A", "(null)", "Unknown"})
 CLOSED = {"drain", "fail", "maint", "maintenance", "reboot", "reboot_requested", "reboot_issued"}
@@ -21,13 +22,16 @@ GONE = {"down", "error", "future"}
 NEAR = re.compile(r"(?:^|\s)near=([a-z0-9,-]+)")
 MOST = re.compile(r"(?:^|\s)firm:most=([0-9]{1,9})(?!\S)")
 HELD = re.compile(r"(?:^|\s)firm:held(?!\S)")
+PART = re.compile(r"([0-9]+)(?:-([0-9]+)(?::([0-9]+))?)?")  # of the indices of an array
+ROW = re.compile(r"([0-9]+)(?:_([0-9]+)|_\[([0-9][0-9,:-]*)(?:%[0-9]+)?\])?")
 HELD_STATES = {"SPECIAL_EXIT", "RESV_DEL_HOLD"}  # by an administrator, or as a reservation is no more
 MOST_NEAR = 4  # machines that a task may prefer
 FIRM_HOLDS = {"JobHeldUser", "job requeued in held state"}  # by the hook, by `uhold` and by `requeuehold`
 # A job that Slurm was asked to start and has looked at again so much later can't start where it is pinned.
 STUCK_SECONDS = 60.0
 # A start that is set further ahead is its user's or firm-slurm's own; Slurm delays what it requeues by two minutes.
-LATER_SECONDS = 300.0
+LATER_SECONDS, PAUSE_SECONDS = 300.0, 121.0
+STEADY_SECONDS = 3.0  # for slurmd to launch a job
 
 
 class Use(Enum):
@@ -75,6 +79,7 @@ class Job(NamedTuple):
     eligible: float | None  # when Slurm may start it, once it is released
     evaluated: float | None  # when Slurm last looked whether it can start
     started: float | None
+    requeued: float | None  # when its last run had ended and Slurm queued it again
 
     @property
     def id(self) -> str:
@@ -98,6 +103,27 @@ class Job(NamedTuple):
         if not self.is_released or self.pinned is None or self.eligible is None or self.evaluated is None:
             return False
         return self.evaluated - self.eligible >= STUCK_SECONDS
+
+    def is_steady(self, now: float) -> bool:
+        """Return whether slurmd has surely launched a running job, so that it may be requeued.
+
+        A termination that overtakes the launch finds no process: Slurm takes the job for ended, and it runs on.
+        """
+        return self.started is None or now - self.started >= STEADY_SECONDS
+
+    def may_start(self, now: float) -> bool:
+        """Return whether a pending job may start.
+
+        slurmd refuses a credential from the second of the last run's termination (`slurm_cred.c`: `ctime <= revoked`),
+        and slurmctld then marks the job FAILED. A requeue follows the end of the last run and its epilog, so a start in
+        any later second is safe. `StartTime=now` has Slurm wait for this host's second, so clocks needn't agree.
+        If the last run was ended during its launch, Slurm's own pause stands.
+        """
+        if self.requeued is None:
+            return True
+        last = self.evaluated if self.evaluated is not None else self.requeued  # when Slurm started it, or later
+        was_steady = last > self.requeued or self.requeued - last >= STEADY_SECONDS
+        return now >= self.requeued + (1 if was_steady else PAUSE_SECONDS)
 
     def is_firms(self, now: float) -> bool:
         """Whether firm may decide when and where a pending job starts, or keep it if it has it."""
@@ -173,16 +199,37 @@ def read_jobs(text: str) -> dict[str, dict[str, Job]]:
     """By partition and task's name, in order of submission."""
     found: dict[str, list[tuple[tuple[int, int], Job]]] = {}
     for partition, *row in rows_of(text, JOB_FIELDS):
-        number, _, index = row[0].partition("_")
-        is_whole = row[2].isdigit()  # the priority, where no field before it has an end within
-        if is_whole and number.isdigit() and (index == "" or index.isdigit()):  # neither a part nor a whole array
-            found.setdefault(partition, []).append(((int(number), int(index or 0)), job_of(row)))
-    return {partition: {job.name: job for _, job in sorted(jobs)} for partition, jobs in found.items()}
+        elements = list(elements_of(row[0]))
+        if elements and row[2].isdigit():  # the priority, where no field before it has an end within
+            job = job_of(row)
+            for number, index in elements:
+                name = f"{number}" if index is None else f"{number}-{index}"
+                found.setdefault(partition, []).append(((number, index or 0), job._replace(name=name)))
+    return {
+        partition: {job.name: job for _, job in sorted(jobs, key=itemgetter(0))} for partition, jobs in found.items()
+    }
+
+
+def elements_of(name: str) -> Iterator[tuple[int, int | None]]:
+    """Return the number, and the index if any, of each job in a row: 17, 17_3, or the rest of an array as 17_[1-9:2%4].
+
+    `squeue -r` would list the elements, but leaves out the last one where Slurm writes the rest with a step.
+    """
+    found = ROW.fullmatch(name)
+    if found is None:  # a job of several components, or a row that isn't whole
+        return
+    number, index, rest = found.groups()
+    if rest is None:
+        yield int(number), None if index is None else int(index)
+        return
+    for first, last, step in PART.findall(rest):
+        yield from ((int(number), index) for index in range(int(first), int(last or first) + 1, int(step or 1)))
 
 
 def job_of(row: Sequence[str]) -> Job:
-    """From all fields behind the partition."""
-    name, state, priority, reason, account, qos, needs, pinned, node, eligible, evaluated, started, comment = row
+    """From all fields behind the partition; all jobs of a row are alike but for their names."""
+    name, state, priority, reason, account, qos, needs, pinned, node, *times, restarts, submitted, comment = row
+    eligible, evaluated, started = map(time_of, times)
     is_pending = state == "PENDING" or state in HELD_STATES
     hold, is_users = Hold.NONE, HELD.search(comment) is not None
     if is_pending and (priority == "0" or state in HELD_STATES):
@@ -192,7 +239,7 @@ def job_of(row: Sequence[str]) -> Job:
         hold = Hold.MISSED
     near, most = NEAR.search(comment), MOST.search(comment)
     return Job(
-        name=name.replace("_", "-"),
+        name=name,
         account=word(account) or "",
         qos=word(qos) or "",
         near=tuple(dict.fromkeys(near[1].split(",")))[:MOST_NEAR] if near else (),
@@ -202,9 +249,10 @@ def job_of(row: Sequence[str]) -> Job:
         has_needs=word(needs) is not None,
         node=None if is_pending else word(node),
         pinned=word(pinned),
-        eligible=time_of(eligible),
-        evaluated=time_of(evaluated),
-        started=time_of(started),
+        eligible=eligible,
+        evaluated=evaluated,
+        started=started,
+        requeued=time_of(submitted) if restarts not in ("0", "") else None,
     )
 
 
