@@ -20,7 +20,6 @@ import urllib.request
 from collections import Counter
 from collections.abc import Callable
 from contextlib import suppress
-from datetime import datetime, timedelta
 from functools import partial
 from pathlib import Path
 
@@ -33,14 +32,14 @@ from slurm_kit import BRIDGE, Cluster, Judge, Site, free_ports, require_packages
 
 EQUAL_SECONDS, START_SECONDS = 2.0, 5.0  # in which squeue has what firm decided, and 160 jobs run, on an idle host
 RETRY_SECONDS = 2.0  # at most, until firmd is found again
-STUCK_SECONDS = 60.0  # until a job that can't start is put off
+PLACED_SECONDS = 30.0  # until a job is put off whose slot is not free
 AT_A_TIME = 4  # checks
 USER = "nobody"
 PAGE = program.ROOT / "docs" / "CLUSTER.md"
 MOVING = "4096,65536,1099511627776,10,5,0"  # a third task on a machine costs more than a move
 LIGHT, ROUNDS = 32, 6  # jobs that are preempted again and again, and how often
 STEADY_SECONDS = 4.0  # for which they ran before their owner requeues some, so that no launch is disturbed
-REQUEUE_SECONDS = 15.0  # in which these run again on an idle host; Slurm by itself takes 121
+REQUEUE_SECONDS = 25.0  # in which these run again on an idle host; Slurm by itself takes 121
 DOWN_SECONDS = 120.0  # for Slurm to give a node up
 PAGE_SECONDS = 900.0  # from the first command of the page to the end of a job, once the packages are there
 
@@ -205,6 +204,8 @@ def refusals(firm: str) -> None:
     with site(firm, 2, 2) as place:
         script = place.folder / "job"
         script.write_text("#!/bin/sh\n")
+        reserve = ["ReservationName=r", "StartTime=now", "Duration=60", f"Users={USER}", "Nodes=node2"]
+        place.cluster.run("scontrol", "create", "reservation", *reserve)
         for words, said in (
             (["-N2"], "one slot"),
             (["-n2"], "one slot"),
@@ -213,6 +214,7 @@ def refusals(firm: str) -> None:
             (["--exclusive=user"], "one slot"),
             (["-w", "node1"], "firm chooses the node"),
             (["-x", "node1"], "firm chooses the node"),
+            (["--reservation=r"], "reserved nodes"),
             (["--comment=a\nb"], "control characters"),
             (["-A", "a|b"], "control characters"),
         ):
@@ -225,7 +227,15 @@ def refusals(firm: str) -> None:
 
 # Changes of a job that its user may not make: of its size, its node, when it runs, and whether firm may preempt it.
 CHANGES = ["NumCPUs=4", "NumNodes=2", "NumTasks=3", "CPUsPerTask=3", "MinCPUsNode=2", "Requeue=0"]
-CHANGES += ["ReqNodeList=node1", "ExcNodeList=node1", "Comment=a|b", "Comment=a\nb", "Account=a|b", "QOS=a\nb"]
+CHANGES += [
+    "ReqNodeList=node1",
+    "ExcNodeList=node1",
+    "ReservationName=r",
+    "Comment=a|b",
+    "Comment=a\nb",
+    "Account=a|b",
+    "QOS=a\nb",
+]
 
 
 def changes(firm: str) -> None:
@@ -259,13 +269,6 @@ def changes(firm: str) -> None:
 
 
 # What else there is
-
-
-def is_put_off(place: Site, job: str) -> bool:
-    """Whether a job is held, with a later time to begin."""
-    reason, eligible, _ = place.cluster.run("squeue", "-h", "-j", job, "-O", "Reason:|,EligibleTime:|").split("|")
-    later = datetime.now() + timedelta(seconds=100)
-    return reason == "JobHeldUser" and eligible != "N/A" and datetime.fromisoformat(eligible) > later
 
 
 def moved(firm: str) -> None:
@@ -332,7 +335,7 @@ def running(place: Site) -> list[str]:
 
 
 def put_off(firm: str) -> None:
-    """A job that Slurm can't start within a minute gives its slot back, and is put off."""
+    """A job that Slurm doesn't start gives its slot back, and is put off; also where another partition's has it."""
     others = "PartitionName=firm Nodes=node1 Default=YES State=UP\nPartitionName=other Nodes=node1 State=UP"
     with site(firm, 1, 2, partitions=others) as place:
         place.start_bridge()
@@ -341,11 +344,42 @@ def put_off(firm: str) -> None:
         wait(lambda: count_running(place) == 1, "the other partition's job")
         job = place.submit(1, 1, "light")
         wait(lambda: place.places().get(job) == "node1", "firm places the job")
-        wait(lambda: not is_in_firm(place, job), "its slot is given back", 2 * STUCK_SECONDS)
-        wait(lambda: is_put_off(place, job), "it is put off")
+        wait(lambda: place.count_said("put off"), "its slot is given back", 2 * PLACED_SECONDS)
         place.cluster.run("scancel", "-p", "other")
-        place.cluster.run("scontrol", "update", f"JobId={job}", "StartTime=now")
         wait(place.is_empty, "its end")
+
+
+def blocked(firm: str) -> None:
+    """What Slurm can't start, for want of a licence or a feature or on a reserved node, keeps nothing else waiting."""
+    with site(firm, 3, 4, more="Licenses=seat:1") as place:
+        run = place.cluster.run
+        reserve = ["ReservationName=r", "StartTime=now", "Duration=60", "Users=root", "Flags=IGNORE_JOBS"]
+        run("scontrol", "create", "reservation", "Nodes=node3", *reserve)
+        place.start_bridge()
+        place.submit(24, 1, "light", user=USER)
+        tell(f"24 jobs of 1 s, 8 slots and a reserved node: {wait(place.is_empty, 'their end'):.1f} s")
+        run("scontrol", "delete", "ReservationName=r")
+        wait(lambda: len(place.rows()["machines"]) == 3, "the reserved node again")
+        seats = place.submit(100, 3, "light", "--licenses=seat", user=USER)
+        wait(lambda: count_running(place) == 1, "the licence's first job")
+        other = place.submit(44, 1, "light", "--array=2-88:2", user=USER)
+        seconds = wait(lambda: not count_of(place, other), "jobs without a licence")
+        tell(f"44 jobs of 1 s behind 100 that have one licence, 12 slots: {seconds:.1f} s")
+        require(count_of(place, seats) > 60, f"{count_of(place, seats)} of 100 jobs have not had the licence")
+        run("scancel", seats)
+        wait(place.is_empty, "the end of all jobs")
+        run("scontrol", "update", "NodeName=node3", "AvailableFeatures=big", "ActiveFeatures=big")
+        first = place.submit(4, 20, "light", "--comment=near=node3")
+        wait(lambda: set(place.places().values()) == {"node3"}, "the node with the feature is in use")
+        big = place.submit(2, 1, "light", "-C", "big")
+        wait(lambda: place.count_said("put off"), "a node that a job is not made for")
+        run("scancel", first)
+        wait(place.is_empty, "the end of the jobs with a feature", 150)
+        require(Judge(place).works()[f"{big}_1"] == 1, "a job with a feature has not run")
+
+
+def count_of(place: Site, array: str) -> int:
+    return sum(name.startswith(f"{array}-") for name in place.cluster.squeue())
 
 
 def taken_over(firm: str) -> None:
@@ -637,6 +671,7 @@ CHECKS: dict[str, Callable[[str], None]] = {
     "moved": moved,
     "preempted": preempted,
     "put off": put_off,
+    "blocked": blocked,
     "accounts": accounts,
     "orders": orders,
     "taken over": taken_over,

@@ -74,6 +74,7 @@ SlurmctldTimeout=30
 SlurmdTimeout=15
 NodeName=node[1-{nodes}] NodeAddr=127.0.0.1 Port=[{first}-{last}] CPUs={cpus} RealMemory=1000
 {partitions}
+{more}
 """
 NO_ACCOUNTS = "AccountingStorageType=accounting_storage/none"
 SCRIPT = """\
@@ -142,6 +143,7 @@ class Cluster:
     cpus: int
     partitions: str = "PartitionName=firm Nodes=ALL Default=YES MaxTime=INFINITE State=UP"
     accounts: Accounts | None = None
+    more: str = ""  # lines of slurm.conf
 
     def __post_init__(self) -> None:
         names = [f"node{node}" for node in range(1, self.nodes + 1)]
@@ -164,6 +166,7 @@ class Cluster:
                 first=port + 1,
                 last=port + self.nodes,
                 partitions=self.partitions,
+                more=self.more,
             )
         )
 
@@ -414,7 +417,7 @@ class Site:
 def site(firm: str, nodes: int, cpus: int, **words: Any) -> Iterator[Site]:
     """A site that runs, without a bridge."""
     require_packages()
-    of_cluster = {name: words.pop(name) for name in ("partitions", "accounts") if name in words}
+    of_cluster = {name: words.pop(name) for name in ("partitions", "accounts", "more") if name in words}
     with tempfile.TemporaryDirectory(prefix="firm-slurm-") as name:
         folder = Path(name)
         folder.chmod(0o755)

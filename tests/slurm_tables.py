@@ -30,6 +30,10 @@ USES = {
     "idle+drain": CLOSED,
     "mixed+drain+not_responding": CLOSED,
     "idle+maintenance": CLOSED,
+    "idle+reserved": CLOSED,
+    "idle+cloud+powered_down": OPEN,
+    "idle+powering_down": UNCLEAR,
+    "allocated+powering_up": UNCLEAR,
     "idle+not_responding": UNCLEAR,
     "allocated+not_responding": UNCLEAR,
     "unknown": UNCLEAR,
@@ -37,45 +41,55 @@ USES = {
     "down+drain": GONE,
     "down+not_responding": GONE,
 }
-# A line of squeue behind its partition and number, and what differs from a job that the hook holds.
-HELD_ROW = "PENDING|0|JobHeldUser|light|(null)|(null)|||N/A|N/A|N/A|0|400|(null)"
+REQUEUED = "job requeued in held state"
+# A line of squeue behind its partition and name, and what differs from a job that the hook holds.
+HELD_ROW = "7|PENDING|0|JobHeldUser|light|(null)|(null)|(null)|||N/A|N/A|N/A|0|400|(null)"
+WAITING = {"priority": 42, "reason": "Resources"}
 JOBS: list[tuple[str, dict[str, Any]]] = [
     (HELD_ROW, {}),
     (HELD_ROW.replace("light|(null)", "(null)|high"), {"account": "", "qos": "high"}),
-    (HELD_ROW.replace("JobHeldUser", "JobHeldAdmin"), {"hold": OTHER}),
-    (HELD_ROW.replace("JobHeldUser", "BadConstraints"), {"hold": OTHER}),
-    (HELD_ROW.replace("JobHeldUser", "job requeued in held state"), {}),
+    (HELD_ROW.replace("JobHeldUser", "JobHeldAdmin"), {"hold": OTHER, "reason": "JobHeldAdmin"}),
+    (HELD_ROW.replace("JobHeldUser", "BadConstraints"), {"hold": OTHER, "reason": "BadConstraints"}),
+    (
+        HELD_ROW.replace("JobHeldUser", "BadConstraints").replace("|||N/A", "|m1||N/A"),
+        {"reason": "BadConstraints", "pinned": "m1"},
+    ),
+    (HELD_ROW.replace("JobHeldUser", REQUEUED), {"reason": REQUEUED}),
     (HELD_ROW[:-6] + "near=a firm:held", {"hold": OTHER, "near": ("a",)}),
     (HELD_ROW[:-6] + "firm:held-not near=a,b,a,c,d,e", {"near": ("a", "b", "c", "d")}),
     (HELD_ROW[:-6] + "firm:most=3", {"most": 3}),
     (HELD_ROW[:-6] + "bear=a", {}),
     (HELD_ROW[:-6] + "a\u2028b\x85c\x0bd\re near=m1", {"near": ("m1",)}),
     (HELD_ROW[:-6] + "a|b| near=m1", {"near": ("m1",)}),
-    (HELD_ROW.replace("|(null)|||", "|afterok:2(unfulfilled)|||"), {"has_needs": True}),
+    (HELD_ROW.replace("|(null)|(null)|||", "|afterok:2(unfulfilled)|(null)|||"), {"has_needs": True}),
+    (HELD_ROW.replace("|(null)|||", "|a:2,b|||"), {"licences": (("a", 2), ("b", 1))}),
     (HELD_ROW.replace("PENDING", "SPECIAL_EXIT"), {"hold": OTHER}),
     (HELD_ROW.replace("PENDING", "RESV_DEL_HOLD"), {"hold": OTHER}),
+    (HELD_ROW.replace("PENDING", "REQUEUE_HOLD"), {"hold": OTHER}),
     (
-        "PENDING|42|Resources|light|(null)|(null)|m1||500|560|N/A|0|400|(null)",
-        {"hold": RELEASED, "pinned": "m1", "eligible": 500.0, "evaluated": 560.0},
+        "7|PENDING|42|Resources|light|(null)|(null)|(null)|m1||500|560|N/A|0|400|(null)",
+        {**WAITING, "hold": RELEASED, "pinned": "m1", "eligible": 500.0, "evaluated": 560.0},
     ),
     (
-        "PENDING|42|Resources|light|(null)|(null)|m1||500|560|N/A|0|400|firm:held",
-        {"hold": MISSED, "pinned": "m1", "eligible": 500.0, "evaluated": 560.0},
+        "7|PENDING|42|Resources|light|(null)|(null)|(null)|m1||500|560|N/A|0|400|firm:held",
+        {**WAITING, "hold": MISSED, "pinned": "m1", "eligible": 500.0, "evaluated": 560.0},
     ),
     (
-        "RUNNING|42|None|light|(null)|(null)|m1|m1|500|501|501|0|400|(null)",
+        "7|RUNNING|42|None|light|(null)|(null)|(null)|m1|m1|500|501|501|0|400|(null)",
         {
-            **{"hold": RELEASED, "state": RUNNING, "node": "m1", "pinned": "m1"},
+            **{"priority": 42, "reason": "None", "hold": RELEASED, "state": RUNNING, "node": "m1", "pinned": "m1"},
             **{"eligible": 500.0, "evaluated": 501.0, "started": 501.0},
         },
     ),
     (HELD_ROW.replace("|0|400|", "|2|500|"), {"requeued": 500.0}),
     (
-        "COMPLETING|0|JobHeldUser|light|(null)|(null)||m1|N/A|N/A|501|0|400|(null)",
+        "7|COMPLETING|0|JobHeldUser|light|(null)|(null)|(null)||m1|N/A|N/A|501|0|400|(null)",
         {"hold": RELEASED, "state": LEAVING, "node": "m1", "started": 501.0},
     ),
 ]
-JOB = reading.Job("1", "light", "", (), None, PENDING, HELD, False, None, None, None, None, None, None)
+JOB = reading.Job(
+    *("1", 7, 0, "JobHeldUser", "light", "", (), None, PENDING, HELD, False, (), None, None, None, None, None, None)
+)
 
 
 def job(name: str = "1", **fields: Any) -> reading.Job:
@@ -111,6 +125,12 @@ def book_of(machines: str = "", tasks: str = "", limits: str = "") -> Book:
     return book
 
 
+def few_slots(slots: int, tasks: str = "") -> Book:
+    book = book_of("m1", tasks)
+    book.machines["m1"] = slots
+    return book
+
+
 def partition(**fields: Any) -> slurm.table.Partition:
     row: dict[str, Any] = {"socket": "lines", "weights": {"heavy": 1_000}, **fields}
     return slurm.table.partition_of("batch", row)
@@ -124,7 +144,11 @@ NEWS: list[tuple[str, Book, list[reading.Node], list[reading.Job], dict[str, Any
     ("no name of firm", book_of(), [node("Rack_1")], [], {}, []),
     ("a node that is unclear", book_of(), [node("m1", UNCLEAR)], [], {}, []),
     ("a machine that is unclear", book_of("m1", "1:m1"), [node("m1", UNCLEAR)], [running("1", "m1")], {}, []),
-    ("a node with others' jobs", book_of(), [node("m1", OPEN, 2)], [], {}, []),
+    ("a node with others' jobs", book_of(), [node("m1", OPEN, 2)], [], {}, ["machine m1 2"]),
+    ("a node that others have", book_of(), [node("m1", OPEN, 4)], [], {}, []),
+    ("others' jobs have ended", few_slots(2), [node("m1", OPEN, 1)], [], {}, ["drain m1", "machine m1 3"]),
+    ("the same beside a task", few_slots(2, "1:m1"), [node("m1", OPEN, 1)], [running("1", "m1")], {}, []),
+    ("not yet", few_slots(2), [node("m1", OPEN, 2)], [], {}, []),
     ("a drain, finish", book_of("m1", "1:m1 2:m1"), [node("m1", CLOSED)], [running("1", "m1"), pinned("2", "m1")],
      {}, ["done 1", "drain m1"]),
     ("a drain, move", book_of("m1", "1:m1"), [node("m1", CLOSED)], [running("1", "m1")], {"drain": "move"},
@@ -162,25 +186,28 @@ NEWS: list[tuple[str, Book, list[reading.Node], list[reading.Job], dict[str, Any
     ("a task that needs others now", book_of("m1", "1:-"), [node("m1")], [job("1", has_needs=True)], {}, ["done 1"]),
     ("a task put off for long", book_of("m1", "1:-"), [node("m1")], [job("1", eligible=NOW + 301)], {}, ["done 1"]),
     ("a task that was just requeued", book_of("m1", "1:-"), [node("m1")], [job("1", eligible=NOW + 120)], {}, []),
-    ("pinned for a minute", book_of("m1", "1:m1"), [node("m1")], [pinned("1", "m1", 60.0)], {}, ["done 1"]),
-    ("pinned for less", book_of("m1", "1:m1"), [node("m1")], [pinned("1", "m1", 59.0)], {}, []),
-    ("put off after a minute", book_of("m1", "2:-"), [node("m1")], [job("1", eligible=NOW + 299), job("2")], {}, []),
-    ("a stuck job that firm has not", book_of("m1", "2:-"), [node("m1")], [pinned("1", "m1", 90.0), job("2")], {},
-     []),
+    ("put off", book_of("m1", "2:-"), [node("m1")], [job("1", eligible=NOW + 299), job("2")], {}, []),
+    ("requeued in its launch", book_of("m1", "1:m1 2:-"), [node("m1")], [job("1", requeued=NOW - 9, evaluated=NOW - 9),
+     job("2")], {}, ["done 1"]),
     ("at most so many tasks", book_of("", "9:-"), [], [job("1"), job("2"), job("9")], {"most": 2}, ["task light 1"]),
     ("two of an array at a time", book_of("m1", "5-1:m1"), [node("m1")], [running("5-1", "m1", most=2),
      job("5-2", most=2), job("5-3", most=2)], {}, ["task light 5-2"]),
     ("a full arena", book_of("", "9:-", "4,300,1000,0,9,5"), [], [job("1"), job("9")], {}, []),
     ("room in the arena", book_of("", "9:-", "5,300,1000,0,9,5"), [], [job("1"), job("2"), job("9")], {},
      ["task light 1"]),
+    ("heavier ones take the room of lighter ones", book_of("", "7:- 8:-", "5,300,1000,0,9,5"), [],
+     [job("1", account="heavy"), job("7"), job("8")], {}, ["done 8", "done 7", "job heavy 1000", "task heavy 1"]),
+    ("none of their own", book_of("", "7:- 8:-", "5,300,1000,0,9,5"), [], [job("1"), job("7"), job("8")], {}, []),
+    ("of at most so many", book_of("", "7:- 8:-"), [], [job("1", account="heavy"), job("7"), job("8")], {"most": 2},
+     ["done 8", "job heavy 1000", "task heavy 1"]),
     ("an idle job", book_of("m1", "x/1:m1 2:-"), [node("m1")], [job("2")], {}, ["done 1"]),
     ("jobs that run already", book_of(), [node("m1", OPEN, 2), node("m2")], [running("1", "m1"), running("2", "m1"),
      job("3")], {}, ["machine m1 4", "job light 10", "task light 1 m1", "task light 2 m1", "round", "machine m2 4"]),
     ("they run while another waits", book_of("m2", "9:-"), [node("m1", OPEN, 1), node("m2")], [running("1", "m1"),
-     job("9")], {}, []),
-    ("they run beside others", book_of(), [node("m1", OPEN, 2)], [running("1", "m1")], {}, []),
+     job("9")], {}, ["machine m1 3"]),
+    ("they run beside others", book_of(), [node("m1", OPEN, 2)], [running("1", "m1")], {}, ["machine m1 2"]),
     ("they run, and crowding is dearer", book_of("", "", "30,300,1000,9,9,5"), [node("m1", OPEN, 2)],
-     [running("1", "m1"), running("2", "m1")], {}, []),
+     [running("1", "m1"), running("2", "m1")], {}, ["machine m1 2"]),
     ("a stranger leaves", book_of(), [node("m1", OPEN, 1)], [job("1", state=LEAVING, node="m1")], {}, []),
 ]  # fmt: skip
 # What firm has, a job, and what Slurm is to do, phase by phase.
@@ -210,7 +237,6 @@ DEEDS: list[tuple[str, str, list[reading.Job], list[list[str]]]] = [
     ("firm has it not, held", "", [job()], []),
     ("held by its user while it was released", "", [pinned("1", "m1", hold=MISSED)], [["uhold 1"]]),
     ("the same, before firm is told", "1:m1", [pinned("1", "m1", hold=MISSED)], []),
-    ("stuck", "", [pinned("1", "m1", 61.0)], [["uhold 1"], ["update JobId=1 StartTime=now+300"]]),
     ("elements of an array", "5-1:m1 5-2:m2 6:m1", [job("5-1"), job("5-2"), job("6")], [
         ["update JobId=5_1 ReqNodeList=m1 StartTime=now", "update JobId=5_2 ReqNodeList=m2 StartTime=now",
          "update JobId=6 ReqNodeList=m1 StartTime=now"],
@@ -268,11 +294,15 @@ def jobs() -> None:
 
 
 def nodes() -> None:
-    found = reading.read_nodes("a|m1|1/3/0/4|mixed|\na|m2|0/4/0/4|idle+drain|\nb|m1|1/3/0/4|mixed|\n")
-    wanted = {"a": [node("m1", OPEN, 1), node("m2", CLOSED)], "b": [node("m1", OPEN, 1)]}
+    found = reading.read_nodes(
+        "a|m1|1/3/0/4|up|mixed|\na|m2|0/4/0/4|up|idle+drain|\na|m3|0/4/0/4|down|idle|\nb|m1|1/3/0/4|up|mixed|\n"
+    )
+    wanted = {"a": [node("m1", OPEN, 1), node("m2", CLOSED), node("m3", UNCLEAR)], "b": [node("m1", OPEN, 1)]}
     require({name: list(rows.values()) for name, rows in found.items()} == wanted, found)
     alone = reading.without_shared(found, ["a", "b", "c"])
-    require({name: list(rows) for name, rows in alone.items()} == {"a": ["m1", "m2"], "b": [], "c": []}, alone)
+    require({name: list(rows) for name, rows in alone.items()} == {"a": ["m1", "m2", "m3"], "b": [], "c": []}, alone)
+    text = "LicenseName=a Total=9 Used=1 Free=8 Reserved=0 Remote=no\nLicenseName=b@c Total=2 Used=2 Free=0 Remote=no\n"
+    require(reading.read_licences(text) == {"a": 8, "b@c": 0}, reading.read_licences(text))
 
 
 def said() -> None:
@@ -291,6 +321,98 @@ def said() -> None:
     require(slurm.said.news(seen, partition()).lines == ["close old"], "a job without tasks")
 
 
+def waits(name: str, machine: str, reason: str = "Resources", **fields: Any) -> reading.Job:
+    """A job that was released for a node, with what Slurm says of it."""
+    return pinned(name, machine, reason=reason, priority=100 - int(name.rpartition("-")[2]), **fields)
+
+
+# What firm has, jobs, and which tasks give their slots back at each of some looks, half a second apart.
+REFUSED: list[tuple[str, str, list[reading.Job], list[set[str]]]] = [
+    ("not looked at yet", "1:m1", [waits("1", "m1", "None")], [set()]),
+    ("behind another", "1:m1", [waits("1", "m1", "Priority")], [set()]),
+    ("its partition is down", "1:m1", [waits("1", "m1", "PartitionDown")], [set()]),
+    ("no room", "1:m1", [waits("1", "m1")], [{"1"}]),
+    ("a reserved node", "1:m1", [waits("1", "m1", "ReqNodeNotAvail, Reserved for maintenance")], [{"1"}]),
+    ("it is to be elsewhere", "1:m2", [waits("1", "m1")], [set()]),
+    ("it waits in firm", "1:-", [waits("1", "m1")], [set()]),
+    ("a node that is unclear", "1:m4", [waits("1", "m4")], [set()]),
+    ("held as its node is not made for it", "1:m1", [waits("1", "m1", "BadConstraints", hold=HELD)], [{"1"}]),
+    ("the same on another node", "1:m2", [waits("1", "m1", "BadConstraints", hold=HELD)], [set()]),
+    ("a licence", "5-1:m1 5-2:m2", [waits("5-1", "m1", "Licenses"), waits("5-2", "m2", "Licenses")], [{"5-1", "5-2"}]),
+    ("a limit of its user", "1:m1 2:m1", [waits("1", "m1", "QOSMaxJobsPerUserLimit"), waits("2", "m1", "QOSGrpCpuLimit")],
+     [{"1", "2"}]),
+    ("the first of an array", "5-1:m1 5-2:m2 5-3:m3", [waits("5-2", "m2"), waits("5-1", "m1"), waits("5-3", "m3")],
+     [{"5-1"}, {"5-1", "5-2"}, {"5-1", "5-2", "5-3"}]),
+    ("the first on a node", "1:m1 2:m1 3:m2", [waits("1", "m1"), waits("2", "m1"), waits("3", "m2")],
+     [{"1", "3"}, {"1", "2", "3"}]),
+]  # fmt: skip
+
+
+def refused() -> None:
+    nodes = by_name([node("m1"), node("m2"), node("m3"), node("m4", UNCLEAR)])
+    for name, tasks, rows, looks in REFUSED:
+        book, refusals = book_of("m1 m2 m3 m4", tasks), slurm.refusals.Refusals()
+        found = [set(refusals.find(book, nodes, by_name(rows), NOW + look / 2)) for look in range(len(looks))]
+        require(found == looks, f"{name}: {found} instead of {looks}")
+    book, refusals = book_of("m1", "1:m1"), slurm.refusals.Refusals()
+    pauses = [refusals.find(book, nodes, {"1": waits("1", "m1", "Licenses")}, NOW + look)["1"] for look in range(8)]
+    require(pauses == [5, 10, 20, 40, 80, 160, 300, 300], f"growing pauses: {pauses}")
+    refusals.find(book, nodes, {"1": running("1", "m1")}, NOW + 9)
+    pause = refusals.find(book, nodes, {"1": waits("1", "m1")}, NOW + 10)["1"]
+    require(pause == 5, f"after it has run: {pause}")
+    refusals, pauses = slurm.refusals.Refusals(), []
+    for look, machine in enumerate(("m1", "m2", "m3", "m1", "m1")):
+        book = book_of("m1 m2 m3", f"5-1:{machine}")
+        pauses.append(refusals.find(book, nodes, {"5-1": waits("5-1", machine)}, NOW + look)["5-1"])
+    require(pauses == [5, 5, 5, 10, 20], f"other nodes are tried first: {pauses}")
+    require(refusals.avoided() == {"5": {"m1", "m2", "m3"}}, f"avoided: {refusals.avoided()}")
+    refusals.find(book_of("m1", "5-1:-"), nodes, {"5-1": job("5-1")}, NOW + 303)
+    require(refusals.avoided() == {"5": {"m1"}}, f"avoided five minutes later: {refusals.avoided()}")
+    refusals.find(book_of("m1"), nodes, {}, NOW + 303)
+    require(refusals.avoided() == {}, f"avoided after its end: {refusals.avoided()}")
+
+
+def elsewhere() -> None:
+    """A job that a node refused prefers others, those with free slots and its own first."""
+    rows, nodes = [job("5-2", near=("m1", "m3")), job("5-3")], [node(f"m{number}") for number in range(1, 8)]
+    book = book_of("m1 m2 m3 m4 m5 m6", "9:m2 8:m2 7:m2 6:m2 4:m4")
+    seen = slurm.said.Seen(book, frozenset(), by_name(nodes), by_name(rows), NOW, avoided={"5": {"m1"}, "6": {"m2"}})
+    found = slurm.said.news(seen, partition()).lines
+    require(found[1:] == ["task light 5-2 m3 m5 m6 m4", "task light 5-3 m3 m5 m6 m4"], found)
+
+
+def late() -> None:
+    """A job that isn't started for half a minute gives its slot back, but for time in which Slurm was away."""
+    book, nodes = book_of("m1", "1:m1 2:-"), by_name([node("m1")])
+    for rows, wanted in (
+        ([job("1")], 30.0),
+        ([waits("1", "m1", "None")], 30.0),
+        ([job("1"), running("2", "m1")], None),
+        ([job("1"), job("3", state=LEAVING, node="m1")], None),
+    ):
+        refusals, found = slurm.refusals.Refusals(), None
+        for look in range(80):
+            if found is None and refusals.find(book, nodes, by_name(rows), NOW + look / 2):
+                found = look / 2
+        require(found == wanted, f"{rows}: after {found} s instead of {wanted}")
+    refusals = slurm.refusals.Refusals()
+    for at in (0.0, 10.0, 500.0):
+        require(not refusals.find(book, nodes, {"1": job("1")}, NOW + at), "Slurm was away")
+
+
+def licences() -> None:
+    """Firm hears of no more jobs than there are licences."""
+    rows = [job(str(number), licences=(("a", 2),) if number > 1 else ()) for number in range(1, 6)]
+    for free, tasks, wanted in ((1, "", "1"), (4, "", "123"), (4, "2:-", "13"), (4, "2:m1", "13")):
+        book = book_of("m1", tasks)
+        seen = slurm.said.Seen(book, frozenset(), by_name([node("m1")]), by_name(rows), NOW, {"a": free})
+        found = [line for line in slurm.said.news(seen, partition()).lines if line.startswith("task")]
+        require(found == [f"task light {name}" for name in wanted], f"{free} free, {tasks}: {found}")
+    gone = by_name([running("2", "m1")._replace(licences=(("a", 2),)), *rows[2:]])
+    seen = slurm.said.Seen(book_of("m1", "2:m1"), frozenset(), by_name([node("m1")]), gone, NOW, {"a": 2})
+    require(slurm.said.news(seen, partition()).lines == ["task light 3"], "what runs has its licences already")
+
+
 def strays() -> None:
     book = book_of("m1 m2", "1:m1 2:m2 3:-")
     found = slurm.said.strays(book, {"1": "m1", "2": "m1", "3": "m1", "4": "m1"})
@@ -299,11 +421,22 @@ def strays() -> None:
 
 def done() -> None:
     for name, tasks, rows, wanted in DEEDS:
-        found = slurm.done.deeds(book_of("m1 m2", tasks), by_name(rows), NOW).phases()
+        found = deeds(book_of("m1 m2", tasks), rows)
         require(found == wanted, f"{name}: {found} instead of {wanted}")
+    found = deeds(book_of("m1 m2"), [pinned("1", "m1")], put_off={"1": 20.0})
+    require(found == [["uhold 1"], ["update JobId=1 StartTime=now+20"]], f"put off: {found}")
+    for free, nodes in (("no CPU", node("m1", allocated=4)), ("one CPU", node("m1", allocated=3))):
+        found = deeds(book_of("m1", "1:m1 2:m1"), [job("1"), job("2")], nodes)
+        require(found == ([] if free == "no CPU" else [[PIN], ["release 1"]]), f"{free} is free: {found}")
     many = [job(f"5-{index}", hold=RELEASED) for index in range(250)]
-    (holds,) = slurm.done.deeds(book_of(), by_name(many), NOW).phases()
+    (holds,) = deeds(book_of(), many)
     require([line.count(",") + 1 for line in holds] == [100, 100, 50], "elements of an array in a command")
+
+
+def deeds(book: Book, rows: list[reading.Job], *nodes: reading.Node, **fields: Any) -> list[list[str]]:
+    there = by_name(list(nodes) or [node("m1"), node("m2")])
+    seen = slurm.said.Seen(book, frozenset(book.tasks), there, by_name(rows), NOW, **fields)
+    return slurm.done.deeds(seen, partition()).phases()
 
 
 def settled() -> None:
@@ -311,7 +444,7 @@ def settled() -> None:
     for name, tasks, rows, _ in DEEDS:
         book = book_of("m1 m2", tasks)
         after = [follow(row, book) for row in rows]
-        again = slurm.done.deeds(book, by_name(after), NOW).phases()
+        again = deeds(book, after)
         require(again == [], f"{name}: then {again}")
 
 
@@ -358,6 +491,10 @@ CHECKS: dict[str, Check] = {
     "nodes": nodes,
     "what is said": said,
     "what was not taken over": strays,
+    "what Slurm refuses": refused,
+    "what starts late": late,
+    "what starts elsewhere": elsewhere,
+    "licences": licences,
     "what is done": done,
     "what is done ends": settled,
     "what differs": differences,

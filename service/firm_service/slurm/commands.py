@@ -7,7 +7,7 @@ import os
 import time
 from collections.abc import Sequence
 
-from .reading import JOB_FIELDS, NODE_FIELDS, Picture, format_of, read_jobs, read_nodes, without_shared
+from .reading import JOB_FIELDS, NODE_FIELDS, Picture, format_of, read_jobs, read_licences, read_nodes, without_shared
 
 ANSWER_SECONDS = 60.0
 MOST_AT_A_TIME, LEAST_TOGETHER = 4, 20  # commands that scontrol gives at a time, and how many of them one by one
@@ -53,12 +53,13 @@ async def answer(*words: str) -> str:
 async def look(partitions: Sequence[str]) -> Picture:
     """What Slurm has of some partitions."""
     names, at = ",".join(partitions), time.time()
-    nodes, jobs = await asyncio.gather(
+    nodes, jobs, licences = await asyncio.gather(
         answer("sinfo", "-h", "-N", "-p", names, "-O", format_of(NODE_FIELDS)),
         answer("squeue", "-h", "--array-unique", "-p", names, "-O", format_of(JOB_FIELDS)),
+        answer("scontrol", "-o", "show", "licenses"),
     )
     try:
-        return Picture(without_shared(read_nodes(nodes), partitions), read_jobs(jobs), at)
+        return Picture(without_shared(read_nodes(nodes), partitions), read_jobs(jobs), read_licences(licences), at)
     except ValueError as error:
         raise NoSlurm(f"sinfo or squeue printed what can't be read: {error}") from error
 

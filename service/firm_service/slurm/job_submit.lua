@@ -83,6 +83,9 @@ local function why_not(job, name)
   if (job.req_nodes or "") ~= "" or (job.exc_nodes or "") ~= "" then
     return string.format("firm chooses the node in partition %s: --comment=near=NODE,.. prefers some", name)
   end
+  if (job.reservation or "") ~= "" then
+    return string.format("partition %s takes no jobs of a reservation: firm places none on reserved nodes", name)
+  end
   if not (is_plain(job.comment) and is_plain(job.account) and is_plain(job.qos)) then
     return "comment, account and QOS must have no | and no control characters"
   end
@@ -126,6 +129,9 @@ end
 local function why_unchanged(job)
   if (job.req_nodes or "") ~= "" or (job.exc_nodes or "") ~= "" then
     return "firm chooses the node"
+  end
+  if (job.reservation or "") ~= "" then
+    return "firm places no job on reserved nodes"
   end
   for _, size in ipairs(SIZES) do
     if is_asked(job[size]) then

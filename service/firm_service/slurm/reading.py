@@ -9,26 +9,38 @@ from operator import itemgetter
 from typing import NamedTuple
 
 END = "|"  # of a field; the hook keeps it, and line feeds, out of what users write, and a comment comes last
-NODE_FIELDS = ("PartitionName", "NodeHost", "CPUsState", "StateComplete")
+NODE_FIELDS = ("PartitionName", "NodeList", "CPUsState", "Available", "StateComplete")
 JOB_FIELDS = (
-    *("Partition", "JobArrayID", "State", "PriorityLong", "Reason", "Account", "QOS", "Dependency"),
+    *(
+        "Partition",
+        "JobArrayID",
+        "JobID",
+        "State",
+        "PriorityLong",
+        "Reason",
+        "Account",
+        "QOS",
+        "Dependency",
+        "Licenses",
+    ),
     *("ReqNodes", "NodeList", "EligibleTime", "LastSchedEval", "StartTime", "RestartCnt", "SubmitTime", "Comment"),
 )
 NOTHING = frozenset({"", "N/A", "(null)", "Unknown"})
-CLOSED = {"drain", "fail", "maint", "maintenance", "reboot", "reboot_requested", "reboot_issued"}
-CLOSED |= {"powered_down", "powering_down", "power_down", "planned_down"}
-UNCLEAR = {"not_responding", "powering_up", "power_up", "invalid_reg", "unknown"}
+CLOSED = {"drain", "fail", "maint", "maintenance", "reserved", "reboot", "reboot_requested", "reboot_issued"}
+UNCLEAR = {"not_responding", "powering_up", "powering_down", "power_down", "invalid_reg", "unknown"}
 GONE = {"down", "error", "future"}
 NEAR = re.compile(r"(?:^|\s)near=([a-z0-9,-]+)")
 MOST = re.compile(r"(?:^|\s)firm:most=([0-9]{1,9})(?!\S)")
 HELD = re.compile(r"(?:^|\s)firm:held(?!\S)")
 PART = re.compile(r"([0-9]+)(?:-([0-9]+)(?::([0-9]+))?)?")  # of the indices of an array
 ROW = re.compile(r"([0-9]+)(?:_([0-9]+)|_\[([0-9][0-9,:-]*)(?:%[0-9]+)?\])?")
-HELD_STATES = {"SPECIAL_EXIT", "RESV_DEL_HOLD"}  # by an administrator, or as a reservation is no more
+# By an administrator, as a reservation is no more, or after five failures of nodes.
+HELD_STATES = {"SPECIAL_EXIT", "RESV_DEL_HOLD", "REQUEUE_HOLD"}
 MOST_NEAR = 4  # machines that a task may prefer
 FIRM_HOLDS = {"JobHeldUser", "job requeued in held state"}  # by the hook, by `uhold` and by `requeuehold`
-# A job that Slurm was asked to start and has looked at again so much later can't start where it is pinned.
-STUCK_SECONDS = 60.0
+MISFIT = "BadConstraints"  # Slurm holds a job that its node is not made for
+LICENCE = re.compile(r"([^,:;|=]+)(?:[:=]([0-9]+))?")
+FREE = re.compile(r"^LicenseName=(\S+) .*\bFree=([0-9]+)", re.MULTILINE)
 # A start that is set further ahead is its user's or firm-slurm's own; Slurm delays what it requeues by two minutes.
 LATER_SECONDS, PAUSE_SECONDS = 300.0, 121.0
 STEADY_SECONDS = 3.0  # for slurmd to launch a job
@@ -67,6 +79,9 @@ class Job(NamedTuple):
     """A job of a partition that has not ended; an element of an array is one of its own."""
 
     name: str  # the task's: 17, or 17-3 for an element of an array
+    number: int  # Slurm's own, of an element too
+    priority: int
+    reason: str  # why it is pending
     account: str
     qos: str
     near: tuple[str, ...]  # machines that it prefers
@@ -74,6 +89,7 @@ class Job(NamedTuple):
     state: State
     hold: Hold
     has_needs: bool  # it depends on jobs that have not ended
+    licences: tuple[tuple[str, int], ...]  # by name, with their number
     node: str | None  # where it runs
     pinned: str | None  # the node that it asks for
     eligible: float | None  # when Slurm may start it, once it is released
@@ -96,13 +112,6 @@ class Job(NamedTuple):
     @property
     def is_released(self) -> bool:
         return self.is_pending and self.hold in (Hold.NONE, Hold.MISSED)
-
-    @property
-    def is_stuck(self) -> bool:
-        """Whether Slurm can't start it where it is pinned."""
-        if not self.is_released or self.pinned is None or self.eligible is None or self.evaluated is None:
-            return False
-        return self.evaluated - self.eligible >= STUCK_SECONDS
 
     def is_steady(self, now: float) -> bool:
         """Return whether slurmd has surely launched a running job, so that it may be requeued.
@@ -127,7 +136,7 @@ class Job(NamedTuple):
 
     def is_firms(self, now: float) -> bool:
         """Whether firm may decide when and where a pending job starts, or keep it if it has it."""
-        is_free = self.hold in (Hold.NONE, Hold.FIRM) and not self.has_needs and not self.is_stuck
+        is_free = self.hold in (Hold.NONE, Hold.FIRM) and not self.has_needs and self.may_start(now + 1)
         return is_free and (self.eligible is None or self.eligible - now <= LATER_SECONDS)
 
     def is_due(self, now: float) -> bool:
@@ -140,6 +149,7 @@ class Picture(NamedTuple):
 
     nodes: dict[str, dict[str, Node]]  # by partition and name
     jobs: dict[str, dict[str, Job]]  # by partition and task, in order of submission
+    licences: dict[str, int]  # that are free, by name
     at: float  # Unix time before it was asked
 
 
@@ -165,23 +175,28 @@ def time_of(text: str) -> float | None:
     return float(text) if text.isascii() and text.isdigit() else None
 
 
-def use_of(state: str) -> Use:
-    """From words like idle+drain+not_responding."""
+def use_of(state: str, available: str = "up") -> Use:
+    """From words like idle+drain+not_responding, and whether its partition is up."""
     words = set(state.lower().split("+"))
     if words & GONE:
         return Use.GONE
     if words & CLOSED:
         return Use.CLOSED
-    return Use.UNCLEAR if words & UNCLEAR else Use.OPEN
+    return Use.UNCLEAR if words & UNCLEAR or available != "up" else Use.OPEN
 
 
 def read_nodes(text: str) -> dict[str, dict[str, Node]]:
     """By partition and name."""
     found: dict[str, dict[str, Node]] = {}
-    for partition, name, cpus, state in rows_of(text, NODE_FIELDS):
+    for partition, name, cpus, available, state in rows_of(text, NODE_FIELDS):
         allocated, _, _, total = cpus.split("/")
-        found.setdefault(partition, {})[name] = Node(name, int(total), int(allocated), use_of(state))
+        found.setdefault(partition, {})[name] = Node(name, int(total), int(allocated), use_of(state, available))
     return found
+
+
+def read_licences(text: str) -> dict[str, int]:
+    """How many are free, by name, as `scontrol -o show licenses` prints them."""
+    return {name: int(count) for name, count in FREE.findall(text)}
 
 
 def without_shared(nodes: dict[str, dict[str, Node]], partitions: Sequence[str]) -> dict[str, dict[str, Node]]:
@@ -200,7 +215,7 @@ def read_jobs(text: str) -> dict[str, dict[str, Job]]:
     found: dict[str, list[tuple[tuple[int, int], Job]]] = {}
     for partition, *row in rows_of(text, JOB_FIELDS):
         elements = list(elements_of(row[0]))
-        if elements and row[2].isdigit():  # the priority, where no field before it has an end within
+        if elements and row[3].isdigit():  # the priority, where no field before it has an end within
             job = job_of(row)
             for number, index in elements:
                 name = f"{number}" if index is None else f"{number}-{index}"
@@ -228,18 +243,22 @@ def elements_of(name: str) -> Iterator[tuple[int, int | None]]:
 
 def job_of(row: Sequence[str]) -> Job:
     """From all fields behind the partition; all jobs of a row are alike but for their names."""
-    name, state, priority, reason, account, qos, needs, pinned, node, *times, restarts, submitted, comment = row
+    name, number, state, priority, reason, account, qos, *rest = row
+    needs, licences, pinned, node, *times, restarts, submitted, comment = rest
     eligible, evaluated, started = map(time_of, times)
     is_pending = state == "PENDING" or state in HELD_STATES
     hold, is_users = Hold.NONE, HELD.search(comment) is not None
     if is_pending and (priority == "0" or state in HELD_STATES):
-        is_firms = state == "PENDING" and reason in FIRM_HOLDS and not is_users
-        hold = Hold.FIRM if is_firms else Hold.OTHER
+        is_firms = reason in FIRM_HOLDS or reason == MISFIT and word(pinned) is not None
+        hold = Hold.FIRM if state == "PENDING" and is_firms and not is_users else Hold.OTHER
     elif is_pending and is_users:
         hold = Hold.MISSED
     near, most = NEAR.search(comment), MOST.search(comment)
     return Job(
         name=name,
+        number=int(number),
+        priority=int(priority),
+        reason=reason,
         account=word(account) or "",
         qos=word(qos) or "",
         near=tuple(dict.fromkeys(near[1].split(",")))[:MOST_NEAR] if near else (),
@@ -247,6 +266,7 @@ def job_of(row: Sequence[str]) -> Job:
         state=State.PENDING if is_pending else state_of(state),
         hold=hold,
         has_needs=word(needs) is not None,
+        licences=tuple((name, int(count or 1)) for name, count in LICENCE.findall(word(licences) or "")),
         node=None if is_pending else word(node),
         pinned=word(pinned),
         eligible=eligible,
