@@ -378,6 +378,23 @@ def blocked(firm: str) -> None:
         require(Judge(place).works()[f"{big}_1"] == 1, "a job with a feature has not run")
 
 
+def asleep(firm: str) -> None:
+    """A node that Slurm has powered down is a machine, and is woken for its jobs."""
+    more = "SuspendProgram=/bin/true\nResumeProgram=/bin/true\nSuspendTime=3600\nSuspendTimeout=3\nResumeTimeout=300"
+    with site(firm, 2, 2, more=more) as place:
+        look = partial(place.cluster.run, "sinfo", "-h", "-N", "-n", "node2", "-O", "StateComplete:100")
+        set_node(place, "node2", "POWER_DOWN")
+        place.cluster.kill("slurmd.node2")
+        wait(lambda: "powered_down" in look(), "a node without power")
+        place.start_bridge()
+        wait(lambda: len(place.rows()["machines"]) == 2, "it is a machine")
+        place.submit(4, 3, "light")
+        wait(lambda: "powering_up" in look(), "it is woken")
+        place.cluster.start_node("node2")
+        wait(place.is_empty, "the end of all jobs")
+        judge(place, 4, 2)
+
+
 def count_of(place: Site, array: str) -> int:
     return sum(name.startswith(f"{array}-") for name in place.cluster.squeue())
 
@@ -672,6 +689,7 @@ CHECKS: dict[str, Callable[[str], None]] = {
     "preempted": preempted,
     "put off": put_off,
     "blocked": blocked,
+    "asleep": asleep,
     "accounts": accounts,
     "orders": orders,
     "taken over": taken_over,

@@ -72,7 +72,7 @@ MaxArraySize=100000
 KillWait=5
 SlurmctldTimeout=30
 SlurmdTimeout=15
-NodeName=node[1-{nodes}] NodeAddr=127.0.0.1 Port=[{first}-{last}] CPUs={cpus} RealMemory=1000
+NodeName=node[1-{nodes}] NodeHostname=host[1-{nodes}] NodeAddr=127.0.0.1 Port=[{first}-{last}] CPUs={cpus} RealMemory=1000
 {partitions}
 {more}
 """

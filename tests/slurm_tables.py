@@ -271,6 +271,53 @@ FAULTY_TABLES = {
 }
 
 
+# Lines of slurm.conf, the words of its node m1, fields of the partition, and what is to be written.
+THREADS = "Sockets=1 CoresPerSocket=4 ThreadsPerCore=2 RealMemory=8000"
+CHECKED: list[tuple[str, str, str, dict[str, Any], list[str]]] = [
+    ("a CPU is what Slurm counts", "SelectTypeParameters=CR_CPU", "CPUs=8", {}, []),
+    ("no default of memory", "SelectTypeParameters=CR_Core_Memory", "CPUs=8 RealMemory=8000", {}, ["DefMemPerCPU=1000"]),
+    ("the same, slots of two CPUs", "SelectTypeParameters=CR_CPU_Memory", "CPUs=8 RealMemory=8000", {"cpus": 2},
+     ["DefMemPerCPU=1000"]),
+    ("the same, slots of a table", "SelectTypeParameters=CR_CPU_Memory", "CPUs=8 RealMemory=8000", {"slots": 2},
+     ["DefMemPerCPU=4000"]),
+    ("a default of memory", "SelectTypeParameters=CR_Core_Memory\nDefMemPerCPU=1000", "CPUs=8 RealMemory=8000", {}, []),
+    ("too much", "SelectTypeParameters=CR_Core_Memory\nDefMemPerCPU=1001", "CPUs=8 RealMemory=8000", {},
+     ["DefMemPerCPU=1000"]),
+    ("too much for a node", "SelectTypeParameters=CR_Core_Memory\nDefMemPerNode=8000", "CPUs=8 RealMemory=8000", {},
+     ["DefMemPerCPU=1000"]),
+    ("memory is not counted", "SelectTypeParameters=CR_Core", "CPUs=8 RealMemory=8000", {}, []),
+    ("two threads a core", "SelectTypeParameters=CR_Core", THREADS, {},
+     ["cpus = 2 in [partitions.batch] of the table, or SelectTypeParameters=CR_CPU"]),
+    ("slots of three CPUs", "SelectTypeParameters=CR_Core", THREADS, {"cpus": 3},
+     ["cpus = 4 in [partitions.batch] of the table, or SelectTypeParameters=CR_CPU"]),
+    ("slots of whole cores", "SelectTypeParameters=CR_Core", THREADS, {"cpus": 2}, []),
+    ("a CPU for each core", "SelectTypeParameters=CR_Core", f"CPUs=4 {THREADS}", {}, []),
+    ("threads, and a CPU is what Slurm counts", "SelectTypeParameters=CR_CPU", THREADS, {}, []),
+    ("whole sockets", "SelectTypeParameters=CR_Socket", "Sockets=2 CoresPerSocket=4", {},
+     ["cpus = 4 in [partitions.batch] of the table, or SelectTypeParameters=CR_CPU"]),
+    ("many slots", "SelectTypeParameters=CR_CPU", "CPUs=130", {},
+     ["cpus = 3 in [partitions.batch] of the table, or slots = 64"]),
+    ("many CPUs, slots of a table", "SelectTypeParameters=CR_CPU", "CPUs=128", {"slots": 64}, []),
+    ("many CPUs, slots of two", "SelectTypeParameters=CR_CPU", "CPUs=128", {"cpus": 2}, []),
+    ("many nodes", "SelectTypeParameters=CR_CPU\nNodeName=DEFAULT CPUs=64\n"
+     + "\n".join(f"NodeName=n{number}" for number in range(60)), "CPUs=64", {}, ["several partitions"]),
+]  # fmt: skip
+
+
+def checked() -> None:
+    """What keeps slots from being used is told, with what to write; nothing else is."""
+    named, slurm.check.names_of = slurm.check.names_of, lambda listed: listed.split(",")
+    try:
+        with tempfile.TemporaryDirectory() as name:
+            path = Path(name) / "slurm.conf"
+            for what, lines, node, fields, wanted in CHECKED:
+                path.write_text(f"{lines}\nNodeName=m1 {node}\nPartitionName=batch Nodes=ALL\n")
+                found = list(slurm.check.of_nodes(partition(**fields), slurm.check.Conf.read(path)))
+                require([advice.write for advice in found] == wanted, f"{what}: {found} instead of {wanted}")
+    finally:
+        slurm.check.names_of = named
+
+
 def by_name(rows: list[Any]) -> dict[str, Any]:
     return {row.name: row for row in rows}
 
@@ -499,6 +546,7 @@ CHECKS: dict[str, Check] = {
     "what is done ends": settled,
     "what differs": differences,
     "faulty tables": tables,
+    "what check tells": checked,
 }
 
 

@@ -10,7 +10,8 @@ from pathlib import Path
 from typing import NamedTuple
 
 from ..lines import is_name
-from ..sizes import MOST_NODES
+from ..queue.backlog import RESERVED_PART
+from ..sizes import HUBS, MOST_NODES, MOST_SLOTS
 from .hook import hook
 from .table import Partition, Table, Weigh
 
@@ -21,6 +22,7 @@ LINE = re.compile(r"\s*([A-Za-z]+)\s*=\s*(.*)", re.DOTALL)
 WORD = re.compile(r'([A-Za-z]+)=("[^"]*"|\S+)')
 MOST_INCLUDED = 100  # files
 SLURMDBD = "accounting_storage/slurmdbd"
+DEFAULTS = {"selecttype": "select/linear", "preempttype": "preempt/none"}  # Slurm's own
 # What AccountingStorageEnforce has where slurmdbd says which accounts, or which QOS, are a user's.
 ENFORCED = {Weigh.QOS: {"qos", "all"}}
 ENFORCED[Weigh.ACCOUNT] = ENFORCED[Weigh.QOS] | {"associations", "limits", "safe", "wckeys"}
@@ -31,6 +33,25 @@ class Advice(NamedTuple):
 
     what: str
     write: str
+
+
+class Hardware(NamedTuple):
+    """What a node has."""
+
+    cpus: int
+    core: int  # CPUs of a core
+    socket: int  # CPUs of a socket
+    memory: int  # MB
+
+    @classmethod
+    def read(cls, row: dict[str, str]) -> Hardware:
+        """From the words of a NodeName line; what it leaves out is 1, or follows from the others."""
+        numbers = {key: int(text) for key, text in row.items() if text.isdigit()}
+        threads, cores = numbers.get("threadspercore", 1), numbers.get("corespersocket", 1)
+        sockets = numbers.get("sockets", numbers.get("socketsperboard", 1)) * numbers.get("boards", 1)
+        cpus = numbers.get("cpus", numbers.get("procs", sockets * cores * threads))
+        core = threads if cpus >= sockets * cores * threads else 1  # with fewer CPUs, each is a core
+        return cls(cpus, core, core * cores, numbers.get("realmemory", 1))
 
 
 @dataclass
@@ -72,6 +93,10 @@ class Conf:
     def node_names(self) -> list[str]:
         return [name for row in self.nodes for name in names_of(row["nodename"])]
 
+    def hardware(self) -> dict[str, Hardware]:
+        """By node."""
+        return {name: Hardware.read(row) for row in self.nodes for name in names_of(row["nodename"])}
+
     def names_in(self, partition: str) -> list[str]:
         listed = self.partitions[partition].get("nodes", "")
         return self.node_names() if listed.upper() == "ALL" else names_of(listed)
@@ -105,7 +130,7 @@ def advice(table: Table, conf: Conf) -> Iterator[Advice]:
         ("selecttype", "SelectType=select/cons_tres", "select/linear"),
         ("preempttype", "PreemptType=preempt/none", "preempt/"),
     ):
-        value = conf.values.get(key, "").lower()
+        value = conf.values.get(key, DEFAULTS[key]).lower()
         if value.startswith(bad) and value not in wanted.lower():
             yield Advice(f"{value}: Slurm must give single slots, and preempt nothing itself", wanted)
     owners: dict[str, str] = {}
@@ -163,14 +188,74 @@ def of_partition(partition: Partition, conf: Conf, owners: dict[str, str]) -> It
         if node in owners:
             yield Advice(f"node {node} is in {owners[node]} and {name}; only {owners[node]} has it", "one of them")
         owners.setdefault(node, name)
-    if len(names) > MOST_NODES - 2:
-        yield Advice(f"{name} has {len(names):,} nodes; a tenant has {MOST_NODES - 2:,} at most", "several partitions")
+    yield from of_nodes(partition, conf)
     if partition.weigh is Weigh.QOS and conf.values.get("accountingstoragetype", "").lower() != SLURMDBD:
         yield Advice(f"{name}: no job has a QOS without slurmdbd", f"AccountingStorageType={SLURMDBD}")
     row = conf.partitions[name]
     for key, bad, wanted in (("oversubscribe", "EXCLUSIVE", "NO"), ("exclusiveuser", "YES", "NO")):
         if row.get(key, "").upper() == bad:
             yield Advice(f"{name}: a job would take a whole node", f"PartitionName={name} .. {key}={wanted}")
+
+
+def of_nodes(partition: Partition, conf: Conf) -> Iterator[Advice]:
+    """What keeps slots of a partition from being used, each told of one node."""
+    name, row, hardware = partition.name, conf.partitions[partition.name], conf.hardware()
+    nodes = {node: hardware[node] for node in conf.names_in(name) if node in hardware}
+    parameters = row.get("selecttypeparameters", conf.values.get("selecttypeparameters", "")).lower()
+    slots = {node: partition.slots or max(1, one.cpus // partition.cpus) for node, one in nodes.items()}
+    told: dict[str, Advice] = {}
+    for node, one in nodes.items():
+        found = [of_cores(partition, node, one, parameters), of_slots(partition, node, slots[node])]
+        if "memory" in parameters:
+            found.append(of_memory(partition, {**conf.values, **row}, node, one))
+        for advice in filter(None, found):
+            told.setdefault(advice.write.partition("=")[0], advice)
+    yield from told.values()
+    used = MOST_NODES - MOST_NODES // RESERVED_PART - HUBS - len(nodes)
+    total = sum(min(count, MOST_SLOTS) for count in slots.values())
+    if total > used:
+        told_of = f"{name} has {len(nodes):,} nodes with {total:,} slots; a tenant has room for {max(used, 0):,} tasks"
+        yield Advice(f"{told_of} beside so many machines", "several partitions")
+
+
+def of_cores(partition: Partition, node: str, one: Hardware, parameters: str) -> Advice | None:
+    """Slurm gives a job whole cores, or sockets, unless a CPU is what it counts."""
+    whole, what = (one.socket, "sockets") if "cr_socket" in parameters else (one.core, "cores")
+    if "cr_cpu" in parameters or partition.slots is not None or partition.cpus % whole == 0:
+        return None
+    wanted = -(-partition.cpus // whole) * whole
+    told = (
+        f"{partition.name}: Slurm gives a job whole {what}, of {whole} CPUs on node {node}; a slot has {partition.cpus}"
+    )
+    return Advice(
+        told, f"cpus = {wanted} in [partitions.{partition.name}] of the table, or SelectTypeParameters=CR_CPU"
+    )
+
+
+def of_slots(partition: Partition, node: str, slots: int) -> Advice | None:
+    if partition.slots is not None or slots <= MOST_SLOTS:
+        return None
+    told = (
+        f"{partition.name}: node {node} has {slots} slots; a machine of firm has {MOST_SLOTS} at most, others stay idle"
+    )
+    wanted = -(-slots * partition.cpus // MOST_SLOTS)
+    return Advice(told, f"cpus = {wanted} in [partitions.{partition.name}] of the table, or slots = {MOST_SLOTS}")
+
+
+def of_memory(partition: Partition, values: dict[str, str], node: str, one: Hardware) -> Advice | None:
+    """A job that names no memory takes what its partition's default says: by Slurm's own all of a node's."""
+    slots = min(partition.slots or max(1, one.cpus // partition.cpus), MOST_SLOTS)
+    by_cpu, by_node = (number_of(values.get(key)) for key in ("defmempercpu", "defmempernode"))
+    needed = by_node or by_cpu * partition.cpus
+    if 0 < needed * slots <= one.memory:
+        return None
+    takes = f"takes {needed:,} of {one.memory:,} MB" if needed else "takes all memory"
+    told = f"{partition.name}: a job without --mem {takes} of node {node}, which has {slots} slots"
+    return Advice(told, f"DefMemPerCPU={max(1, one.memory // (slots * partition.cpus))}")
+
+
+def number_of(text: str | None) -> int:
+    return int(text) if text is not None and text.isdigit() else 0
 
 
 def of_shared(table: Table, conf: Conf, owners: dict[str, str]) -> Iterator[Advice]:
