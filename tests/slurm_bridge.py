@@ -350,7 +350,7 @@ def put_off(firm: str) -> None:
 
 
 def blocked(firm: str) -> None:
-    """What Slurm can't start, for want of a licence or a feature or on a reserved node, keeps nothing else waiting."""
+    """Jobs that Slurm can't start, for want of a licence, a feature or an unreserved node, keep no others waiting."""
     with site(firm, 3, 4, more="Licenses=seat:1") as place:
         run = place.cluster.run
         reserve = ["ReservationName=r", "StartTime=now", "Duration=60", "Users=root", "Flags=IGNORE_JOBS"]

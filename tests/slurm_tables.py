@@ -197,8 +197,8 @@ NEWS: list[tuple[str, Book, list[reading.Node], list[reading.Job], dict[str, Any
      ["task light 1"]),
     ("heavier ones take the room of lighter ones", book_of("", "7:- 8:-", "5,300,1000,0,9,5"), [],
      [job("1", account="heavy"), job("7"), job("8")], {}, ["done 8", "done 7", "job heavy 1000", "task heavy 1"]),
-    ("none of their own", book_of("", "7:- 8:-", "5,300,1000,0,9,5"), [], [job("1"), job("7"), job("8")], {}, []),
-    ("of at most so many", book_of("", "7:- 8:-"), [], [job("1", account="heavy"), job("7"), job("8")], {"most": 2},
+    ("equal ones do not", book_of("", "7:- 8:-", "5,300,1000,0,9,5"), [], [job("1"), job("7"), job("8")], {}, []),
+    ("with a limit of tasks", book_of("", "7:- 8:-"), [], [job("1", account="heavy"), job("7"), job("8")], {"most": 2},
      ["done 8", "job heavy 1000", "task heavy 1"]),
     ("an idle job", book_of("m1", "x/1:m1 2:-"), [node("m1")], [job("2")], {}, ["done 1"]),
     ("jobs that run already", book_of(), [node("m1", OPEN, 2), node("m2")], [running("1", "m1"), running("2", "m1"),
@@ -305,7 +305,7 @@ CHECKED: list[tuple[str, str, str, dict[str, Any], list[str]]] = [
 
 
 def checked() -> None:
-    """What keeps slots from being used is told, with what to write; nothing else is."""
+    """`check` names each cause of unused slots with its remedy, and nothing else."""
     named, slurm.check.names_of = slurm.check.names_of, lambda listed: listed.split(",")
     try:
         with tempfile.TemporaryDirectory() as name:

@@ -36,7 +36,7 @@ class Advice(NamedTuple):
 
 
 class Hardware(NamedTuple):
-    """What a node has."""
+    """CPUs and memory of a node."""
 
     cpus: int
     core: int  # CPUs of a core
@@ -198,24 +198,25 @@ def of_partition(partition: Partition, conf: Conf, owners: dict[str, str]) -> It
 
 
 def of_nodes(partition: Partition, conf: Conf) -> Iterator[Advice]:
-    """What keeps slots of a partition from being used, each told of one node."""
+    """Yield each cause of unused slots of a partition once, for the first node that has it."""
     name, row, hardware = partition.name, conf.partitions[partition.name], conf.hardware()
     nodes = {node: hardware[node] for node in conf.names_in(name) if node in hardware}
     parameters = row.get("selecttypeparameters", conf.values.get("selecttypeparameters", "")).lower()
     slots = {node: partition.slots or max(1, one.cpus // partition.cpus) for node, one in nodes.items()}
-    told: dict[str, Advice] = {}
+    causes: dict[str, Advice] = {}
     for node, one in nodes.items():
         found = [of_cores(partition, node, one, parameters), of_slots(partition, node, slots[node])]
         if "memory" in parameters:
             found.append(of_memory(partition, {**conf.values, **row}, node, one))
         for advice in filter(None, found):
-            told.setdefault(advice.write.partition("=")[0], advice)
-    yield from told.values()
+            causes.setdefault(advice.write.partition("=")[0], advice)
+    yield from causes.values()
     used = MOST_NODES - MOST_NODES // RESERVED_PART - HUBS - len(nodes)
     total = sum(min(count, MOST_SLOTS) for count in slots.values())
     if total > used:
-        told_of = f"{name} has {len(nodes):,} nodes with {total:,} slots; a tenant has room for {max(used, 0):,} tasks"
-        yield Advice(f"{told_of} beside so many machines", "several partitions")
+        sizes = f"{name} has {len(nodes):,} nodes with {total:,} slots"
+        told = f"{sizes}; a tenant with this many machines has room for {max(used, 0):,} tasks"
+        yield Advice(told, "several partitions")
 
 
 def of_cores(partition: Partition, node: str, one: Hardware, parameters: str) -> Advice | None:

@@ -195,7 +195,7 @@ def read_nodes(text: str) -> dict[str, dict[str, Node]]:
 
 
 def read_licences(text: str) -> dict[str, int]:
-    """How many are free, by name, as `scontrol -o show licenses` prints them."""
+    """Return the number of free licences by name, from `scontrol -o show licenses`."""
     return {name: int(count) for name, count in FREE.findall(text)}
 
 
@@ -242,7 +242,7 @@ def elements_of(name: str) -> Iterator[tuple[int, int | None]]:
 
 
 def job_of(row: Sequence[str]) -> Job:
-    """From all fields behind the partition; all jobs of a row are alike but for their names."""
+    """Return a job from all fields after the partition; jobs of one row differ in their names alone."""
     name, number, state, priority, reason, account, qos, *rest = row
     needs, licences, pinned, node, *times, restarts, submitted, comment = rest
     eligible, evaluated, started = map(time_of, times)

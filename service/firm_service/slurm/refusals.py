@@ -1,8 +1,8 @@
 """Jobs that Slurm does not start where firm has placed them: which give their slots back, and for how long.
 
-Slurm looks at jobs by priority. Behind one that it can't start, it starts no other of the same array, nor on the same
-node, until its next look; all these bear the same reason. So a job that can't start must go at once, and others that
-only stand behind it should not.
+Slurm's scheduler tries jobs by priority. After one that it can't start, it starts no other of the same array, and none
+on the same node, in that cycle, and gives all elements of the array the same reason. So a job that can't start must be
+withdrawn at once, and jobs that merely follow it should stay.
 """
 
 from __future__ import annotations
@@ -26,7 +26,7 @@ OWN = ("Licenses", "QOS", "Assoc", "Account", "Invalid", "PartitionTimeLimit", "
 
 
 class Refusals:
-    """What Slurm refused, look by look. After a restart the pauses are short again."""
+    """Recent refusals. A restart forgets them, so pauses are short again."""
 
     def __init__(self) -> None:
         self._counts: Counter[str] = Counter()  # of each job, until it has run
@@ -41,8 +41,8 @@ class Refusals:
         leaving = {job.node for name, job in jobs.items() if is_leaving(book, name, job)}
         there = [job for job in placed if is_open(nodes, book.tasks[job.name].machine)]
         refused = sorted((job for job in there if is_refused(book, job)), key=lambda job: (-job.priority, job.number))
-        chosen = [job for job in refused if job.reason.startswith(OWN) or job.reason == MISFIT]
-        chosen += self._first([job for job in refused if job not in chosen])
+        chosen = [job for job in refused if is_sure(job)]
+        chosen += self._first([job for job in refused if not is_sure(job)])
         self._wait([job.name for job in there if book.tasks[job.name].machine not in leaving], now)
         chosen += [job for job in there if self._waited.get(job.name, 0.0) >= PLACED_SECONDS and job.is_firms(now)]
         for name in [name for name in self._counts if name not in jobs or jobs[name].state is State.RUNNING]:
@@ -65,7 +65,7 @@ class Refusals:
         self._nodes = {array: nodes for array, nodes in fresh.items() if nodes}
 
     def _first(self, refused: list[Job]) -> Iterator[Job]:
-        """Return the first of each array and node, which Slurm has surely tried; with each look in a row twice as many."""
+        """Yield the first of each array and node, which Slurm has tried; twice as many with each further look."""
         taken: Counter[str] = Counter()
         keys = {key for job in refused for key in keys_of(job)}
         for job in refused:
@@ -85,6 +85,11 @@ class Refusals:
         if job.reason.startswith(OWN) or not untried:
             self._counts[job.name] += 1
         return min(seconds, LATER_SECONDS)
+
+
+def is_sure(job: Job) -> bool:
+    """Whether what keeps a job from starting is its own, whichever jobs precede it."""
+    return job.reason.startswith(OWN) or job.reason == MISFIT
 
 
 def keys_of(job: Job) -> tuple[str, str]:
