@@ -336,8 +336,8 @@ def jobs() -> None:
     text = "".join(
         f"a|{name}|{HELD_ROW}|\n" for name in ("10", "9_10", "9_2", "8_[0,3-4,7-11:2%2]", "7+1", "6|", "5_[")
     )
-    wanted = ["8-0", "8-3", "8-4", "8-7", "8-9", "8-11", "9-2", "9-10", "10"]
-    require(list(reading.read_jobs(text)["a"]) == wanted, "the order of jobs, and all elements of an array")
+    names = ["8-0", "8-3", "8-4", "8-7", "8-9", "8-11", "9-2", "9-10", "10"]
+    require(list(reading.read_jobs(text)["a"]) == names, "the order of jobs, and all elements of an array")
 
 
 def nodes() -> None:
@@ -378,8 +378,9 @@ REFUSED: list[tuple[str, str, list[reading.Job], list[set[str]]]] = [
     ("not looked at yet", "1:m1", [waits("1", "m1", "None")], [set()]),
     ("behind another", "1:m1", [waits("1", "m1", "Priority")], [set()]),
     ("its partition is down", "1:m1", [waits("1", "m1", "PartitionDown")], [set()]),
-    ("no room", "1:m1", [waits("1", "m1")], [{"1"}]),
-    ("a reserved node", "1:m1", [waits("1", "m1", "ReqNodeNotAvail, Reserved for maintenance")], [{"1"}]),
+    ("no room", "1:m1", [waits("1", "m1")], [set(), {"1"}]),
+    ("a reserved node", "1:m1", [waits("1", "m1", "ReqNodeNotAvail, Reserved for maintenance")],
+     [set(), {"1"}]),
     ("it is to be elsewhere", "1:m2", [waits("1", "m1")], [set()]),
     ("it waits in firm", "1:-", [waits("1", "m1")], [set()]),
     ("a node that is unclear", "1:m4", [waits("1", "m4")], [set()]),
@@ -389,9 +390,9 @@ REFUSED: list[tuple[str, str, list[reading.Job], list[set[str]]]] = [
     ("a limit of its user", "1:m1 2:m1", [waits("1", "m1", "QOSMaxJobsPerUserLimit"), waits("2", "m1", "QOSGrpCpuLimit")],
      [{"1", "2"}]),
     ("the first of an array", "5-1:m1 5-2:m2 5-3:m3", [waits("5-2", "m2"), waits("5-1", "m1"), waits("5-3", "m3")],
-     [{"5-1"}, {"5-1", "5-2"}, {"5-1", "5-2", "5-3"}]),
+     [set(), {"5-1"}, {"5-1", "5-2", "5-3"}]),
     ("the first on a node", "1:m1 2:m1 3:m2", [waits("1", "m1"), waits("2", "m1"), waits("3", "m2")],
-     [{"1", "3"}, {"1", "2", "3"}]),
+     [set(), {"1", "3"}, {"1", "2", "3"}]),
 ]  # fmt: skip
 
 
@@ -405,13 +406,15 @@ def refused() -> None:
     pauses = [refusals.find(book, nodes, {"1": waits("1", "m1", "Licenses")}, NOW + look)["1"] for look in range(8)]
     require(pauses == [5, 10, 20, 40, 80, 160, 300, 300], f"growing pauses: {pauses}")
     refusals.find(book, nodes, {"1": running("1", "m1")}, NOW + 9)
-    pause = refusals.find(book, nodes, {"1": waits("1", "m1")}, NOW + 10)["1"]
+    pause = refusals.find(book, nodes, {"1": waits("1", "m1", "Licenses")}, NOW + 10)["1"]
     require(pause == 5, f"after it has run: {pause}")
     refusals, pauses = slurm.refusals.Refusals(), []
     for look, machine in enumerate(("m1", "m2", "m3", "m1", "m1")):
         book = book_of("m1 m2 m3", f"5-1:{machine}")
-        pauses.append(refusals.find(book, nodes, {"5-1": waits("5-1", machine)}, NOW + look)["5-1"])
-    require(pauses == [5, 5, 5, 10, 20], f"other nodes are tried first: {pauses}")
+        for _ in range(2):
+            found = refusals.find(book, nodes, {"5-1": waits("5-1", machine)}, NOW + look)
+        pauses.append(found["5-1"])
+    require(pauses == [5, 5, 5, 10, 40], f"other nodes are tried first: {pauses}")
     require(refusals.avoided() == {"5": {"m1", "m2", "m3"}}, f"avoided: {refusals.avoided()}")
     refusals.find(book_of("m1", "5-1:-"), nodes, {"5-1": job("5-1")}, NOW + 303)
     require(refusals.avoided() == {"5": {"m1"}}, f"avoided five minutes later: {refusals.avoided()}")

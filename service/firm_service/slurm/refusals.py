@@ -65,11 +65,14 @@ class Refusals:
         self._nodes = {array: nodes for array, nodes in fresh.items() if nodes}
 
     def _first(self, refused: list[Job]) -> Iterator[Job]:
-        """Yield the first of each array and node, which Slurm has tried; twice as many with each further look."""
+        """Yield the first of each array and node, which Slurm has tried, and twice as many with each further look.
+
+        None goes with the first look: as slurmctld starts, or as a job ends, the next cycle may start it.
+        """
         taken: Counter[str] = Counter()
         keys = {key for job in refused for key in keys_of(job)}
         for job in refused:
-            if all(taken[key] < 1 << self._streaks[key] for key in keys_of(job)):
+            if all(taken[key] < (1 << self._streaks[key]) - 1 for key in keys_of(job)):
                 taken.update(keys_of(job))
                 yield job
         self._streaks = Counter({key: min(self._streaks[key] + 1, LONG_STREAK) for key in keys})
