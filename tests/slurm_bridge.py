@@ -254,7 +254,7 @@ def changes(firm: str) -> None:
                 require(update(f"JobId={job}", f"Comment={words}").returncode == 0, f"a comment: {words!r}")
         place.start_bridge()
         wait(lambda: count_running(place) == 1, "an element of the array")
-        place.submit(2, 1, "heavy")
+        place.submit(2, 6, "heavy")  # longer than the first seconds of a job, in which none is requeued
         wait(lambda: place.count_said("preempt"), "a preemption of a job that its user has changed")
         wait(lambda: place.count_said("requeuehold"), "it is carried out")
         require(set(place.places()) & {held} == set(), "a held job whose comment has changed is firm's")
@@ -304,7 +304,7 @@ def preempted(firm: str) -> None:
         chance, slowest = random.Random(1), 0.0
         for _ in range(ROUNDS):
             heavy = place.submit(LIGHT, 3600, "heavy")
-            wait(lambda: not any(name.startswith(array) for name in running(place)), "all of them are preempted")
+            wait(lambda: not any(name.startswith(f"{array}-") for name in running(place)), "all of them are preempted")
             time.sleep(chance.uniform(0, 1.5))
             place.cluster.run("scancel", heavy)
             wait(runs, "the light jobs again")
