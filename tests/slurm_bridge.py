@@ -390,7 +390,7 @@ def asleep(firm: str) -> None:
         wait(lambda: len(place.rows()["machines"]) == 2, "it is a machine")
         place.submit(4, 3, "light")
         wait(lambda: "powering_up" in look(), "it is woken")
-        place.cluster.start_node("node2")
+        place.cluster.run("slurmd", "-N", "node2", "-b")  # as if its host had been started
         wait(place.is_empty, "the end of all jobs")
         judge(place, 4, 2)
 
