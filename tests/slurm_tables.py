@@ -411,9 +411,8 @@ def refused() -> None:
     refusals, pauses = slurm.refusals.Refusals(), []
     for look, machine in enumerate(("m1", "m2", "m3", "m1", "m1")):
         book = book_of("m1 m2 m3", f"5-1:{machine}")
-        for _ in range(2):
-            found = refusals.find(book, nodes, {"5-1": waits("5-1", machine)}, NOW + look)
-        pauses.append(found["5-1"])
+        refusals.find(book, nodes, {"5-1": waits("5-1", machine)}, NOW + look)
+        pauses.append(refusals.find(book, nodes, {"5-1": waits("5-1", machine)}, NOW + look)["5-1"])
     require(pauses == [5, 5, 5, 10, 40], f"other nodes are tried first: {pauses}")
     require(refusals.avoided() == {"5": {"m1", "m2", "m3"}}, f"avoided: {refusals.avoided()}")
     refusals.find(book_of("m1", "5-1:-"), nodes, {"5-1": job("5-1")}, NOW + 303)
