@@ -201,7 +201,7 @@ def orders(firm: str) -> None:
 
 def refusals(firm: str) -> None:
     """What is more than one slot, or chooses its node, is refused with Slurm's own words."""
-    with site(firm, 2, 2) as place:
+    with site(firm, 2, 2, more="SelectTypeParameters=CR_CPU_Memory\nDefMemPerCPU=500") as place:
         script = place.folder / "job"
         script.write_text("#!/bin/sh\n")
         reserve = ["ReservationName=r", "StartTime=now", "Duration=60", f"Users={USER}", "Nodes=node2"]
@@ -212,6 +212,10 @@ def refusals(firm: str) -> None:
             (["-c2"], "one slot"),
             (["--exclusive"], "one slot"),
             (["--exclusive=user"], "one slot"),
+            (["--mem=501"], "MB of memory 500 at most"),
+            (["--mem=0"], "MB of memory 500 at most"),
+            (["--mem-per-cpu=501"], "MB of memory 500 at most"),
+            (["-n1", ":", "-n1"], "one component"),
             (["-w", "node1"], "firm chooses the node"),
             (["-x", "node1"], "firm chooses the node"),
             (["--reservation=r"], "reserved nodes"),
@@ -227,6 +231,7 @@ def refusals(firm: str) -> None:
 
 # Changes of a job that its user may not make: of its size, its node, when it runs, and whether firm may preempt it.
 CHANGES = ["NumCPUs=4", "NumNodes=2", "NumTasks=3", "CPUsPerTask=3", "MinCPUsNode=2", "Requeue=0"]
+CHANGES += ["MinMemoryNode=501", "MinMemoryNode=0", "MinMemoryCPU=501"]
 CHANGES += [
     "ReqNodeList=node1",
     "ExcNodeList=node1",
@@ -240,7 +245,7 @@ CHANGES += [
 
 def changes(firm: str) -> None:
     """Whatever its user changes of a job, it has one slot, firm may preempt it, and his own hold stays."""
-    with site(firm, 1, 2) as place:
+    with site(firm, 1, 2, more="SelectTypeParameters=CR_CPU_Memory\nDefMemPerCPU=500") as place:
         held = place.submit(1, 60, "light", "--hold", user=USER)
         array = place.submit(4, 60, "light", "--array=1-4%1", user=USER)
         update = partial(place.cluster.try_run, "scontrol", "update", user=USER)

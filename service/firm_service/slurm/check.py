@@ -90,6 +90,10 @@ class Conf:
         parts = (part.partition("=") for part in self.values.get(key, "").split(",") if part)
         return {name.strip().lower(): value for name, _, value in parts}
 
+    def value(self, partition: str, key: str) -> str:
+        """Return what a partition has, by its own line or else by the common one."""
+        return self.partitions.get(partition, {}).get(key, self.values.get(key, ""))
+
     def node_names(self) -> list[str]:
         return [name for row in self.nodes for name in names_of(row["nodename"])]
 
@@ -170,7 +174,7 @@ def of_hook(table: Table, conf: Conf) -> Iterator[Advice]:
     path = conf.path.parent / "job_submit.lua"
     if not path.exists():
         yield Advice(f"{path} is not there", f"firm-slurm hook --table TABLE > {path}")
-    elif hook(table).strip() not in path.read_text():
+    elif hook(table, slot_memory(table, conf)).strip() not in path.read_text():
         told = f"{path} has not the hook of this table, or one of an older firm-slurm"
         yield Advice(told, f"firm-slurm hook --table TABLE > {path}, or into a site's own file")
 
@@ -199,15 +203,15 @@ def of_partition(partition: Partition, conf: Conf, owners: dict[str, str]) -> It
 
 def of_nodes(partition: Partition, conf: Conf) -> Iterator[Advice]:
     """Yield each cause of unused slots of a partition once, for the first node that has it."""
-    name, row, hardware = partition.name, conf.partitions[partition.name], conf.hardware()
+    name, hardware, memory = partition.name, conf.hardware(), memory_of(partition, conf)
     nodes = {node: hardware[node] for node in conf.names_in(name) if node in hardware}
-    parameters = row.get("selecttypeparameters", conf.values.get("selecttypeparameters", "")).lower()
+    parameters = conf.value(name, "selecttypeparameters").lower()
     slots = {node: partition.slots or max(1, one.cpus // partition.cpus) for node, one in nodes.items()}
     causes: dict[str, Advice] = {}
     for node, one in nodes.items():
         found = [of_cores(partition, node, one, parameters), of_slots(partition, node, slots[node])]
-        if "memory" in parameters:
-            found.append(of_memory(partition, {**conf.values, **row}, node, one))
+        if memory is not None:
+            found.append(of_memory(partition, memory, node, one))
         for advice in filter(None, found):
             causes.setdefault(advice.write.partition("=")[0], advice)
     yield from causes.values()
@@ -243,11 +247,23 @@ def of_slots(partition: Partition, node: str, slots: int) -> Advice | None:
     return Advice(told, f"cpus = {wanted} in [partitions.{partition.name}] of the table, or slots = {MOST_SLOTS}")
 
 
-def of_memory(partition: Partition, values: dict[str, str], node: str, one: Hardware) -> Advice | None:
-    """A job that names no memory takes what its partition's default says: by Slurm's own all of a node's."""
+def slot_memory(table: Table, conf: Conf) -> dict[str, int]:
+    """Return the MB of a slot of each partition for which slurm.conf says it."""
+    found = {partition.name: memory_of(partition, conf) for partition in table.partitions}
+    return {name: memory for name, memory in found.items() if memory}
+
+
+def memory_of(partition: Partition, conf: Conf) -> int | None:
+    """Return the MB that a job takes by default, 0 for all of a node, None if Slurm counts no memory."""
+    if "memory" not in conf.value(partition.name, "selecttypeparameters").lower():
+        return None
+    by_cpu, by_node = (number_of(conf.value(partition.name, key)) for key in ("defmempercpu", "defmempernode"))
+    return by_node or by_cpu * partition.cpus
+
+
+def of_memory(partition: Partition, needed: int, node: str, one: Hardware) -> Advice | None:
+    """Name a slot's memory that a node doesn't have as often as it has slots."""
     slots = min(partition.slots or max(1, one.cpus // partition.cpus), MOST_SLOTS)
-    by_cpu, by_node = (number_of(values.get(key)) for key in ("defmempercpu", "defmempernode"))
-    needed = by_node or by_cpu * partition.cpus
     if 0 < needed * slots <= one.memory:
         return None
     takes = f"takes {needed:,} of {one.memory:,} MB" if needed else "takes all memory"
@@ -255,8 +271,8 @@ def of_memory(partition: Partition, values: dict[str, str], node: str, one: Hard
     return Advice(told, f"DefMemPerCPU={max(1, one.memory // (slots * partition.cpus))}")
 
 
-def number_of(text: str | None) -> int:
-    return int(text) if text is not None and text.isdigit() else 0
+def number_of(text: str) -> int:
+    return int(text) if text.isdigit() else 0
 
 
 def of_shared(table: Table, conf: Conf, owners: dict[str, str]) -> Iterator[Advice]:
