@@ -28,7 +28,7 @@ from harness.checks import Check, Missed, Suite, require, run_script, run_suites
 from harness.deployed import SERVICE
 from harness.guard import guard
 from slurmdbd_kit import OTHERS, Slurmdbd
-from slurm_kit import BRIDGE, Cluster, Judge, Site, free_ports, require_packages, site, slowness, wait
+from slurm_kit import BRIDGE, LIMITS, Cluster, Judge, Site, free_ports, require_packages, site, slowness, wait
 
 EQUAL_SECONDS, START_SECONDS = 2.0, 5.0  # in which squeue has what firm decided, and 160 jobs run, on an idle host
 RETRY_SECONDS = 2.0  # at most, until firmd is found again
@@ -38,6 +38,7 @@ USER = "nobody"
 PAGE = program.ROOT / "docs" / "CLUSTER.md"
 MOVING = "4096,65536,1099511627776,10,5,0"  # a third task on a machine costs more than a move
 LIGHT, ROUNDS = 32, 6  # jobs that are preempted again and again, and how often
+LAUNCHED, PAUSE_SECONDS = 16, 160.0  # jobs that are requeued as they start, and until all run again
 STEADY_SECONDS = 4.0  # for which they ran before their owner requeues some, so that no launch is disturbed
 REQUEUE_SECONDS = 25.0  # in which these run again on an idle host; Slurm by itself takes 121
 DOWN_SECONDS = 120.0  # for Slurm to give a node up
@@ -324,15 +325,36 @@ def preempted(firm: str) -> None:
         Judge(place).require_single()
 
 
-def all_run(place: Site, array: str) -> bool:
-    """Whether all light jobs run; asks that none is lost."""
+def launched(firm: str) -> None:
+    """Jobs that their owner requeues as they start run again after Slurm's own pause; none is lost, none runs twice."""
+    with site(firm, 2, 8) as place:
+        place.start_bridge()
+        wait(lambda: len(place.rows()["machines"]) == 2, "two machines")
+        array = place.submit(LAUNCHED, 3600, "light", user=USER)
+        requests = "".join(f"requeue {array}_{index}\n" for index in range(1, LAUNCHED + 1)) * 20
+        restarts = partial(place.cluster.run, "squeue", "-h", "--array-unique", "-O", "RestartCnt")
+
+        def are_requeued() -> bool:
+            place.cluster.try_run("scontrol", user=USER, text=requests)  # Slurm refuses those that don't run
+            return "0" not in restarts().split()
+
+        wait(are_requeued, "a requeue of each")
+        seconds = wait(partial(all_run, place, array, LAUNCHED), "all jobs again", PAUSE_SECONDS)
+        tell(f"{LAUNCHED} jobs that were requeued as they started all run {seconds:.0f} s later")
+        place.cluster.run("scancel", array)
+        wait(place.is_empty, "the end of all jobs")
+        Judge(place).require_single()
+
+
+def all_run(place: Site, array: str, count: int = LIGHT) -> bool:
+    """Whether all elements of an array run; asks that none is lost."""
     try:
         jobs = place.cluster.squeue()
     except Missed:  # slurmctld may be busy
         return False
     states = [state for name, (state, _) in jobs.items() if name.startswith(f"{array}-")]
-    require(len(states) == LIGHT, f"{LIGHT - len(states)} of {LIGHT} jobs are lost")
-    return states.count("RUNNING") == LIGHT
+    require(len(states) == count, f"{count - len(states)} of {count} jobs are lost")
+    return states.count("RUNNING") == count
 
 
 def running(place: Site) -> list[str]:
@@ -342,7 +364,7 @@ def running(place: Site) -> list[str]:
 def put_off(firm: str) -> None:
     """A job that Slurm doesn't start gives its slot back, and is put off; also where another partition's has it."""
     others = "PartitionName=firm Nodes=node1 Default=YES State=UP\nPartitionName=other Nodes=node1 State=UP"
-    with site(firm, 1, 2, partitions=others) as place:
+    with site(firm, 1, 2, partitions=others, limits=LIMITS.removesuffix("5") + "0") as place:
         place.start_bridge()
         wait(lambda: place.rows()["machines"], "a machine")
         place.submit(1, 300, "light", "-p", "other", "-n2")
@@ -350,6 +372,7 @@ def put_off(firm: str) -> None:
         job = place.submit(1, 1, "light")
         wait(lambda: place.places().get(job) == "node1", "firm places the job")
         wait(lambda: place.count_said("put off"), "its slot is given back", 2 * PLACED_SECONDS)
+        wait(lambda: place.count_said("remote is 0"), "that preferences have no effect")
         place.cluster.run("scancel", "-p", "other")
         wait(place.is_empty, "its end")
 
@@ -365,6 +388,7 @@ def blocked(firm: str) -> None:
         tell(f"24 jobs of 1 s, 8 slots and a reserved node: {wait(place.is_empty, 'their end'):.1f} s")
         run("scontrol", "delete", "ReservationName=r")
         wait(lambda: len(place.rows()["machines"]) == 3, "the reserved node again")
+        booked(place)
         seats = place.submit(100, 3, "light", "--licenses=seat", user=USER)
         wait(lambda: count_running(place) == 1, "the licence's first job")
         other = place.submit(44, 1, "light", "--array=2-88:2", user=USER)
@@ -381,6 +405,21 @@ def blocked(firm: str) -> None:
         run("scancel", first)
         wait(place.is_empty, "the end of the jobs with a feature", 150)
         require(Judge(place).works()[f"{big}_1"] == 1, "a job with a feature has not run")
+
+
+def booked(place: Site) -> None:
+    """A node with a reservation ahead takes only jobs that end before; others don't wait for it."""
+    reserve = ["ReservationName=later", "StartTime=now+1hour", "Duration=60", "Users=root", "Nodes=node3"]
+    place.cluster.run("scontrol", "create", "reservation", *reserve)
+    place.submit(24, 1, "light", user=USER)
+    tell(f"24 jobs of 1 s without a limit, 8 slots and a booked node: {wait(place.is_empty, 'their end'):.1f} s")
+    require(not place.count_said("put off"), "a job was placed on a node that is booked")
+    place.submit(24, 1, "light", user=USER)
+    short = place.submit(24, 2, "light", "-t", "30", user=USER)
+    tell(f"with 24 of 2 s and 30 minutes at most: {wait(place.is_empty, 'their end'):.1f} s")
+    ends = [row.split() for row in place.ledger.read_text().splitlines()]
+    require(any(row[1] == short and row[-1] == "node3" for row in ends), "no short job ran on the booked node")
+    place.cluster.run("scontrol", "delete", "ReservationName=later")
 
 
 def asleep(firm: str) -> None:
@@ -692,6 +731,7 @@ CHECKS: dict[str, Callable[[str], None]] = {
     "decided": decided,
     "moved": moved,
     "preempted": preempted,
+    "launched": launched,
     "put off": put_off,
     "blocked": blocked,
     "asleep": asleep,

@@ -72,7 +72,8 @@ MaxArraySize=100000
 KillWait=5
 SlurmctldTimeout=30
 SlurmdTimeout=15
-NodeName=node[1-{nodes}] NodeHostname=host[1-{nodes}] NodeAddr=127.0.0.1 Port=[{first}-{last}] CPUs={cpus} RealMemory=1000
+NodeName=node[1-{nodes}] NodeHostname=host[1-{nodes}] NodeAddr=127.0.0.1 Port=[{first}-{last}] \
+CPUs={cpus} RealMemory=1000
 {partitions}
 {more}
 """
@@ -179,13 +180,13 @@ class Cluster:
         own = {"SLURM_CONF": str(self.conf), "SLURM_BITSTR_LEN": "0", "PATH": f"{os.environ['PATH']}:/usr/sbin"}
         return {**os.environ, **own}
 
-    def try_run(self, *words: str, user: str | None = None) -> subprocess.CompletedProcess[str]:
+    def try_run(self, *words: str, user: str | None = None, text: str = "") -> subprocess.CompletedProcess[str]:
         prefix = [] if user is None else ["runuser", "-u", user, "--"]
         return subprocess.run(
             [*prefix, *words],
             env=self.environment,
             cwd=self.folder,
-            stdin=subprocess.DEVNULL,
+            input=text,
             capture_output=True,
             text=True,
             timeout=LIMIT_SECONDS,
@@ -440,7 +441,7 @@ def keep(folder: Path) -> None:
     """Copies the logs to where they are wanted."""
     kept = os.environ.get("KEEP_LOGS")
     if kept is not None:
-        ignored = shutil.ignore_patterns("socket*", "any", "view", "moves", "operator", "spool", "database")
+        ignored = shutil.ignore_patterns("socket*", "any", "view", "moves", "operator", "spool", "database", "*.new")
         shutil.copytree(folder, Path(kept) / folder.name, ignore=ignored)
 
 

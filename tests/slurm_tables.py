@@ -9,6 +9,7 @@ from __future__ import annotations
 
 import argparse
 import tempfile
+from math import inf
 from pathlib import Path
 from typing import Any
 
@@ -18,7 +19,7 @@ from harness.deployed import Book, TableError, books, roster, slurm
 reading = slurm.reading
 NOW = 1_000_000.0
 Use, State, Hold = reading.Use, reading.State, reading.Hold
-OPEN, UNCLEAR, CLOSED, GONE = Use.OPEN, Use.UNCLEAR, Use.CLOSED, Use.GONE
+OPEN, UNCLEAR, CLOSED, BOOKED, GONE = Use.OPEN, Use.UNCLEAR, Use.CLOSED, Use.BOOKED, Use.GONE
 PENDING, RUNNING, LEAVING = State.PENDING, State.RUNNING, State.LEAVING
 RELEASED, HELD, OTHER, MISSED = Hold.NONE, Hold.FIRM, Hold.OTHER, Hold.MISSED
 
@@ -43,7 +44,7 @@ USES = {
 }
 REQUEUED = "job requeued in held state"
 # A line of squeue behind its partition and name, and what differs from a job that the hook holds.
-HELD_ROW = "7|PENDING|0|JobHeldUser|light|(null)|(null)|(null)|||N/A|N/A|N/A|0|400|(null)"
+HELD_ROW = "7|PENDING|0|JobHeldUser|light|(null)|(null)|(null)|||N/A|N/A|N/A|0|400|UNLIMITED|(null)"
 WAITING = {"priority": 42, "reason": "Resources"}
 JOBS: list[tuple[str, dict[str, Any]]] = [
     (HELD_ROW, {}),
@@ -67,28 +68,51 @@ JOBS: list[tuple[str, dict[str, Any]]] = [
     (HELD_ROW.replace("PENDING", "RESV_DEL_HOLD"), {"hold": OTHER}),
     (HELD_ROW.replace("PENDING", "REQUEUE_HOLD"), {"hold": OTHER}),
     (
-        "7|PENDING|42|Resources|light|(null)|(null)|(null)|m1||500|560|N/A|0|400|(null)",
+        "7|PENDING|42|Resources|light|(null)|(null)|(null)|m1||500|560|N/A|0|400|UNLIMITED|(null)",
         {**WAITING, "hold": RELEASED, "pinned": "m1", "eligible": 500.0, "evaluated": 560.0},
     ),
     (
-        "7|PENDING|42|Resources|light|(null)|(null)|(null)|m1||500|560|N/A|0|400|firm:held",
+        "7|PENDING|42|Resources|light|(null)|(null)|(null)|m1||500|560|N/A|0|400|UNLIMITED|firm:held",
         {**WAITING, "hold": MISSED, "pinned": "m1", "eligible": 500.0, "evaluated": 560.0},
     ),
     (
-        "7|RUNNING|42|None|light|(null)|(null)|(null)|m1|m1|500|501|501|0|400|(null)",
+        "7|RUNNING|42|None|light|(null)|(null)|(null)|m1|m1|500|501|501|0|400|UNLIMITED|(null)",
         {
             **{"priority": 42, "reason": "None", "hold": RELEASED, "state": RUNNING, "node": "m1", "pinned": "m1"},
             **{"eligible": 500.0, "evaluated": 501.0, "started": 501.0},
         },
     ),
     (HELD_ROW.replace("|0|400|", "|2|500|"), {"requeued": 500.0}),
+    (HELD_ROW.replace("UNLIMITED", "30:01"), {"limit": 1801.0}),
+    (HELD_ROW.replace("UNLIMITED", "1:00:00"), {"limit": 3600.0}),
+    (HELD_ROW.replace("UNLIMITED", "2-12:00:00"), {"limit": 216_000.0}),
     (
-        "7|COMPLETING|0|JobHeldUser|light|(null)|(null)|(null)||m1|N/A|N/A|501|0|400|(null)",
+        "7|COMPLETING|0|JobHeldUser|light|(null)|(null)|(null)||m1|N/A|N/A|501|0|400|UNLIMITED|(null)",
         {"hold": RELEASED, "state": LEAVING, "node": "m1", "started": 501.0},
     ),
 ]
 JOB = reading.Job(
-    *("1", 7, 0, "JobHeldUser", "light", "", (), None, PENDING, HELD, False, (), None, None, None, None, None, None)
+    *(
+        "1",
+        7,
+        0,
+        "JobHeldUser",
+        "light",
+        "",
+        (),
+        None,
+        PENDING,
+        HELD,
+        False,
+        (),
+        None,
+        None,
+        None,
+        None,
+        None,
+        None,
+        inf,
+    )
 )
 
 
@@ -106,8 +130,8 @@ def pinned(name: str, node: str, seconds: float = 1.0, **fields: Any) -> reading
     return job(name, pinned=node, **fields)
 
 
-def node(name: str, use: Any = OPEN, allocated: int = 0) -> reading.Node:
-    return reading.Node(name, 4, allocated, use)
+def node(name: str, use: Any = OPEN, allocated: int = 0, reserved: float = inf) -> reading.Node:
+    return reading.Node(name, 4, allocated, use, reserved)
 
 
 def book_of(machines: str = "", tasks: str = "", limits: str = "") -> Book:
@@ -153,6 +177,10 @@ NEWS: list[tuple[str, Book, list[reading.Node], list[reading.Job], dict[str, Any
      {}, ["done 1", "drain m1"]),
     ("a drain, move", book_of("m1", "1:m1"), [node("m1", CLOSED)], [running("1", "m1")], {"drain": "move"},
      ["drain m1"]),
+    ("a booked node, finish", book_of("m1", "1:m1 2:m1"), [node("m1", BOOKED)], [running("1", "m1"), job("2")],
+     {}, ["done 1", "drain m1"]),
+    ("a booked node, move", book_of("m1", "1:m1 2:m1"), [node("m1", BOOKED)], [running("1", "m1"), job("2")],
+     {"drain": "move"}, ["done 1", "drain m1"]),
     ("a node that is down", book_of("m1", "1:m1"), [node("m1", GONE)], [job("1")], {}, ["drain m1"]),
     ("a node that is no more", book_of("m1", "1:m1"), [], [job("1")], {}, ["drain m1"]),
     ("a new job", book_of(), [], [job()], {}, ["job light 10", "task light 1"]),
@@ -184,8 +212,12 @@ NEWS: list[tuple[str, Book, list[reading.Node], list[reading.Job], dict[str, Any
      {}, ["done 1"]),
     ("a hold while it runs", book_of("m1", "1:m1"), [node("m1")], [running("1", "m1")], {}, []),
     ("a task that needs others now", book_of("m1", "1:-"), [node("m1")], [job("1", has_needs=True)], {}, ["done 1"]),
-    ("a task put off for long", book_of("m1", "1:-"), [node("m1")], [job("1", eligible=NOW + 301)], {}, ["done 1"]),
-    ("a task that was just requeued", book_of("m1", "1:-"), [node("m1")], [job("1", eligible=NOW + 120)], {}, []),
+    ("a task that begins later now", book_of("m1", "1:-"), [node("m1")], [job("1", eligible=NOW + 6)], {}, ["done 1"]),
+    ("a task that begins soon", book_of("m1", "1:-"), [node("m1")], [job("1", eligible=NOW + 4)], {}, []),
+    ("a requeued task that begins later now", book_of("m1", "1:-"), [node("m1")],
+     [job("1", requeued=NOW - 1, eligible=NOW + 60)], {}, ["done 1"]),
+    ("a task that was just requeued", book_of("m1", "1:-"), [node("m1")],
+     [job("1", requeued=NOW - 1, evaluated=NOW - 9, eligible=NOW + 120)], {}, []),
     ("put off", book_of("m1", "2:-"), [node("m1")], [job("1", eligible=NOW + 299), job("2")], {}, []),
     ("requeued in its launch", book_of("m1", "1:m1 2:-"), [node("m1")], [job("1", requeued=NOW - 9, evaluated=NOW - 9),
      job("2")], {}, ["done 1"]),
@@ -216,9 +248,12 @@ DEEDS: list[tuple[str, str, list[reading.Job], list[list[str]]]] = [
     ("runs in firm, held", "1:m1", [job()], [[PIN], ["release 1"]]),
     ("runs in firm, pinned elsewhere", "1:m1", [pinned("1", "m2")], [["uhold 1"]]),
     ("runs in firm, will start", "1:m1", [pinned("1", "m1")], []),
-    ("runs in firm, requeued by its user", "1:m1", [pinned("1", "m1", eligible=NOW + 120)],
+    ("runs in firm, requeued by its user", "1:m1", [pinned("1", "m1", eligible=NOW + 120, requeued=NOW - 1)],
      [["update JobId=1 StartTime=now"]]),
-    ("requeued by its user a moment ago", "1:m1", [pinned("1", "m1", eligible=NOW + 120, requeued=NOW - 0.9)], []),
+    ("runs in firm, begins later now", "1:m1", [pinned("1", "m1", eligible=NOW + 120)], []),
+    ("runs in firm, begins soon", "1:m1", [pinned("1", "m1", eligible=NOW + 4)], []),
+    ("runs in firm, held, begins soon", "1:m1", [job(eligible=NOW + 4)], []),
+    ("requeued by its user a moment ago", "1:m1", [pinned("1", "m1", eligible=NOW + 120.1, requeued=NOW - 0.9)], []),
     ("requeued a moment ago, held", "1:m1", [job(requeued=NOW - 0.9, evaluated=NOW - 9)], []),
     ("requeued a second ago, held", "1:m1", [job(requeued=NOW - 1, evaluated=NOW - 9)], [[PIN], ["release 1"]]),
     ("requeued in its launch, held", "1:m1", [job(requeued=NOW - 9, evaluated=NOW - 11)], []),
@@ -275,7 +310,8 @@ FAULTY_TABLES = {
 THREADS = "Sockets=1 CoresPerSocket=4 ThreadsPerCore=2 RealMemory=8000"
 CHECKED: list[tuple[str, str, str, dict[str, Any], list[str]]] = [
     ("a CPU is what Slurm counts", "SelectTypeParameters=CR_CPU", "CPUs=8", {}, []),
-    ("no default of memory", "SelectTypeParameters=CR_Core_Memory", "CPUs=8 RealMemory=8000", {}, ["DefMemPerCPU=1000"]),
+    ("no default of memory", "SelectTypeParameters=CR_Core_Memory", "CPUs=8 RealMemory=8000", {},
+     ["DefMemPerCPU=1000"]),
     ("the same, slots of two CPUs", "SelectTypeParameters=CR_CPU_Memory", "CPUs=8 RealMemory=8000", {"cpus": 2},
      ["DefMemPerCPU=1000"]),
     ("the same, slots of a table", "SelectTypeParameters=CR_CPU_Memory", "CPUs=8 RealMemory=8000", {"slots": 2},
@@ -352,6 +388,36 @@ def nodes() -> None:
     require(reading.read_licences(text) == {"a": 8, "b@c": 0}, reading.read_licences(text))
 
 
+# Seconds until a node is reserved, the jobs, and how the node is used until then.
+RESERVED: list[tuple[float, list[reading.Job], Any]] = [
+    (3600, [], OPEN),
+    (3600, [job()], BOOKED),
+    (3600, [job(limit=3600.0)], OPEN),
+    (3600, [job(limit=3601.0)], BOOKED),
+    (3600, [job("1"), job("2", limit=60.0)], OPEN),
+    (3600, [job("1"), job("2", limit=60.0, has_needs=True)], BOOKED),
+    (3600, [running("1", "m1")], OPEN),
+    (-1, [job(limit=60.0)], BOOKED),
+    (inf, [job()], OPEN),
+]
+RESERVATIONS = """\
+ReservationName=a StartTime=500 EndTime=900 Duration=00:06:40 Nodes=m[1-2] NodeCnt=2 Users=root State=INACTIVE
+ReservationName=b StartTime=400 EndTime=900 Duration=00:08:20 Nodes=(null) NodeCnt=0 Licenses=seat State=INACTIVE
+
+ReservationName=c StartTime=300 EndTime=900 Duration=00:10:00 Nodes=m2 NodeCnt=1 Users=root State=INACTIVE
+"""
+
+
+def reserved() -> None:
+    """A node is closed once no pending job would end before its reservation."""
+    require(reading.read_reservations(RESERVATIONS) == [(500, "m[1-2]"), (300, "m2")], "what scontrol prints")
+    require(reading.read_reservations("No reservations in the system\n") == [], "no reservation")
+    for seconds, rows, wanted in RESERVED:
+        found = reading.with_reservations(by_name([node("m1"), node("m2", CLOSED)]), rows, {"m1": NOW + seconds}, NOW)
+        wanted_nodes = by_name([node("m1", wanted, reserved=NOW + seconds), node("m2", CLOSED)])
+        require(found == wanted_nodes, f"{seconds} s, {rows}: {found} instead of {wanted}")
+
+
 def said() -> None:
     for name, book, nodes, rows, fields, wanted in NEWS:
         found = slurm.said.news(
@@ -373,7 +439,7 @@ def waits(name: str, machine: str, reason: str = "Resources", **fields: Any) -> 
     return pinned(name, machine, reason=reason, priority=100 - int(name.rpartition("-")[2]), **fields)
 
 
-# What firm has, jobs, and which tasks give their slots back at each of some looks, half a second apart.
+# Firm's tasks, jobs, and the tasks that give their slots back at each of some looks, half a second apart.
 REFUSED: list[tuple[str, str, list[reading.Job], list[set[str]]]] = [
     ("not looked at yet", "1:m1", [waits("1", "m1", "None")], [set()]),
     ("behind another", "1:m1", [waits("1", "m1", "Priority")], [set()]),
@@ -387,8 +453,8 @@ REFUSED: list[tuple[str, str, list[reading.Job], list[set[str]]]] = [
     ("held as its node is not made for it", "1:m1", [waits("1", "m1", "BadConstraints", hold=HELD)], [{"1"}]),
     ("the same on another node", "1:m2", [waits("1", "m1", "BadConstraints", hold=HELD)], [set()]),
     ("a licence", "5-1:m1 5-2:m2", [waits("5-1", "m1", "Licenses"), waits("5-2", "m2", "Licenses")], [{"5-1", "5-2"}]),
-    ("a limit of its user", "1:m1 2:m1", [waits("1", "m1", "QOSMaxJobsPerUserLimit"), waits("2", "m1", "QOSGrpCpuLimit")],
-     [{"1", "2"}]),
+    ("a limit of its user", "1:m1 2:m1",
+     [waits("1", "m1", "QOSMaxJobsPerUserLimit"), waits("2", "m1", "QOSGrpCpuLimit")], [{"1", "2"}]),
     ("the first of an array", "5-1:m1 5-2:m2 5-3:m3", [waits("5-2", "m2"), waits("5-1", "m1"), waits("5-3", "m3")],
      [set(), {"5-1"}, {"5-1", "5-2", "5-3"}]),
     ("the first on a node", "1:m1 2:m1 3:m2", [waits("1", "m1"), waits("2", "m1"), waits("3", "m2")],
@@ -402,6 +468,9 @@ def refused() -> None:
         book, refusals = book_of("m1 m2 m3 m4", tasks), slurm.refusals.Refusals()
         found = [set(refusals.find(book, nodes, by_name(rows), NOW + look / 2)) for look in range(len(looks))]
         require(found == looks, f"{name}: {found} instead of {looks}")
+    soon, both = by_name([node("m1", reserved=NOW + 60)]), by_name([job("1", limit=61.0), job("2", limit=60.0)])
+    given = slurm.refusals.Refusals().find(book_of("m1", "1:m1 2:m1"), soon, both, NOW)
+    require(given == {"1": 5}, f"a job that would not end before a reservation: {given}")
     book, refusals = book_of("m1", "1:m1"), slurm.refusals.Refusals()
     pauses = [refusals.find(book, nodes, {"1": waits("1", "m1", "Licenses")}, NOW + look)["1"] for look in range(8)]
     require(pauses == [5, 10, 20, 40, 80, 160, 300, 300], f"growing pauses: {pauses}")
@@ -450,7 +519,7 @@ def late() -> None:
 
 
 def licences() -> None:
-    """Firm hears of no more jobs than there are licences."""
+    """Firm gets at most as many jobs as licences are free."""
     rows = [job(str(number), licences=(("a", 2),) if number > 1 else ()) for number in range(1, 6)]
     for free, tasks, wanted in ((1, "", "1"), (4, "", "123"), (4, "2:-", "13"), (4, "2:m1", "13")):
         book = book_of("m1", tasks)
@@ -474,6 +543,10 @@ def done() -> None:
         require(found == wanted, f"{name}: {found} instead of {wanted}")
     found = deeds(book_of("m1 m2"), [pinned("1", "m1")], put_off={"1": 20.0})
     require(found == [["uhold 1"], ["update JobId=1 StartTime=now+20"]], f"put off: {found}")
+    for seconds in (9, 11):
+        found = deeds(book_of("m1", "1:m1"), [job(limit=10.0)], node("m1", reserved=NOW + seconds))
+        wanted = [] if seconds < 10 else [[PIN], ["release 1"]]
+        require(found == wanted, f"a job of 10 s on a node that is reserved in {seconds} s: {found}")
     for free, nodes in (("no CPU", node("m1", allocated=4)), ("one CPU", node("m1", allocated=3))):
         found = deeds(book_of("m1", "1:m1 2:m1"), [job("1"), job("2")], nodes)
         require(found == ([] if free == "no CPU" else [[PIN], ["release 1"]]), f"{free} is free: {found}")
@@ -538,6 +611,7 @@ CHECKS: dict[str, Check] = {
     "states of nodes": uses,
     "jobs": jobs,
     "nodes": nodes,
+    "reservations": reserved,
     "what is said": said,
     "what was not taken over": strays,
     "what Slurm refuses": refused,

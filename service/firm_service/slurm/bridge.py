@@ -106,6 +106,8 @@ class Side:
         seen = Seen(book, tasks, nodes, jobs, picture.at, picture.licences, put_off, self._refusals.avoided())
         if put_off:
             self._tell(f"Slurm doesn't start {len(put_off)} jobs, which are put off, as {next(iter(put_off))}")
+            if book.limits.remote == 0:
+                self._warn("jobs don't avoid nodes that refused them: remote is 0 in the roster")
         found = news(seen, self.partition, time.monotonic() >= self._full_until)
         is_due = book.waiting > 0 and time.monotonic() - self._last_round >= self._every
         rivals = self.counts.rival_lines

@@ -66,8 +66,10 @@ def deeds(seen: Seen, partition: Partition) -> Deeds:
         elif job.state is State.RUNNING and job.node != task.machine:
             if job.is_steady(seen.now):
                 found.requeues.append(job)
-        elif job.is_pending and job.is_firms(seen.now):
-            place(found, job, task.machine, free, seen.now)
+        elif job.is_firms(seen.now):
+            node = seen.nodes.get(task.machine or "")
+            fits = node is None or job.fits(node, seen.now)
+            place(found, job, task.machine if fits else None, free, seen.now)
     return found
 
 

@@ -3,8 +3,9 @@
 from __future__ import annotations
 
 import re
-from collections.abc import Iterator, Sequence
+from collections.abc import Iterable, Iterator, Sequence
 from enum import Enum
+from math import inf
 from operator import itemgetter
 from typing import NamedTuple
 
@@ -23,7 +24,8 @@ JOB_FIELDS = (
         "Dependency",
         "Licenses",
     ),
-    *("ReqNodes", "NodeList", "EligibleTime", "LastSchedEval", "StartTime", "RestartCnt", "SubmitTime", "Comment"),
+    *("ReqNodes", "NodeList", "EligibleTime", "LastSchedEval", "StartTime", "RestartCnt", "SubmitTime", "TimeLimit"),
+    "Comment",
 )
 NOTHING = frozenset({"", "N/A", "(null)", "Unknown"})
 CLOSED = {"drain", "fail", "maint", "maintenance", "reserved", "reboot", "reboot_requested", "reboot_issued"}
@@ -41,9 +43,11 @@ FIRM_HOLDS = {"JobHeldUser", "job requeued in held state"}  # by the hook, by `u
 MISFIT = "BadConstraints"  # Slurm holds a job that its node is not made for
 LICENCE = re.compile(r"([^,:;|=]+)(?:[:=]([0-9]+))?")
 FREE = re.compile(r"^LicenseName=(\S+) .*\bFree=([0-9]+)", re.MULTILINE)
-# A start that is set further ahead is its user's or firm-slurm's own; Slurm delays what it requeues by two minutes.
-LATER_SECONDS, PAUSE_SECONDS = 300.0, 121.0
+LIMIT = re.compile(r"(?:(?:([0-9]+)-)?([0-9]+):)?([0-9]+):([0-9]+)")  # 30:00, 1:00:00 or 2-12:00:00; else none
+RESERVATION = re.compile(r"^ReservationName=\S+ StartTime=([0-9]+) .*? Nodes=(\S+)", re.MULTILINE)
+PAUSE_SECONDS = 121.0  # for which Slurm delays what it requeues
 STEADY_SECONDS = 3.0  # for slurmd to launch a job
+KEPT_SECONDS = 5.0  # more than slurmctld's clock may be ahead, and than a requeued job has to wait
 
 
 class Use(Enum):
@@ -52,6 +56,7 @@ class Use(Enum):
     OPEN = "takes jobs"
     UNCLEAR = "Slurm has not given it up, or doesn't know it yet, as after a restart: all stays as it is"
     CLOSED = "takes no more jobs; those that run go on"
+    BOOKED = "the same until its next reservation, since no job would end before"
     GONE = "what ran there is over"
 
 
@@ -60,6 +65,7 @@ class Node(NamedTuple):
     cpus: int
     allocated: int  # of them
     use: Use
+    reserved: float = inf  # when its next reservation begins
 
 
 class State(Enum):
@@ -96,6 +102,7 @@ class Job(NamedTuple):
     evaluated: float | None  # when Slurm last looked whether it can start
     started: float | None
     requeued: float | None  # when its last run had ended and Slurm queued it again
+    limit: float  # seconds that it may run
 
     @property
     def id(self) -> str:
@@ -121,27 +128,38 @@ class Job(NamedTuple):
         return self.started is None or now - self.started >= STEADY_SECONDS
 
     def may_start(self, now: float) -> bool:
-        """Return whether a pending job may start.
+        """Return whether a pending job may start: at its user's time, and after its last run.
 
         slurmd refuses a credential from the second of the last run's termination (`slurm_cred.c`: `ctime <= revoked`),
         and slurmctld then marks the job FAILED. A requeue follows the end of the last run and its epilog, so a start in
         any later second is safe. `StartTime=now` has Slurm wait for this host's second, so clocks needn't agree.
         If the last run was ended during its launch, Slurm's own pause stands.
         """
+        if self.begins_later(now):
+            return False
         if self.requeued is None:
             return True
         last = self.evaluated if self.evaluated is not None else self.requeued  # when Slurm started it, or later
         was_steady = last > self.requeued or self.requeued - last >= STEADY_SECONDS
         return now >= self.requeued + (1 if was_steady else PAUSE_SECONDS)
 
+    def begins_later(self, now: float) -> bool:
+        """Return whether its user, or firm-slurm, has set a later time to begin. Slurm's own pause is none."""
+        is_pause = self.requeued is not None and self.eligible == self.requeued + PAUSE_SECONDS
+        return self.eligible is not None and self.eligible > now and not is_pause
+
     def is_firms(self, now: float) -> bool:
-        """Whether firm may decide when and where a pending job starts, or keep it if it has it."""
-        is_free = self.hold in (Hold.NONE, Hold.FIRM) and not self.has_needs and self.may_start(now + 1)
-        return is_free and (self.eligible is None or self.eligible - now <= LATER_SECONDS)
+        """Return whether firm decides when and where a pending job starts, or keeps it for some seconds until then."""
+        is_free = self.hold in (Hold.NONE, Hold.FIRM) and not self.has_needs
+        return self.is_pending and is_free and self.may_start(now + KEPT_SECONDS)
 
     def is_due(self, now: float) -> bool:
-        """Whether firm is to have it, if it is pending and firm doesn't have it."""
-        return self.is_pending and self.is_firms(now) and (self.eligible is None or self.eligible <= now)
+        """Return whether firm is to have it."""
+        return self.is_firms(now) and self.may_start(now)
+
+    def fits(self, node: Node, now: float) -> bool:
+        """Return whether it would end before the next reservation of a node."""
+        return now + self.limit <= node.reserved
 
 
 class Picture(NamedTuple):
@@ -168,6 +186,13 @@ def rows_of(text: str, fields: Sequence[str]) -> Iterator[list[str]]:
 
 def word(text: str) -> str | None:
     return None if text in NOTHING else text
+
+
+def seconds_of(limit: str) -> float:
+    """Return a time limit in seconds; UNLIMITED is infinite."""
+    found = LIMIT.fullmatch(limit)
+    days, hours, minutes, seconds = map(int, found.groups("0")) if found else (0, 0, 0, 0)
+    return ((days * 24 + hours) * 60 + minutes) * 60.0 + seconds if found else inf
 
 
 def time_of(text: str) -> float | None:
@@ -197,6 +222,21 @@ def read_nodes(text: str) -> dict[str, dict[str, Node]]:
 def read_licences(text: str) -> dict[str, int]:
     """Return the number of free licences by name, from `scontrol -o show licenses`."""
     return {name: int(count) for name, count in FREE.findall(text)}
+
+
+def read_reservations(text: str) -> list[tuple[float, str]]:
+    """Return when reservations begin, with their nodes as Slurm lists them, from `scontrol -o show reservation`."""
+    return [(float(at), listed) for at, listed in RESERVATION.findall(text) if word(listed) is not None]
+
+
+def with_reservations(
+    nodes: dict[str, Node], jobs: Iterable[Job], begins: dict[str, float], now: float
+) -> dict[str, Node]:
+    """Return a partition's nodes with their next reservations, booked where no pending job would end before."""
+    shortest = min((job.limit for job in jobs if job.is_firms(now)), default=0.0)
+    found = {name: node._replace(reserved=begins.get(name, inf)) for name, node in nodes.items()}
+    booked = {name for name, node in found.items() if node.use is Use.OPEN and node.reserved < now + shortest}
+    return {name: node._replace(use=Use.BOOKED) if name in booked else node for name, node in found.items()}
 
 
 def without_shared(nodes: dict[str, dict[str, Node]], partitions: Sequence[str]) -> dict[str, dict[str, Node]]:
@@ -244,7 +284,7 @@ def elements_of(name: str) -> Iterator[tuple[int, int | None]]:
 def job_of(row: Sequence[str]) -> Job:
     """Return a job from all fields after the partition; jobs of one row differ in their names alone."""
     name, number, state, priority, reason, account, qos, *rest = row
-    needs, licences, pinned, node, *times, restarts, submitted, comment = rest
+    needs, licences, pinned, node, *times, restarts, submitted, limit, comment = rest
     eligible, evaluated, started = map(time_of, times)
     is_pending = state == "PENDING" or state in HELD_STATES
     hold, is_users = Hold.NONE, HELD.search(comment) is not None
@@ -273,6 +313,7 @@ def job_of(row: Sequence[str]) -> Job:
         evaluated=evaluated,
         started=started,
         requeued=time_of(submitted) if restarts not in ("0", "") else None,
+        limit=seconds_of(limit),
     )
 
 

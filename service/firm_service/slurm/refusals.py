@@ -11,9 +11,9 @@ from collections import Counter
 from collections.abc import Iterator
 
 from ..books import Book
-from .reading import LATER_SECONDS, MISFIT, Hold, Job, Node, State, Use
+from .reading import MISFIT, Hold, Job, Node, State, Use
 
-FIRST_SECONDS = 5.0  # that a job is put off; twice as long each further time, until it has run
+FIRST_SECONDS, LONGEST_SECONDS = 5.0, 300.0  # that a job is put off; twice as long each time, until it has run
 PLACED_SECONDS = 30.0  # for a job to start where firm placed it, whatever Slurm says, if nothing is leaving there
 LONGEST_LOOK = 2.0  # seconds that count of the time between two looks: Slurm may have been away
 LONG_STREAK = 12  # looks; from then on all that wait are put off
@@ -37,14 +37,15 @@ class Refusals:
 
     def find(self, book: Book, nodes: dict[str, Node], jobs: dict[str, Job], now: float) -> dict[str, float]:
         """Return the tasks that give their slots back, with the seconds for which they are put off."""
-        placed = [job for name, job in jobs.items() if job.is_pending and is_placed(book, name)]
+        placed = [job for name, job in jobs.items() if job.is_firms(now) and is_placed(book, name)]
         leaving = {job.node for name, job in jobs.items() if is_leaving(book, name, job)}
         there = [job for job in placed if is_open(nodes, book.tasks[job.name].machine)]
         refused = sorted((job for job in there if is_refused(book, job)), key=lambda job: (-job.priority, job.number))
-        chosen = [job for job in refused if is_sure(job)]
+        chosen = [job for job in there if not job.fits(nodes[book.tasks[job.name].machine or ""], now)]
+        chosen += [job for job in refused if is_sure(job)]
         chosen += self._first([job for job in refused if not is_sure(job)])
         self._wait([job.name for job in there if book.tasks[job.name].machine not in leaving], now)
-        chosen += [job for job in there if self._waited.get(job.name, 0.0) >= PLACED_SECONDS and job.is_firms(now)]
+        chosen += [job for job in there if self._waited.get(job.name, 0.0) >= PLACED_SECONDS]
         for name in [name for name in self._counts if name not in jobs or jobs[name].state is State.RUNNING]:
             del self._counts[name]
         for job in chosen:
@@ -87,7 +88,7 @@ class Refusals:
         untried = {node.name for node in nodes.values() if node.use is Use.OPEN} - self._nodes.get(job.array, {}).keys()
         if job.reason.startswith(OWN) or not untried:
             self._counts[job.name] += 1
-        return min(seconds, LATER_SECONDS)
+        return min(seconds, LONGEST_SECONDS)
 
 
 def is_sure(job: Job) -> bool:

@@ -44,7 +44,7 @@ class News:
 def news(seen: Seen, partition: Partition, has_room: bool = True) -> News:
     """The lines, without the round that follows them; no tasks where firm had no room for some a moment ago."""
     ended = {task for task in seen.tasks if not is_kept(seen, task)}
-    ended |= set(finishing(seen)) if partition.drain is Drain.FINISH else set()
+    ended |= set(finishing(seen, partition.drain))
     ended |= set(regrouped(seen, partition))  # they come again with the next look
     found = News([f"done {task}" for task in seen.book.tasks if task in ended])
     found.lines += [f"drain {machine}" for machine in seen.book.machines if is_over(seen.nodes.get(machine))]
@@ -67,14 +67,15 @@ def is_kept(seen: Seen, task: str) -> bool:
 
 def is_over(node: Node | None) -> bool:
     """Whether a machine takes no more tasks."""
-    return node is None or node.use in (Use.CLOSED, Use.GONE)
+    return node is None or node.use in (Use.CLOSED, Use.BOOKED, Use.GONE)
 
 
-def finishing(seen: Seen) -> Iterator[str]:
+def finishing(seen: Seen, drain: Drain) -> Iterator[str]:
     """Tasks that run to their end on nodes that take no more."""
+    uses = (Use.BOOKED, Use.CLOSED) if drain is Drain.FINISH else (Use.BOOKED,)
     for task, row in seen.book.tasks.items():
         job, node = seen.jobs.get(task), seen.nodes.get(row.machine or "")
-        if job is not None and node is not None and node.use is Use.CLOSED:
+        if job is not None and node is not None and node.use in uses:
             if job.state is State.RUNNING and job.node == row.machine:
                 yield task
 
