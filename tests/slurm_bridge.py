@@ -285,7 +285,7 @@ def moved(firm: str) -> None:
         for node in ("node2", "node3"):
             set_node(place, node, "DRAIN")
         wait(lambda: drained(place, "node2") and drained(place, "node3"), "one machine")
-        place.submit(3, 20, "heavy")
+        place.submit(3, round(12 + 8 * slowness()), "heavy")
         wait(lambda: count_running(place) == 3, "three jobs on node1")
         for node in ("node2", "node3"):
             set_node(place, node, "RESUME")
@@ -524,7 +524,7 @@ def preempts(place: Site, weights: dict[str, int], account: str, *words: str) ->
     before = place.count_said("preempt")
     place.start_bridge()
     wait(lambda: place.rows()["machines"], "a machine")
-    place.submit(2, 8, "light", user=USER)
+    place.submit(2, round(4 + 4 * slowness()), "light", user=USER)
     wait(lambda: count_running(place) == 2, "two light jobs")
     waiting = place.submit(1, 2, "light", user=USER)
     wait(lambda: is_in_firm(place, waiting), "one that waits")
