@@ -140,9 +140,9 @@ class Clients:
             client.stop_reading()
 
     async def close(self) -> None:
-        """Lets each read what it was answered, for some seconds."""
+        """Closes all, and gives each some seconds to read its replies."""
         for client in list(self.connected):
-            client.close_with(STOPPING)
+            client.close_with(STOPPING if client.is_answered else b"")  # the journal may have an unanswered line
         ends = asyncio.get_running_loop().time() + STOP_SECONDS
         while self.connected and asyncio.get_running_loop().time() < ends:
             await asyncio.sleep(0.01)
@@ -328,7 +328,7 @@ class Client(asyncio.BufferedProtocol):
             self._clients.taker.take(line)
 
     def _note(self, text: bytes) -> None:
-        if self._asked == self._answered:
+        if self.is_answered:
             self._write(text)
         else:
             self._notes.append(Note(self._asked, text))
@@ -404,8 +404,13 @@ class Client(asyncio.BufferedProtocol):
         self._unread.clear()
         self.count_unread()
 
+    @property
+    def is_answered(self) -> bool:
+        """Whether all lines that firm was given have their replies."""
+        return self._asked == self._answered
+
     def close_with(self, text: bytes) -> None:
-        """Says why, and closes once that is read, or after some seconds."""
+        """Sends a last text, and closes once that is read, or after some seconds."""
         if self.transport.is_closing():
             return
         self._has_ended = True
@@ -434,8 +439,8 @@ class Client(asyncio.BufferedProtocol):
             self.transport.write(self._unread.take())
 
     def _close_at_end(self) -> None:
-        is_answered = self._asked == self._answered and not (self._waiting or self._later or self._rest)
-        if self._has_ended and is_answered:
+        is_idle = self.is_answered and not (self._waiting or self._later or self._rest)
+        if self._has_ended and is_idle:
             self._close()
 
     def _close(self) -> None:
