@@ -183,7 +183,7 @@ def upgraded(program: str) -> None:
             hosts.install(name)
         run = Upgrade(members, hosts)
         verdict = run.run(15, ["upgrade"])
-        print(f"  upgraded: {verdict}; silent for {verdict.longest(STOPPED):.2f} s behind the leader's stop")
+        print(f"  upgraded: {verdict}; silent for {verdict.longest(STOPPED):.2f} s after the leader's stop")
         require(verdict.answered > 100 and not run.left, verdict)
         require(not verdict.lost and not verdict.twice and verdict.are_equal, f"{verdict}: {verdict.lost[:3]}")
 
