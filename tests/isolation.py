@@ -449,7 +449,6 @@ def filled_journal(setup: Setup) -> None:
             require(len(daemon.journal()) <= 10_000, f"{len(daemon.journal())} bytes of the journal")
             for number in range(1, 51):
                 require(other.ask(SHOW) == b"beta %d " % number + SHOWN, "another's reply")
-            require(client.ask(b"alpha show").startswith(b"alpha "), "a shorter line has room")
         daemon.stop()
     bucket = budgets.Bucket(rate=2.0, most=1_000.0, now=0.0)
     bucket.left -= 1_000
@@ -468,6 +467,17 @@ def socket_budget(setup: Setup) -> None:
         with Client(daemon.folder / "beta") as other:
             require(other.ask(SHOW).startswith(b"beta "), "the tenant's own socket")
         daemon.stop()
+
+
+def disk_budget(setup: Setup) -> None:
+    """A day's budget is that of the disk: lines that come one by one have headings, which it counts."""
+    for of in ("tenant", "socket"):
+        with load(setup, f"--bytes-a-day-of-{of}", "20000") as daemon, Client(daemon.folder / "alpha") as client:
+            replies = [client.ask(b"alpha show") for _ in range(2_000)]
+            require(replies[-1].startswith(b"? %b-journal-full: " % of.encode()), replies[-1])
+            size = sum(path.stat().st_size for path in daemon.segments())
+            require(18_000 < size < 20_500, f"{size} bytes on the disk")
+            daemon.stop()
 
 
 def own_replies(setup: Setup) -> None:
@@ -687,6 +697,7 @@ OTHERS = [
     bounded_stop,
     filled_journal,
     socket_budget,
+    disk_budget,
     worn_tenants,
     order_of_lines,
     measured,

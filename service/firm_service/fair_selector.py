@@ -99,7 +99,7 @@ class FairSelector(selectors.BaseSelector):
         with suppress(InterruptedError):
             polled = self._all.poll(seconds, max(1, len(self._keys) + len(self._groups)))
             self._add(ready, [found for found in polled if found[0] not in self._by_file])
-            # What is not taken of a group is ready at the next look too, behind its others.
+            # The others of a group are ready at the next look too, and come first there.
             found = {file: self._by_file[file].poll(0, ALONE) for file, _ in polled if file in self._by_file}
             self._see({file: len(events) for file, events in found.items()})
             for file, events in found.items():
