@@ -349,7 +349,7 @@ def clocks_jump(setup: Options) -> None:
 
 
 def clock_is_ahead() -> None:
-    """While a clock is ahead for some seconds, no segment is taken away that is seconds old; a lasting change counts."""
+    """While a clock is ahead for some seconds, no segment is taken away that is seconds old; a lasting one counts."""
     day, ahead, steady = 86_400.0, [0.0], [0.0]
     clock = archive.Clock(lambda: 1e9 + steady[0] + ahead[0], lambda: steady[0])
     keeping = archive.Keeping(days=1.0, clock=clock)
