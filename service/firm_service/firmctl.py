@@ -19,6 +19,7 @@ from .lines import is_name
 from .observers import WARNED_SHARE
 from .questions import add_questions
 from .tables import Column, Row, names, number, text
+from .version import add_version
 from .view_client import Service, service_of
 
 # Verbs that are asked for often: the parsers of all others are not made for them.
@@ -217,6 +218,7 @@ def parser(only: str | None = None) -> argparse.ArgumentParser:
         formatter_class=argparse.RawDescriptionHelpFormatter,
         parents=[common(None, False)],
     )
+    add_version(found)
     behind = common(argparse.SUPPRESS, argparse.SUPPRESS)
     verbs = Verbs(found.add_subparsers(metavar="COMMAND", required=True), behind, only)
     add = verbs.add

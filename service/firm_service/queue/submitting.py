@@ -14,6 +14,7 @@ from pathlib import Path
 from typing import Any
 
 from ..command_line import NO_SERVICE, NOT_THERE, USAGE, Failure, add_queue, in_pipe
+from ..version import add_version
 from . import forms
 from .client import PATIENCE, NotThere, Queue, Refused, Submission, Submitted
 
@@ -206,6 +207,7 @@ def parser() -> argparse.ArgumentParser:
         epilog=f"{FILE_HELP}\n{EXITS}",
         formatter_class=argparse.RawDescriptionHelpFormatter,
     )
+    add_version(found)
     add_queue(found, None)
     add_options(found)
     found.add_argument("--file", metavar="FILE", help="submit what a file has; - is standard input")
