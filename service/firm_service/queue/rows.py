@@ -7,6 +7,8 @@ from collections.abc import Iterable, Iterator
 from dataclasses import dataclass, field
 from typing import Any
 
+from .forms import array_text
+
 SINGLE = -1  # the index of a task that is a submission's only one, without an array
 MOST_NUMBER, MOST_INDEX = 99_999_999, 9_999_999  # together, a name of a task in firm has no more letters
 DEFAULT_GRACE = 5.0  # seconds
@@ -73,6 +75,7 @@ class Spec:
     retries: int = 0
     memory: int | None = None
     processors: float | None = None
+    at_once: int | None = None  # tasks of the array that may be in firm
 
 
 @dataclass(slots=True, eq=False)
@@ -167,10 +170,16 @@ class Submission:
     def is_blocked(self) -> bool:
         return self.open_needs > 0
 
-    def add_tasks(self, is_held: bool) -> None:
+    @property
+    def array(self) -> str | None:
+        """The indexes of an array that has gaps, as people write them."""
+        if self.first is None or self.last is None or len(self.tasks) == self.last - self.first + 1:
+            return None
+        return array_text(self.tasks)
+
+    def add_tasks(self, indexes: Iterable[int], is_held: bool) -> None:
         """Makes the tasks of a new submission."""
-        indices = [SINGLE] if self.first is None or self.last is None else range(self.first, self.last + 1)
-        self.tasks = {index: Task(self, index, is_held) for index in indices}
+        self.tasks = {index: Task(self, index, is_held) for index in indexes}
         self.live = len(self.tasks)
 
     def measure(self, text: str) -> None:
@@ -179,8 +188,9 @@ class Submission:
 
     def answer(self) -> dict[str, Any]:
         """As its user is told of it."""
-        found = {"number": self.number, "first": self.first, "last": self.last}
-        return {**found, "count": len(self.tasks), "job": self.job}
+        found: dict[str, Any] = {"number": self.number, "first": self.first, "last": self.last}
+        found |= {"count": len(self.tasks), "job": self.job}
+        return {**found, "array": array} if (array := self.array) else found
 
 
 @dataclass(slots=True)
