@@ -368,7 +368,7 @@ def reasons(built: str) -> None:
 
 
 def as_another_user(found: Cluster, other: str) -> None:
-    """A user's `why` names no task of another, and refuses to tell of such a task."""
+    """A user's `why` names no task of another, and refuses such a task."""
     for path in (found.folder, found.socket):
         path.chmod(0o777)
     words = [sys.executable, str(SERVICE / "firmctl"), "--queue", str(found.socket)]

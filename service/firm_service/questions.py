@@ -24,8 +24,8 @@ if TYPE_CHECKING:  # these take a quarter of the start of any other command
     from .books import Book
 
 WHY_NOTE = """\
-The queue answers for its own names, as 12 and 12_4, if FIRM_QUEUE or --queue names it. With --state, TENANT, --round or
---reasons, and for other names, firmd's view is asked."""
+The queue answers for its own names, as 12 and 12_4, if FIRM_QUEUE or --queue names it; firmd's view answers for other
+names, and with --state, TENANT, --round or --reasons."""
 MOST_LINES_BYTES = 4 * 2**20
 CHANGES = [text("TASK", "task"), text("JOB", "job"), text("CHANGE", "change"), text("FROM", "before")]
 CHANGES.append(text("TO", "after"))

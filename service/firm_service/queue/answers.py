@@ -13,7 +13,7 @@ ROWS_AT_ONCE = 100  # that are made in a turn of the loop
 
 
 class Answers(list[Json]):
-    """What is answered to a submit."""
+    """Answers to a submission."""
 
     def __init__(self, answers: Any, is_again: bool = False) -> None:
         super().__init__(answers)

@@ -29,7 +29,7 @@ class Estimates:
         self._turn = asyncio.Lock()
 
     async def starts(self) -> Mapping[Name, float]:
-        """Return the time of the Unix clock at which each waiting task may start, as far as that can be told."""
+        """Return estimated starts by the Unix clock; a task without an estimate is left out."""
         loop = asyncio.get_running_loop()
         async with self._turn:
             if loop.time() - self._made > KEPT_SECONDS:
@@ -81,7 +81,7 @@ class Estimates:
 
 @dataclass
 class Durations:
-    """How long tasks that are done lasted, by job."""
+    """Durations of tasks that are done, by job."""
 
     sums: dict[str, tuple[int, float]] = field(default_factory=dict)
 
@@ -93,7 +93,7 @@ class Durations:
             self.sums[submission.job] = count, total
 
     def of(self, task: Task) -> float:
-        """Return the seconds that a task is taken to last; infinite: that can't be told."""
+        """Return the expected seconds of a task; infinite if unknown."""
         limit, known = task.submission.spec.time, self.sums.get(task.submission.job)
         mean = known[1] / known[0] if known is not None else inf
         return min(mean, inf if limit is None else limit)
@@ -114,7 +114,7 @@ class Slots:
         self._ends: dict[int, list[float]] = {}  # of tasks of an array of which some may be in firm at a time
 
     def take(self, task: Task, seconds: float) -> float:
-        """Return when a task starts on the next slot; infinite: that can't be told."""
+        """Return the start of a task on the next slot; infinite if unknown."""
         start, most = self._free[0] if self._free else inf, task.submission.spec.at_once
         if most is not None:
             ends = self._ends.setdefault(task.submission.number, [])

@@ -1,7 +1,7 @@
 """Why a task is where it is: the queue's own reason, and for one that firm has firm_explain's.
 
-firmctl works these out of firmd's view in a separate process, at a low priority, for one user after another. What it
-says of tasks that the asking user may not see is told without their names.
+firmctl works these out from firmd's view in a separate process, at a low priority, for one user after another. Names of
+tasks that the user may not see are left out.
 """
 
 from __future__ import annotations
@@ -23,10 +23,10 @@ from ..why import Choice, Free, Heavier, Reasons
 from ..why_text import sentences
 from .fields import Json, Refused
 
-MOST_SECONDS, MOST_OF_USER = 120.0, 4  # for an answer; questions of a user that may wait
+MAX_SECONDS, MAX_OF_USER = 120.0, 4  # for an answer; questions of a user that may wait
 PACKAGE = Path(__file__).parents[2]
 EARLIER = re.compile(r"([a-z0-9-]+)(, submitted earlier, .*)")
-Shown = Callable[[str], str | None]  # firm's name of a task, as the user knows it; None: it is not to be shown
+Shown = Callable[[str], str | None]  # firm's name of a task, by which the user has it; None: hidden from the user
 
 
 class NotExplained(Exception):
@@ -43,17 +43,17 @@ class Explainer:
 
     async def reasons(self, user: int, row: str, shown: Shown) -> list[str]:
         """Return lines on a task in firm, by its name there."""
-        if self._asking[user] == MOST_OF_USER:
-            raise Refused("too-many-questions", f"{MOST_OF_USER} questions of yours wait already")
+        if self._asking[user] == MAX_OF_USER:
+            raise Refused("too-many-questions", f"{MAX_OF_USER} questions of yours wait already")
         self._asking[user] += 1
         turn = self._turns.setdefault(user, asyncio.Lock())
         try:
-            async with asyncio.timeout(MOST_SECONDS), turn, self._all:
+            async with asyncio.timeout(MAX_SECONDS), turn, self._all:
                 return list(lines_of(await self._ask(row), shown))
         except TimeoutError:
-            return [f"firm's reasons are not known after {MOST_SECONDS:g} s"]
+            return [f"firm's reasons are missing after {MAX_SECONDS:g} s"]
         except NotExplained as error:
-            return [f"firm's reasons are not known: {error}"]
+            return [f"firm's reasons are missing: {error}"]
         finally:
             self._asking[user] -= 1
             if not self._asking[user]:

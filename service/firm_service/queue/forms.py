@@ -13,7 +13,7 @@ _PARTS = re.compile(r"(?:\d+(?:\.\d+)?[smhd])+")
 _PART = re.compile(r"(\d+(?:\.\d+)?)([smhd])")
 _SIZE = re.compile(r"(\d+(?:\.\d+)?)([KMGT]?)(?:i?B)?", re.IGNORECASE)
 _RANGE = re.compile(r"(\d{1,7})(?:-(\d{1,7})(?::(\d{1,7}))?)?")
-MOST_INDEXES = 1_000_000  # of an array that is written as a list
+MAX_INDEXES = 1_000_000  # of an array that is written as a list
 _TASK = re.compile(r"[1-9]\d*(?:_\d+)?")
 FORMS = ("%Y-%m-%d", "%Y-%m-%dT%H:%M", "%Y-%m-%d %H:%M", "%Y-%m-%dT%H:%M:%S", "%Y-%m-%d %H:%M:%S")
 
@@ -73,8 +73,8 @@ def indexes_of(text: str) -> tuple[Sequence[int], int | None]:
         raise ValueError(f"{text!r}: a number above 0 follows %")
     if len(ranges) == 1:
         return ranges[0], int(most) if percent else None
-    if sum(map(len, ranges)) > MOST_INDEXES:
-        raise ValueError(f"{text!r} lists more than {MOST_INDEXES:,} indexes")
+    if sum(map(len, ranges)) > MAX_INDEXES:
+        raise ValueError(f"{text!r} lists more than {MAX_INDEXES:,} indexes")
     return sorted({index for one in ranges for index in one}), int(most) if percent else None
 
 
