@@ -29,6 +29,7 @@ from harness.checks import Check, Skipped, Suite, require, run_script, run_suite
 from harness.deployed import SERVICE, async_client, client, forms
 from harness.program import ROOT
 from harness.sessions import blocks_of
+from queue_kit import ANN, as_user_does
 from submit_kit import Cluster, cluster
 
 CHECKS_AT_A_TIME = 4
@@ -346,7 +347,10 @@ def reasons(built: str) -> None:
         started = {line.split()[0]: heads.index("START") < len(line) and line[heads.index("START") :] for line in lines}
         require(re.match(r"\d\d-\d\d \d\d:\d\d:\d\d +no free slot", str(started[f"{number}_[1-2]"])), started)
         rows = {row["task"]: row["start"] for row in found.json("ps", "--start")["tasks"]}
-        require(0 < rows[f"{number}_2"] - time.time() < 30 and rows[f"{number}_1"] < rows[f"{number}_2"], rows)
+        require(
+            abs(rows[f"{number}_1"] - time.time()) < LIMIT_SECONDS, f"at once, as what runs is late already: {rows}"
+        )
+        require(1 <= rows[f"{number}_2"] - rows[f"{number}_1"] < LIMIT_SECONDS, f"a run of the job later: {rows}")
         require((rows[first], rows[held], rows[blocked]) == (None, None, None), rows)
         shown = found.firmctl("show", f"{number}_1")
         for line in (
@@ -371,27 +375,21 @@ def as_another_user(found: Cluster, other: str) -> None:
     """A user's `why` names no task of another, and refuses such a task."""
     for path in (found.folder, found.socket):
         path.chmod(0o777)
-    words = [sys.executable, str(SERVICE / "firmctl"), "--queue", str(found.socket)]
-    done = subprocess.run(
-        [*words, "submit", "--", "true"],
-        cwd="/",
-        user=61_101,
-        group=61_101,
-        extra_groups=(),
-        capture_output=True,
-        text=True,
-    )
-    number = done.stdout.strip()
-    wait_until(lambda: found.task(number).state == "waiting", "it does not wait")
-    done = subprocess.run(
-        [*words, "why", number], cwd="/", user=61_101, group=61_101, extra_groups=(), capture_output=True, text=True
-    )
-    require(done.returncode == 0 and "would run on m1; a task of another user would wait" in done.stdout, done)
-    require(not re.search(rf"\b{other}\b", done.stdout), done)
-    done = subprocess.run(
-        [*words, "why", other], cwd="/", user=61_101, group=61_101, extra_groups=(), capture_output=True, text=True
-    )
-    require(done.returncode == 1 and "no-such-task" in done.stderr, done)
+    lines, refusal = as_user_does(ANN, partial(why_of_user, found.socket, other))
+    told = " ".join(lines)
+    require("would run on m1; a task of another user would wait" in told, told)
+    require(not re.search(rf"\b{other}\b", told) and refusal == "no-such-task", f"{told}; {refusal}")
+
+
+def why_of_user(path: Path, other: str) -> list[object]:
+    """What the user's own waiting task is told, and another's."""
+    with Queue(path) as queue:
+        number = queue.submit(Submission(command=("true",), dir="/")).id
+        wait_until(lambda: queue.task(number).task.reason == "no free slot", "it does not wait")
+        try:
+            return [queue.why(number), queue.why(other)]
+        except client.Refused as refusal:
+            return [queue.why(number), refusal.name]
 
 
 def quick_ps(found: Cluster) -> None:
