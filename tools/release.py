@@ -187,8 +187,8 @@ def add_manual(top: Path, release: Version) -> None:
     for program, purpose in (PROGRAMS | SERVICES).items():
         words = ["--no-info", "--section", "1", "--source", f"firm {release.name}", "--name", purpose]
         words += ["--version-string", release.name]
-        if program in PARSERS:
-            words.append(f"--include={derived(top, 'man', program)}")
+        if program in PARSERS and (verbs := derived(top, "man", program)).stat().st_size:
+            words.append(f"--include={verbs}")
         path, epoch = f"{top}/bin:{os.environ['PATH']}", str(release.date)
         text = said("help2man", *words, top / "bin" / program, PATH=path, SOURCE_DATE_EPOCH=epoch)
         (pages / f"{program}.1.gz").write_bytes(gzip.compress(text.encode(), mtime=0))

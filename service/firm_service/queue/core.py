@@ -220,7 +220,7 @@ class Core:
         needs += [self._need(text, False, named) for text in one.after_any]
         place = (name, job.weight, one.spec, first, last)
         made = Submission(0, named.user.number, *place, 0.0, tuple(dict.fromkeys(needs)))
-        made.add_tasks([SINGLE] if one.indexes is None else one.indexes, one.is_held)
+        made.add_tasks(one.is_held, one.indexes)
         return made
 
     def _job(self, user: User, one: Submit, jobs: dict[str, Job]) -> tuple[str, Job]:

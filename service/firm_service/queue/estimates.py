@@ -42,7 +42,7 @@ class Estimates:
             durations.add(submission)
             await asyncio.sleep(0)
         waiting = await self._waiting()
-        slots = Slots([*self._free_times(durations)])
+        slots = Slots(self._used(durations))
         for place, task in enumerate(waiting):
             start = slots.take(task, durations.of(task))
             if start == inf:
@@ -64,8 +64,8 @@ class Estimates:
                 await asyncio.sleep(0)
         return [task for *_, task in sorted(found, key=lambda entry: entry[:3])]
 
-    def _free_times(self, durations: Durations) -> Iterator[float]:
-        """Return when each slot of firm's machines is free."""
+    def _used(self, durations: Durations) -> Iterator[tuple[float, Task | None]]:
+        """Return when each slot of firm's machines is free, with the task that has it."""
         rows, now = self._core.firm.rows, time.time()
         if rows is None:
             return
@@ -74,9 +74,9 @@ class Estimates:
                 task = self._core.rows.task(Name.of_firm(name))
                 attempt = task.open_attempt if task is not None else None
                 began = attempt.began if attempt is not None and attempt.began is not None else now
-                yield max(now, began + durations.of(task)) if task is not None else inf
+                yield max(now, began + durations.of(task)) if task is not None else inf, task
         for _ in range(rows.slots - rows.running):
-            yield now
+            yield now, None
 
 
 @dataclass
@@ -108,10 +108,13 @@ def durations_of(tasks: Iterable[Task]) -> Iterator[float]:
 class Slots:
     """Slots that are taken one after another."""
 
-    def __init__(self, free: list[float]) -> None:
-        self._free = free  # a heap of the times at which they are
-        heapq.heapify(self._free)
-        self._ends: dict[int, list[float]] = {}  # of tasks of an array of which some may be in firm at a time
+    def __init__(self, used: Iterable[tuple[float, Task | None]]) -> None:
+        self._free: list[float] = []  # a heap of the times at which they are
+        self._ends: dict[int, list[float]] = {}  # the same for tasks of an array of which some may be in firm at a time
+        for end, task in used:
+            heapq.heappush(self._free, end)
+            if task is not None and task.submission.spec.at_once is not None:
+                heapq.heappush(self._ends.setdefault(task.submission.number, []), end)
 
     def take(self, task: Task, seconds: float) -> float:
         """Return the start of a task on the next slot; infinite if unknown."""

@@ -177,9 +177,10 @@ class Submission:
             return None
         return array_text(self.tasks)
 
-    def add_tasks(self, indexes: Iterable[int], is_held: bool) -> None:
-        """Makes the tasks of a new submission."""
-        self.tasks = {index: Task(self, index, is_held) for index in indexes}
+    def add_tasks(self, is_held: bool, listed: Iterable[int] | None = None) -> None:
+        """Makes the tasks of a new submission, as of an array with these indexes."""
+        indices = [SINGLE] if self.first is None or self.last is None else range(self.first, self.last + 1)
+        self.tasks = {index: Task(self, index, is_held) for index in (indices if listed is None else listed)}
         self.live = len(self.tasks)
 
     def measure(self, text: str) -> None:

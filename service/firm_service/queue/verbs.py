@@ -116,11 +116,17 @@ def show_task(queue: Queue, options: argparse.Namespace) -> None:
     detail = queue.task(options.task)
     attempts = [plain(attempt) for attempt in detail.attempts]
     answer: Row = {"task": plain(detail.task), "spec": detail.spec, "attempts": attempts}
-    show(options, answer, lambda _: "".join(detail_lines(detail)) + tables.table(ATTEMPTS, attempts))
+    show(
+        options,
+        answer,
+        lambda _: "".join(detail_lines(detail)) + (tables.table(ATTEMPTS, attempts) if attempts else ""),
+    )
 
 
 def detail_lines(detail: Detail) -> Iterator[str]:
-    task, spec = detail.task, {name: value for name, value in detail.spec.items() if value not in (None, [], {})}
+    task, spec = detail.task, {name: value for name, value in detail.spec.items() if value not in (None, 0, [], {})}
+    if at_once := spec.pop("at_once", None):
+        spec["array"] = f"{spec_text('array', spec['array'])}%{at_once}"
     row: Row = {"task": task.task, "firm's name": task.firm, "state": task.state, "reason": task.reason}
     row |= {"user": task.user, "job": task.job, "weight": task.weight, "submitted": moment(task.submitted)}
     row |= {"ended": moment(task.ended) if task.has_ended else "", "status": task.status}
