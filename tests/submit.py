@@ -58,7 +58,6 @@ def forms_are_read() -> None:
     for text, array in arrays.items():
         require(forms.array_of(text) == array, f"{text}: {forms.array_of(text)}")
     require(forms.indexes_of("0-20:5,7%4") == ([0, 5, 7, 10, 15, 20], 4), "a list, in steps, with a limit")
-    require(forms.array_text([0, 5, 6, 7, 9]) == "0,5-7,9", "a list")
     now = forms.instant_of("2026-11-26T12:00")
     instants = {"2h": now - 2 * hour, "1d": now - day, "09:30": now - 2.5 * hour, "2026-11-26": now - 12 * hour}
     for text, instant in instants.items():

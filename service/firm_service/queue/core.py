@@ -220,7 +220,7 @@ class Core:
         needs += [self._need(text, False, named) for text in one.after_any]
         place = (name, job.weight, one.spec, first, last)
         made = Submission(0, named.user.number, *place, 0.0, tuple(dict.fromkeys(needs)))
-        made.add_tasks(one.is_held, one.indexes)
+        made.add_tasks(one.is_held)
         return made
 
     def _job(self, user: User, one: Submit, jobs: dict[str, Job]) -> tuple[str, Job]:

@@ -145,7 +145,9 @@ def submit_of(given: Mapping[str, Any], *others: str) -> Submit:
     after, after_any = (fields.texts(field, MOST_NEEDS, MOST_LABEL + 1) for field in ("after", "after_any"))
     label = fields.text("label", MOST_LABEL) if "label" in others else None
     weight, (indexes, at_once) = fields.whole("weight", 1, MOST_WEIGHT), array_of(fields)
-    spec = replace(spec_of(fields), at_once=at_once)
+    has_gaps = indexes is not None and indexes[-1] - indexes[0] != len(indexes) - 1
+    listed = fields.get("array").partition("%")[0].strip() if has_gaps else None
+    spec = replace(spec_of(fields), indexes=listed, at_once=at_once)
     return Submit(fields.name("job"), weight, indexes, after, after_any, fields.flag("hold"), label, spec)
 
 

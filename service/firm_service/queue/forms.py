@@ -4,7 +4,7 @@ from __future__ import annotations
 
 import re
 import time
-from collections.abc import Iterable, Sequence
+from collections.abc import Sequence
 
 SECONDS = {"": 1, "s": 1, "m": 60, "h": 3_600, "d": 86_400}
 UNITS = {"": 0, "K": 1, "M": 2, "G": 3, "T": 4}
@@ -86,17 +86,6 @@ def range_of(word: str, text: str) -> range:
     if last < first or not step:
         raise ValueError(f"{text!r} {'ends before it begins' if step else 'has steps of 0'}")
     return range(first, last + 1, step)
-
-
-def array_text(indexes: Iterable[int]) -> str:
-    """Return indexes that are in order, as people write them: 1-3,7."""
-    runs: list[list[int]] = []
-    for index in indexes:
-        if runs and index == runs[-1][1] + 1:
-            runs[-1][1] = index
-        else:
-            runs.append([index, index])
-    return ",".join(f"{first}-{last}" if first < last else f"{first}" for first, last in runs)
 
 
 def instant_of(text: str, now: float | None = None) -> float:

@@ -145,8 +145,8 @@ class Lists:
     def detail(self, task: Task, attempts: list[Attempt]) -> Json:
         submission = task.submission
         spec = asdict(submission.spec)
-        is_single = submission.first is None
-        spec["array"] = None if is_single else submission.array or [submission.first, submission.last]
+        plain = None if submission.first is None else [submission.first, submission.last]
+        spec["array"] = spec.pop("indexes") or plain
         spec["after"] = [str(need) for need in submission.needs if need.is_ok]
         spec["after_any"] = [str(need) for need in submission.needs if not need.is_ok]
         return {**self.row(task), "spec": spec, "attempts": [attempt_row(attempt) for attempt in attempts]}

@@ -3,11 +3,11 @@
 from __future__ import annotations
 
 import re
-from collections.abc import Iterable, Iterator
+from collections.abc import Iterable, Iterator, Sequence
 from dataclasses import dataclass, field
 from typing import Any
 
-from .forms import array_text
+from .forms import indexes_of
 
 SINGLE = -1  # the index of a task that is a submission's only one, without an array
 MOST_NUMBER, MOST_INDEX = 99_999_999, 9_999_999  # together, a name of a task in firm has no more letters
@@ -75,6 +75,7 @@ class Spec:
     retries: int = 0
     memory: int | None = None
     processors: float | None = None
+    indexes: str | None = None  # of an array with gaps, as its user wrote them
     at_once: int | None = None  # tasks of the array that may be in firm
 
 
@@ -171,16 +172,15 @@ class Submission:
         return self.open_needs > 0
 
     @property
-    def array(self) -> str | None:
-        """The indexes of an array that has gaps, as people write them."""
-        if self.first is None or self.last is None or len(self.tasks) == self.last - self.first + 1:
-            return None
-        return array_text(self.tasks)
+    def indices(self) -> Sequence[int]:
+        """Of its tasks, if its words are known."""
+        if self.spec.indexes is not None:
+            return indexes_of(self.spec.indexes)[0]
+        return [SINGLE] if self.first is None or self.last is None else range(self.first, self.last + 1)
 
-    def add_tasks(self, is_held: bool, listed: Iterable[int] | None = None) -> None:
-        """Makes the tasks of a new submission, as of an array with these indexes."""
-        indices = [SINGLE] if self.first is None or self.last is None else range(self.first, self.last + 1)
-        self.tasks = {index: Task(self, index, is_held) for index in (indices if listed is None else listed)}
+    def add_tasks(self, is_held: bool) -> None:
+        """Makes the tasks of a new submission."""
+        self.tasks = {index: Task(self, index, is_held) for index in self.indices}
         self.live = len(self.tasks)
 
     def measure(self, text: str) -> None:
@@ -191,7 +191,7 @@ class Submission:
         """As its user is told of it."""
         found: dict[str, Any] = {"number": self.number, "first": self.first, "last": self.last}
         found |= {"count": len(self.tasks), "job": self.job}
-        return {**found, "array": array} if (array := self.array) else found
+        return found if self.spec.indexes is None else {**found, "array": self.spec.indexes}
 
 
 @dataclass(slots=True)
