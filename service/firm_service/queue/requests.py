@@ -2,8 +2,8 @@
 
 A request is a JSON object on a line of at most 8 MiB, UTF-8; its answer is one too, and answers come in the order of
 the requests. Many requests may be sent before the first answer is read (the writes of all share a sync of the disk).
-`wait`, `why`, `log`, lists and `status` are begun once all answers before theirs are read; what changes something is done at
-once, and answered in its turn. What rests on another request, send after its answer.
+`wait`, `why`, `log`, lists and `status` are begun once all answers before theirs are read; what changes something is
+done at once, and answered in its turn. What rests on another request, send after its answer.
 
     > {"ask": "submit", "command": ["./train.sh", "7"], "dir": "/home/ann", "job": "web"}
     < {"submit": {"number": 12, "first": null, "last": null, "count": 1, "job": "web"}}
@@ -49,8 +49,8 @@ submit: {"ask": "submit", "command": [WORD, ..], "dir": "/abs"} and, with their 
   -> {"submit": {"number": 12, "first": 1|null, "last": 3|null, "count": 3, "job": "web"}},
    and "array": TEXT if indexes are left out
   Errors: `bad-field` (with "field"), `no-such-machine` (of `near`), `array-too-large`, `weight-too-large` (of a user's
-  job, past --most-weight), `no-such-task` (of `after`), `not-yours` (another's job), `job-has-weight`, `quota`, `queue-full`, `budget` (what the
-  user's submissions take of the disk; with "seconds" until there is room).
+  job, past --most-weight), `no-such-task` (of `after`), `not-yours` (another's job), `job-has-weight`, `quota`,
+  `queue-full`, `budget` (what the user's submissions take of the disk; with "seconds" until there is room).
 
 submit-all: {"ask": "submit-all", "key": null, "submissions": [S, ..]}, at most 10,000, each S as above without "ask"
   and "key", with "label": null or a text; `after` and `after_any` may name labels (of the list, before or behind) as
