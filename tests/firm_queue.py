@@ -27,6 +27,7 @@ from pathlib import Path
 import queue_access
 import queue_agents
 import queue_bounds
+import queue_damage
 import queue_gaps
 import queue_hostile
 import queue_kills
@@ -726,6 +727,7 @@ CHECKS: tuple[Callable[[Setup], None], ...] = (
     *queue_hostile.CHECKS,
     *queue_bounds.CHECKS,
     *queue_gaps.CHECKS,
+    *queue_damage.CHECKS,
 )
 
 

@@ -85,7 +85,7 @@ class Core:
         kept = await self.store.read(queries.load)
         last = self.rows.last_number
         self.rows, self.marks = kept.rows, kept.marks
-        self.store.read_anew()
+        self.store.read_anew(kept.point, kept.seals)
         self.rows.last_number = max(self.rows.last_number, last)
         self.spending.load(kept.spent)
         self.answers.clear()

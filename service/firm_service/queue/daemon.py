@@ -87,9 +87,12 @@ class Queue:
     async def run(self) -> None:
         """Serves until it is told to stop; raises the fault that ended it otherwise."""
         await self._store.start()
-        self._store.on_failure = self._failed.set
+        self._store.on_failure, self._store.on_damage = self._failed.set, self._give_up
         try:
-            kept = await self._core.load()
+            try:
+                kept = await self._core.load()
+            except sqlite3.Error as error:
+                raise self._fault or Fault(Exit.STATE, f"cannot read {self._store.path}: {error}") from error
             try:
                 await self._agents.begin(kept)
             except NotWritten as error:

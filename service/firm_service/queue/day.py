@@ -5,7 +5,8 @@ from __future__ import annotations
 import sqlite3
 from dataclasses import dataclass, field
 
-from .queries import fetched
+from .queries import attempt_of, fetched
+from .seals import columns
 
 DAY_SECONDS, STEPS = 86_400.0, 96
 
@@ -31,12 +32,15 @@ class Day:
 def day_of(connection: sqlite3.Connection, now: float, user: int | None) -> Day:
     """The day until now, of a user, or of all."""
     found = Day(now - DAY_SECONDS, DAY_SECONDS / STEPS)
-    words = "SELECT a.began, a.ended, a.seconds, a.outcome FROM attempt a JOIN submission s ON s.number = a.number"
-    words += " WHERE (a.outcome IS NULL OR a.ended >= ?) AND (? IS NULL OR s.user = ?)"
-    for began, ended, seconds, outcome in fetched(connection, words, (found.since, user, user)):
-        if began is not None:
-            found.add(began, now if ended is None else ended)
-        if outcome is not None:
-            found.outcomes[outcome] = found.outcomes.get(outcome, 0) + 1
-            found.seconds += seconds or 0.0
+    of_user = "JOIN submission s ON s.number = a.number WHERE (? IS NULL OR s.user = ?) AND"
+    words = f"SELECT {columns('attempt', 'a')} FROM attempt a {of_user} a.outcome IS NOT NULL AND a.ended >= ?"
+    rows = fetched(connection, words, (user, user, found.since))
+    words = f"SELECT {columns('attempt', 'a')} FROM task t JOIN attempt a ON (a.number, a.idx) = (t.number, t.idx)"
+    rows += fetched(connection, f"{words} {of_user} t.outcome IS NULL AND a.outcome IS NULL", (user, user))
+    for attempt in map(attempt_of, rows):
+        if attempt.began is not None:
+            found.add(attempt.began, now if attempt.ended is None else attempt.ended)
+        if attempt.outcome is not None:
+            found.outcomes[attempt.outcome] = found.outcomes.get(attempt.outcome, 0) + 1
+            found.seconds += attempt.seconds or 0.0
     return found

@@ -8,21 +8,40 @@ import sys
 from collections.abc import Callable, Collection, Iterable, Sequence
 from contextlib import closing
 from dataclasses import dataclass
-from typing import Any
+from typing import Any, NamedTuple
 
 from .rows import SINGLE, Attempt, Name, Need, Rows, Spec, Submission, Task
+from .seals import COLUMNS, WIDTHS, Damaged, columns, opened, require_words
 
 AT_ONCE = 500  # numbers in one query
 IS_OWN = "(? IS NULL OR user = ?)"  # a submission is this user's, where one is named
 WORDLESS = Spec((), "/")
 Finder = Callable[[sqlite3.Connection, Sequence[int], int | None, int], list[Submission]]
-# The last attempt of a task, beside it.
+# Tasks, each with its last attempt beside it.
+TASKS = f"SELECT {columns('task', 't')}, {columns('attempt', 'a')} FROM task t"
 LAST = "LEFT JOIN attempt a ON (a.number, a.idx, a.attempt) = (t.number, t.idx, t.attempts)"
-TASK = "t.idx, is_held, is_cancelled, failures, lost, t.outcome, t.status, t.reason, t.ended, t.attempts"
-ATTEMPT = (
-    "a.number, a.idx, a.attempt, agent, agent_id, machine, run, token, claimed, began, a.ended, seconds, a.outcome,"
-    " a.status, a.reason, output, host, is_kept, runs_as"
-)
+COMMIT = "commit"  # the row of `meta` that each commit writes
+HISTORY = "number index user job submitted attempt agent machine run began ended seconds outcome status reason".split()
+HISTORY += ["output", "host"]
+# What a task that ended without an attempt has of one.
+UNBEGUN = dict.fromkeys("agent machine run began seconds output host".split(), None) | {"attempt": 0}
+MOST_LIVE = 2**64  # sums of checksums are taken modulo this
+
+
+class Point(NamedTuple):
+    """How far the database is."""
+
+    number: int  # of commits
+    last: int  # the highest number of a submission
+    live: int  # the sum of the checksums of all that has not ended: tasks, attempts, agents, marks and the lease
+
+    @classmethod
+    def read(cls, text: str) -> Point:
+        number, last, live = text.split()
+        return cls(int(number), int(last), int(live, 16))
+
+    def text(self) -> str:
+        return f"{self.number} {self.last} {self.live % MOST_LIVE:x}"
 
 
 @dataclass(frozen=True, slots=True)
@@ -34,6 +53,8 @@ class Kept:
     marks: dict[str, str]  # of machines
     spent: dict[int, tuple[float, float]]  # bytes, and when, by user
     lease: float | None  # the longest that agents may have; None: of an older queue, or a new database
+    point: Point
+    seals: dict[tuple[str, str], int]  # checksums of rows of agents and marks, and of the lease, by table and key
 
 
 @dataclass(frozen=True, slots=True)
@@ -50,19 +71,45 @@ class Asked:
 
 
 def load(connection: sqlite3.Connection) -> Kept:
-    """All that has not ended. What it waits for and has ended did so as it should: otherwise it had ended with that."""
-    rows = Rows(fetched(connection, "SELECT COALESCE(MAX(number), 0) FROM submission")[0][0])
+    """All that has not ended. What it waits for and has ended did so as it should: otherwise it had ended with that.
+    Raises `Damaged` where that is not all, or not as it was written."""
+    point = point_of(connection)
+    rows = Rows(point.last)
     live = {number for (number,) in fetched(connection, "SELECT DISTINCT number FROM task WHERE outcome IS NULL")}
     for submission in submissions(connection, live):
         rows.add(submission)
-    agents = {
-        name: (agent_id, json.loads(machines))
-        for name, agent_id, machines in fetched(connection, "SELECT name, id, machines FROM agent")
-    }
-    spent = {user: (size, at) for user, size, at in fetched(connection, "SELECT user, bytes, at FROM spent")}
-    marks = dict(fetched(connection, "SELECT machine, mark FROM mark"))
-    leases = [float(value) for (value,) in fetched(connection, "SELECT value FROM meta WHERE name = 'lease'")]
-    return Kept(rows, agents, marks, spent, leases[0] if leases else None)
+    small = {table: table_of(connection, table) for table in ("agent", "mark", "spent")}
+    lease = value_of(connection, "lease")
+    seals = {(table, row[0]): row[-1] for table in ("agent", "mark") for row in small[table]}
+    seals |= {("meta", row[0]): row[-1] for row in table_of(connection, "meta") if row[0] == "lease"}
+    sums = [task.seal for task in rows.live_tasks()] + [attempt.seal for attempt in rows.open.values()]
+    if (sum(sums) + sum(seals.values()) - point.live) % MOST_LIVE:
+        raise Damaged("what has not ended is not all there, or as it was at the last commit")
+    agents = {name: (agent_id, json.loads(machines)) for name, agent_id, machines, _ in small["agent"]}
+    spent = {user: (size, at) for user, size, at, _ in small["spent"]}
+    marks = {machine: mark for machine, mark, _ in small["mark"]}
+    return Kept(rows, agents, marks, spent, None if lease is None else float(lease), point, seals)
+
+
+def table_of(connection: sqlite3.Connection, table: str) -> list[Any]:
+    """All rows of a small table, with their checksums."""
+    found = fetched(connection, f"SELECT {columns(table)} FROM {table}")
+    for row in found:
+        opened(table, row)
+    return found
+
+
+def value_of(connection: sqlite3.Connection, name: str) -> str | None:
+    """A value of `meta`; None where there is none."""
+    found = fetched(connection, f"SELECT {columns('meta')} FROM meta WHERE name = ?", (name,))
+    return str(opened("meta", found[0])[1]) if found else None
+
+
+def point_of(connection: sqlite3.Connection) -> Point:
+    text = value_of(connection, COMMIT)
+    if text is None:
+        raise Damaged(f"{COMMIT} is missing in meta")
+    return Point.read(text)
 
 
 def submissions(
@@ -71,42 +118,72 @@ def submissions(
     """Submissions, of a user or of all, with their tasks, up to a number or all, and the last attempt of each."""
     wanted, found = sorted(numbers), list[Submission]()
     for at in range(0, len(wanted), AT_ONCE):
-        by_number, texts = dict[int, Submission](), dict[int, str]()
+        by_number, texts, counts = dict[int, Submission](), dict[int, str](), dict[int, int]()
         marks, values = marks_of(wanted[at : at + AT_ONCE]), [*wanted[at : at + AT_ONCE], owner, owner]
-        words = f"SELECT number, user, job, weight, spec, first, last, sent FROM submission WHERE number IN ({marks})"
-        for number, user, job, weight, spec, *rest in fetched(connection, f"{words} AND {IS_OWN}", values):
-            by_number[number], texts[number] = Submission(number, user, job, weight, spec_of(spec), *rest), spec
+        words = f"SELECT {columns('submission')}, spec FROM submission WHERE number IN ({marks})"
+        for row in fetched(connection, f"{words} AND {IS_OWN}", values):
+            submission = whole_of(row)
+            by_number[submission.number], texts[submission.number] = submission, row[-1]
+            counts[submission.number] = row[7]
         some = list(by_number)
         marks = marks_of(some)
-        words = f"SELECT number, needs, idx, is_ok FROM need WHERE number IN ({marks}) ORDER BY number, place"
         needed: dict[int, list[Need]] = {}
-        for number, needs, index, is_ok in fetched(connection, words, some):
+        words = f"SELECT {columns('need')} FROM need WHERE number IN ({marks}) ORDER BY number, place"
+        for row in fetched(connection, words, some):
+            number, _, needs, index, is_ok = opened("need", row)
             needed.setdefault(number, []).append(Need(needs, index, bool(is_ok)))
         for number, submission in by_number.items():
             submission.needs = tuple(needed.get(number, ()))
+            if len(submission.needs) != counts[number]:
+                raise Damaged(f"the submission {number} has {len(submission.needs)} of {counts[number]} needs")
             submission.measure(texts[number])
-        words = f"SELECT t.number, {TASK}, {ATTEMPT} FROM task t {LAST} WHERE t.number IN ({marks})"
-        for number, *row in fetched(connection, f"{words} ORDER BY 1, 2 LIMIT ?", [*some, most]):
-            add_task(by_number[number], row)
+        left = most
+        for row in fetched(connection, f"{TASKS} {LAST} WHERE t.number IN ({marks}) ORDER BY 1, 2 LIMIT ?", [*some, most]):
+            add_task(by_number[row[0]], row)
+            left -= 1
+        if left:
+            for submission in by_number.values():
+                require_all(submission)
         found += by_number.values()
     return found
 
 
+def head_of(row: Sequence[Any]) -> Submission:
+    """A submission without words, needs and tasks."""
+    number, user, job, weight, first, last, sent, _, _ = opened("submission", row)
+    return Submission(number, user, job, weight, WORDLESS, first, last, sent)
+
+
+def whole_of(row: Sequence[Any]) -> Submission:
+    """A submission with its words, which stand behind its head."""
+    submission = head_of(row)
+    require_words(submission.number, row[-1], row[8])
+    submission.spec = spec_of(row[-1])
+    return submission
+
+
+def require_all(submission: Submission) -> None:
+    if len(submission.tasks) != len(submission.indices):
+        has = f"has {len(submission.tasks)} of {len(submission.indices)} tasks"
+        raise Damaged(f"the submission {submission.number} {has}")
+
+
 def forgotten(connection: sqlite3.Connection, numbers: Sequence[int], owner: int | None, most: int) -> list[Submission]:
     """The same of such as have ended, without what may take much: words, needs and attempts."""
-    words = f"SELECT number, user, job, weight, first, last, sent FROM submission WHERE number IN ({marks_of(numbers)})"
-    found = {
-        number: Submission(number, user, job, weight, WORDLESS, *rest)
-        for number, user, job, weight, *rest in fetched(connection, f"{words} AND {IS_OWN}", [*numbers, owner, owner])
-    }
-    # One that was submitted since memory was looked at may have tasks that have not ended: memory has it by now.
-    words = f"SELECT number, idx, outcome, status FROM task WHERE number IN ({marks_of(found)})"
-    words += " AND outcome IS NOT NULL LIMIT ?"
+    words = f"SELECT {columns('submission')} FROM submission WHERE number IN ({marks_of(numbers)}) AND {IS_OWN}"
+    read = map(head_of, fetched(connection, words, [*numbers, owner, owner]))
+    found = {submission.number: submission for submission in read}
+    words = f"SELECT {columns('task')} FROM task WHERE number IN ({marks_of(found)}) LIMIT ?"
+    left = most
     with closing(connection.execute(words, [*found, most])) as rows:
-        for number, index, outcome, status in rows:
-            submission = found[number]
-            submission.tasks[index] = Task(submission, index, outcome=sys.intern(outcome), status=status)
-            submission.failed += outcome != "done"
+        for row in rows:
+            left -= 1
+            task = task_of(found[row[0]], row)
+            if task.outcome is None:  # submitted since memory was looked at, which has it by now
+                continue
+            task.outcome = sys.intern(task.outcome)
+            task.submission.tasks[task.index] = task
+            task.submission.failed += task.outcome != "done"
     return list(found.values())
 
 
@@ -115,23 +192,35 @@ def marks_of(values: Collection[int]) -> str:
 
 
 def add_task(submission: Submission, row: Sequence[Any]) -> None:
-    index, is_held, is_cancelled, failures, lost, outcome, status, reason, ended, attempts, *rest = row
+    """Takes in a task, and its last attempt, as a row of `TASKS` has them."""
+    task = task_of(submission, row)
+    rest = row[WIDTHS["task"] :]
+    if rest[0] is not None:
+        task.attempt = attempt_of(rest)
+    elif task.attempts:
+        raise Damaged(f"the attempt {task.attempts} of {task.name} is missing")
+    submission.tasks[task.index] = task
+    submission.live += task.is_live
+    submission.failed += task.outcome not in (None, "done")
+
+
+def task_of(submission: Submission, row: Sequence[Any]) -> Task:
+    _, index, is_held, is_cancelled, failures, lost, outcome, status, reason, ended, attempts = opened("task", row)
     task = Task(submission, index, bool(is_held), bool(is_cancelled), failures, lost, outcome, status, reason, ended)
-    task.attempts, task.attempt = attempts, attempt_of(rest) if rest[0] is not None else None
-    submission.tasks[index] = task
-    submission.live += outcome is None
-    submission.failed += outcome not in (None, "done")
+    task.attempts, task.seal = attempts, row[WIDTHS["task"] - 1] if outcome is None else 0
+    return task
 
 
 def attempt_of(row: Sequence[Any]) -> Attempt:
-    number, index, *rest = row
+    number, index, *rest = opened("attempt", row)
     found = Attempt(Name(number, index), *rest)
     found.is_kept = bool(found.is_kept)
+    found.seal = row[WIDTHS["attempt"] - 1] if found.is_open else 0
     return found
 
 
 def attempts_of(connection: sqlite3.Connection, name: Name) -> list[Attempt]:
-    words = f"SELECT {ATTEMPT} FROM attempt a WHERE a.number = ? AND a.idx = ? ORDER BY a.attempt"
+    words = f"SELECT {columns('attempt')} FROM attempt WHERE number = ? AND idx = ? ORDER BY attempt"
     return [attempt_of(row) for row in fetched(connection, words, (name.number, name.index))]
 
 
@@ -143,8 +232,8 @@ def spec_of(text: str) -> Spec:
 
 def answer_to(connection: sqlite3.Connection, user: int, key: str) -> Any:
     """What was answered to a request with this key; None where there was none."""
-    found = fetched(connection, "SELECT answer FROM request WHERE user = ? AND key = ?", (user, key))
-    return json.loads(found[0][0]) if found else None
+    found = fetched(connection, f"SELECT {columns('request')} FROM request WHERE user = ? AND key = ?", (user, key))
+    return json.loads(opened("request", found[0])[-1]) if found else None
 
 
 def ended(connection: sqlite3.Connection, asked: Asked, most_bytes: int) -> tuple[list[Submission], int]:
@@ -152,13 +241,13 @@ def ended(connection: sqlite3.Connection, asked: Asked, most_bytes: int) -> tupl
     how many tasks are left out."""
     conditions, values = conditions_of(asked, "t.ended")
     marks = ", ".join("?" * len(asked.outcomes))
-    words = f"SELECT t.number, {TASK}, {ATTEMPT} FROM task t JOIN submission s ON s.number = t.number {LAST}"
-    words += f" WHERE t.outcome IN ({marks}){conditions} ORDER BY t.number DESC, t.idx DESC LIMIT ?"
-    rows = fetched(connection, words, [*asked.outcomes, *values, asked.limit])
+    words = f"{TASKS} JOIN submission s ON s.number = t.number {LAST} WHERE t.outcome IN ({marks}){conditions}"
+    order = "ORDER BY t.number DESC, t.idx DESC LIMIT ?"
+    rows = fetched(connection, f"{words} {order}", [*asked.outcomes, *values, asked.limit])
     found = bare(connection, {row[0] for row in rows}, most_bytes)
     shown = [row for row in rows if row[0] in found]
-    for number, *row in reversed(shown):
-        add_task(found[number], row)
+    for row in reversed(shown):
+        add_task(found[row[0]], row)
     return list(found.values()), len(rows) - len(shown)
 
 
@@ -167,38 +256,46 @@ def bare(connection: sqlite3.Connection, numbers: Iterable[int], most_bytes: int
     wanted, found, size = sorted(numbers, reverse=True), dict[int, Submission](), 0
     for at in range(0, len(wanted), AT_ONCE):
         some = wanted[at : at + AT_ONCE]
-        words = "SELECT number, user, job, weight, spec, first, last, sent FROM submission"
-        words += f" WHERE number IN ({marks_of(some)}) ORDER BY number DESC"
-        with closing(connection.execute(words, some)) as rows:
-            for number, user, job, weight, spec, *rest in rows:
-                submission = Submission(number, user, job, weight, spec_of(spec), *rest)
-                submission.measure(spec)
+        words = f"SELECT {columns('submission')}, spec FROM submission WHERE number IN ({marks_of(some)})"
+        with closing(connection.execute(f"{words} ORDER BY number DESC", some)) as rows:
+            for row in rows:
+                submission = whole_of(row)
+                submission.measure(row[-1])
                 size += submission.size
                 if found and size > most_bytes:
                     return found
-                found[number] = submission
+                found[submission.number] = submission
     return found
 
 
 def history(connection: sqlite3.Connection, asked: Asked) -> list[dict[str, Any]]:
-    """Attempts that ended, the oldest first, and tasks that ended without one."""
-    keys = "number, index, user, job, submitted, attempt, agent, machine, run, began, ended, seconds, outcome, status"
-    names = f"{keys}, reason, output, host".split(", ")
-    conditions, values = conditions_of(asked, "a.ended")
-    words = "SELECT a.number, a.idx, s.user, s.job, s.sent, a.attempt, agent, machine, run, began, a.ended, seconds,"
-    words += " a.outcome, a.status, a.reason, output, host FROM attempt a JOIN submission s ON s.number = a.number"
-    words += f" WHERE a.outcome IS NOT NULL{conditions}"
-    conditions, more = conditions_of(asked, "t.ended")
-    words += " UNION ALL SELECT t.number, t.idx, s.user, s.job, s.sent, 0, NULL, NULL, NULL, NULL, t.ended, NULL,"
-    words += " t.outcome, t.status, t.reason, NULL, NULL FROM task t JOIN submission s ON s.number = t.number"
-    words += f" WHERE t.outcome IS NOT NULL AND t.attempts = 0{conditions} ORDER BY 11 DESC, 1 DESC, 2 DESC LIMIT ?"
-    rows = fetched(connection, words, [*values, *more, asked.limit])
+    """Attempts that ended, the oldest first, and tasks that ended without one: the newest, by their indexes alone."""
+    found = latest(connection, "attempt", asked) + latest(connection, "task", asked)
+    found.sort(key=lambda row: (row["ended"], row["number"], row["index"]), reverse=True)
+    return [shown_of(row) for row in reversed(found[: asked.limit])]
+
+
+def latest(connection: sqlite3.Connection, table: str, asked: Asked) -> list[dict[str, Any]]:
+    """The attempts that ended last, or the tasks of those that had none."""
+    conditions, values = conditions_of(asked, "x.ended")
+    words = f"SELECT {columns(table, 'x')}, {columns('submission', 's')} FROM {table} x"
+    words += " CROSS JOIN submission s ON s.number = x.number WHERE x.outcome IS NOT NULL"
+    words += " AND x.attempts = 0" if table == "task" else ""
+    words += f"{conditions} ORDER BY x.ended DESC, x.number DESC, x.idx DESC LIMIT ?"
+    names, place = [*COLUMNS[table].split()], WIDTHS[table]
     found = []
-    for row in reversed(rows):
-        name = Name(row[0], row[1])
-        index = None if name.index == SINGLE else name.index
-        found.append({"task": str(name), **dict(zip(names, row)), "index": index})
+    for row in fetched(connection, words, [*values, asked.limit]):
+        values_of = dict(zip(names, opened(table, row)))
+        of = head_of(row[place:])
+        index = values_of.pop("idx")
+        found.append({**UNBEGUN, **values_of, "index": index, "user": of.user, "job": of.job, "submitted": of.sent})
     return found
+
+
+def shown_of(row: dict[str, Any]) -> dict[str, Any]:
+    name = Name(row["number"], row["index"])
+    index = None if name.index == SINGLE else name.index
+    return {"task": str(name), **{key: row[key] for key in HISTORY}, "index": index}
 
 
 def conditions_of(asked: Asked, ended: str) -> tuple[str, list[Any]]:

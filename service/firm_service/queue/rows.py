@@ -3,7 +3,7 @@
 from __future__ import annotations
 
 import re
-from collections.abc import Iterable, Iterator
+from collections.abc import Iterable, Iterator, Sequence
 from dataclasses import dataclass, field
 from typing import Any
 
@@ -97,6 +97,7 @@ class Attempt:
     host: str | None = None
     is_kept: bool = False  # it goes on although firm has no row of it
     runs_as: int | None = None  # the user whose process it is; None: begun by a queue that did not keep that
+    seal: int = 0  # the checksum of its row while it is open
 
     @property
     def is_open(self) -> bool:
@@ -119,6 +120,7 @@ class Task:
     attempt: Attempt | None = None  # the last one
     due: float = 0.0  # by CLOCK_BOOTTIME, from which it may be tried again
     told: str = ""  # why it was not begun when it was claimed last
+    seal: int = 0  # the checksum of its row until it has ended
 
     @property
     def name(self) -> Name:
@@ -167,9 +169,14 @@ class Submission:
     def is_blocked(self) -> bool:
         return self.open_needs > 0
 
+    @property
+    def indices(self) -> Sequence[int]:
+        """Of its tasks."""
+        return [SINGLE] if self.first is None or self.last is None else range(self.first, self.last + 1)
+
     def add_tasks(self, is_held: bool) -> None:
         """Makes the tasks of a new submission."""
-        indices = [SINGLE] if self.first is None or self.last is None else range(self.first, self.last + 1)
+        indices = self.indices
         self.tasks = {index: Task(self, index, is_held) for index in indices}
         self.live = len(self.tasks)
 

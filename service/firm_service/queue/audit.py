@@ -1,0 +1,51 @@
+"""A look at the whole database: whether all rows are there, and as they were written.
+
+It takes some 20 s a gigabyte, so only a small database is looked at before it is served; the rows that are served are
+judged one by one all the same.
+"""
+
+from __future__ import annotations
+
+import sqlite3
+import time
+from contextlib import closing
+from threading import Event
+
+from .seals import COLUMNS, Damaged, columns, opened, require_words
+
+AT_ONCE, PAUSE_SECONDS = 200, 0.002  # rows, and until the next ones: other threads have Python's lock meanwhile
+# Rows that lack others which stood beside them.
+LACKING = {
+    "tasks": "SELECT s.number FROM submission s WHERE COALESCE(s.last - s.first + 1, 1)"
+    " <> (SELECT COUNT(*) FROM task t WHERE t.number = s.number)",
+    "needs": "SELECT s.number FROM submission s WHERE s.needs"
+    " <> (SELECT COUNT(*) FROM need n WHERE n.number = s.number)",
+    "attempts": "SELECT t.number FROM task t WHERE t.attempts"
+    " <> (SELECT COUNT(*) FROM attempt a WHERE (a.number, a.idx) = (t.number, t.idx))",
+}
+
+
+def audit(connection: sqlite3.Connection, is_over: Event) -> None:
+    """Raises `Damaged`, and sqlite3.Error."""
+    with closing(connection):
+        connection.execute("BEGIN")  # all is of one moment
+        ((told,),) = connection.execute("PRAGMA integrity_check(1)").fetchall()
+        if told != "ok":
+            raise Damaged(told)
+        for table in COLUMNS:
+            require_rows(connection, table, is_over)
+        for what, words in LACKING.items():
+            for (number,) in connection.execute(f"{words} LIMIT 1"):
+                raise Damaged(f"{what} of the submission {number} are missing")
+
+
+def require_rows(connection: sqlite3.Connection, table: str, is_over: Event) -> None:
+    """Raises `Damaged` where a row of a table is not as it was written."""
+    more = ", spec" if table == "submission" else ""
+    with closing(connection.execute(f"SELECT {columns(table)}{more} FROM {table}")) as found:
+        while (rows := found.fetchmany(AT_ONCE)) and not is_over.is_set():
+            for row in rows:
+                values = opened(table, row)
+                if more:
+                    require_words(values[0], row[-1], values[8])
+            time.sleep(PAUSE_SECONDS)
