@@ -322,24 +322,26 @@ def small_arena(setup: Setup) -> None:
 
 
 def foreign(setup: Setup) -> None:
-    """Tasks that others submit to firm are shown as foreign and left alone; what they take away is given again."""
+    """Tasks that others submit to firm are shown as foreign and left alone; what they take away is given again. Their
+    names are not given, and stand in the way of no other."""
     with setup.case().start() as case, case.client() as client, case.firmd.client() as firm:
-        for line in ("job j 3", "task j mine", "task j 77", "task j 78-1"):
+        others = ["mine", "1", "3-1", "99999999"]
+        for line in ("job j 3", *(f"task j {name}" for name in others)):
             require(firm.ask(f"{case.tenant} {line}".encode()).endswith(b" ok"), line)
-        case.until(lambda: len(client.ask("tasks")) == 3, "they are shown")
+        case.until(lambda: len(client.ask("tasks")) == 4, "they are shown")
         rows = client.ask("tasks")
         require({row["state"] for row in rows} == {"foreign"} and client.states() == {}, rows)
-        number = client.submit(*FOREVER)
-        require(number == 79, f"{number}: a name that firm has was given again")
-        case.until(lambda: "79" in case.firm_tasks(), "it is in firm")
+        made = [client.submit(*FOREVER) for _ in range(2)]
+        require(made == [2, 4], f"{made}: a name that firm has was given again, or others were left out")
+        case.until(lambda: "4" in case.firm_tasks(), "it is in firm")
         case.agent("a1", m1=8)
-        case.until_state(client, "79", "running")
-        firm.ask(f"{case.tenant} done 79".encode())
-        case.until(lambda: len(client.ask("task", task="79")["attempts"]) == 2, "it runs again")
-        case.until_state(client, "79", "running")
+        case.until_state(client, "4", "running")
+        firm.ask(f"{case.tenant} done 4".encode())
+        case.until(lambda: len(client.ask("task", task="4")["attempts"]) == 2, "it runs again")
+        case.until_state(client, "4", "running")
         case.world.require_single()
-        client.ask("cancel", tasks=["79"])
-        case.until(lambda: case.firm_tasks() == ["mine", "77", "78-1"], "the others stay")
+        client.ask("cancel", tasks=["2", "4"])
+        case.until(lambda: case.firm_tasks() == others, "the others stay")
         require("j" in jobs_of(case), "the other's job stays")
         require(any("not the queue's" in line for line in client.ask("status")["differences"]), "a difference")
 

@@ -114,7 +114,9 @@ def all_of(kept: queries.Kept, connection: sqlite3.Connection) -> Any:
     details = [(one.number, one.user, one.job, one.spec, one.needs, one.live, one.failed, one.sent) for one in whole]
     tasks = [shown(task) for one in whole for task in one.tasks.values()]
     forgotten = queries.forgotten(connection, range(1, last + 1), None, 100_000)
-    attempts = [list(map(shown, queries.attempts_of(connection, task.name))) for one in whole for task in one.tasks.values()]
+    attempts = [
+        list(map(shown, queries.attempts_of(connection, task.name))) for one in whole for task in one.tasks.values()
+    ]
     history = queries.history(connection, queries.Asked(limit=100_000))
     failed, more = queries.ended(connection, queries.Asked(outcomes=frozenset(["failed", "cancelled"])), 2**26)
     answers = [queries.answer_to(connection, ANN.number, f"key-{at}") for at in range(KEYS)]
@@ -219,7 +221,9 @@ def damaged(setup: Setup) -> None:
         live.mkdir(mode=0o700)
         asyncio.run(fill(live, rounds, keep))
         killed, older = base / f"at-{rounds - 1}", tuple(base / f"at-{at}" for at in (10, 30, 100, 117))
-        require((killed / LOG).stat().st_size > 100_000 and not (live / LOG).exists(), "not what a kill and a stop leave")
+        require(
+            (killed / LOG).stat().st_size > 100_000 and not (live / LOG).exists(), "not what a kill and a stop leave"
+        )
         trials = [Trial((live, killed)[at % 2], older, setup.seed + at) for at in range(count)]
         with ProcessPoolExecutor(4) as pool:
             results = list(pool.map(tried, trials))

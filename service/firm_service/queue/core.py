@@ -69,6 +69,7 @@ class Core:
         self.leaving: set[str] = set()  # rows that firm was told to drop: none of them is begun meanwhile
         self.own_jobs: set[str] = set()  # of the queue's making, in firm
         self.strangers: set[Name] = set()  # rows of firm's with such names that memory does not have
+        self.others: Counter[int] = Counter()  # rows of firm's by others, by numbers that the queue has not given
         self.marks: dict[str, str] = {}  # machines that are cordoned or drained
         self.answers: dict[tuple[int, str], list[Json]] = {}  # to requests with keys, lately
         self._answered = 0  # submissions that they name
@@ -136,7 +137,8 @@ class Core:
         texts = [text_of(one.spec) for one in asked]
         size = self._require_room(user, asked, texts) + len(key or "")
         jobs: dict[str, Job] = {}
-        labels = {one.label: self.rows.last_number + 1 + at for at, one in enumerate(asked) if one.label is not None}
+        numbers = self._next_numbers(len(asked))
+        labels = {one.label: number for number, one in zip(numbers, asked) if one.label is not None}
         named, made = Named(user, labels, forgotten), []
         for at, one in enumerate(asked):
             try:
@@ -145,8 +147,8 @@ class Core:
                 refusal.more["at"] = at
                 raise
         now = time.time()
-        for text, submission in zip(texts, made):
-            submission.number, submission.sent = self.rows.last_number + 1, now
+        for text, number, submission in zip(texts, numbers, made):
+            submission.number, submission.sent = number, now
             submission.measure(text)
             self.rows.add(submission)
             self.store.add(submission, text)
@@ -158,6 +160,18 @@ class Core:
             self._keep_answer(user, key, [submission.answer() for submission in made])
         self.firm.changed.set()
         return made
+
+    def _next_numbers(self, count: int) -> list[int]:
+        """Numbers for submissions: none that firm has from others, as from a queue whose database was lost."""
+        found: list[int] = []
+        number = self.rows.last_number
+        while len(found) < count:
+            number += 1
+            if number not in self.others:
+                found.append(number)
+        if number > MOST_NUMBER:
+            raise Refused("queue-full", f"the numbers up to {MOST_NUMBER:,} are used up: begin a new state")
+        return found
 
     def _keep_answer(self, user: User, key: str, answer: list[Json]) -> None:
         self.answers[user.number, key] = answer
@@ -173,8 +187,6 @@ class Core:
         """The bytes of the disk that submissions take; raises `Refused` where they may not."""
         bounds = self.bounds
         count = sum(one.count for one in asked)
-        if self.rows.last_number + len(asked) > MOST_NUMBER:
-            raise Refused("queue-full", f"the numbers up to {MOST_NUMBER:,} are used up: begin a new state")
         for at, one in enumerate(asked):
             if one.count > bounds.array:
                 told = f"{one.count:,} tasks; an array may have {bounds.array:,}"
@@ -375,11 +387,12 @@ class Core:
     def look_at_all(self) -> None:
         self.backlog, self.strangers = Backlog(), set()
         self.unwanted.clear()
+        self.others.clear()
         self._dirty = {task.name for task in self.rows.live_tasks()}
         for row in self.firm.rows.tasks if self.firm.rows is not None else ():
             if (name := Name.of_firm(row)) is not None:
                 self._dirty.add(name)
-                self._skip(name)
+                self._skip(name, 1)
         self.firm.changed.set()
 
     def hear(self, heard: Heard) -> None:
@@ -395,7 +408,7 @@ class Core:
             name = Name.of_firm(row)
             if name is not None:
                 self._dirty.add(name)
-                self._skip(name)
+                self._skip(name, 1 if heard.words[0] == "task" else -1)
         elif heard.words[0] == "close":
             self.own_jobs.discard(heard.words[1])
 
@@ -425,9 +438,12 @@ class Core:
             else:
                 self.unwanted.discard(name.firm)
 
-    def _skip(self, name: Name) -> None:
-        """Gives no name that firm has from others, as from a queue whose database was lost."""
-        self.rows.last_number = max(self.rows.last_number, name.number)
+    def _skip(self, name: Name, more: int) -> None:
+        """Notes which numbers firm has from others: none of them is given while it has such a row."""
+        if more > 0 and name.number > self.rows.last_number or name.number in self.others:
+            self.others[name.number] += more
+            if not self.others[name.number]:
+                del self.others[name.number]
 
     async def know_strangers(self) -> None:
         """Finds out whether rows that memory does not have are those of tasks that ended."""
