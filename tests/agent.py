@@ -275,7 +275,7 @@ def reused_number() -> None:
             with contextlib.suppress(ProcessLookupError):  # a sleep of the task's that ends meanwhile
                 os.kill(pid, signal.SIGKILL)
         file = case.run_folder("a", 1) / "process"
-        file.write_text(json.dumps({**json.loads(file.read_text()), "pid": stranger.pid}))
+        file.write_text(supervisor.sealed({**supervisor.opened(file.read_text()), "pid": stranger.pid}))
         case.firmd.round("move a m1 m2")
         case.start("--until-empty")
         case.go("a")
