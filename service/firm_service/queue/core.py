@@ -15,7 +15,7 @@ from types import MappingProxyType
 
 from . import queries, states
 from .backlog import Backlog
-from .fields import MOST_WEIGHT, Json, Refused, Submit
+from .fields import Json, Refused, Submit
 from .firm import Firm, Heard
 from .rows import MOST_NUMBER, SINGLE, WORD_BYTES, Attempt, Job, Name, Need, Rows, Submission, Task
 from .spending import ATTEMPT_BYTES, NEED_BYTES, Spending, rows_bytes
@@ -39,7 +39,7 @@ class Bounds:
     in_all: int
     array: int  # tasks of one array
     budget: int = 2**30  # bytes of the disk that a user, operators excepted, may take, and again in each week
-    weight: int = MOST_WEIGHT  # of a job of such a user: what is heavy enough preempts all that others run
+    weight: int = DEFAULT_WEIGHT  # of a job of such a user: what is heavy enough preempts all that others run
 
 
 Forgotten = Mapping[int, Submission]  # such as have ended and are not in memory any more
@@ -77,6 +77,7 @@ class Core:
         self.ends = Ends()
         self.ended_attempts: Counter[str] = Counter()  # since the start, by outcome
         self.news = asyncio.Event()  # set once more is heard of firm; there is another one then
+        self._aged_by: str | None = None  # the state of firmd whose rounds the waits of tasks are counted by
         self._dirty: set[Name] = set()  # tasks of which it is to be looked whether firm should have them
 
     # Memory
@@ -345,7 +346,7 @@ class Core:
     # Attempts
 
     def begin_attempt(self, task: Task, attempt: Attempt) -> None:
-        task.attempts, task.attempt, task.told = attempt.number, attempt, ""
+        task.attempts, task.attempt, task.told, task.since = attempt.number, attempt, "", None
         self.rows.open[attempt.token] = attempt
         self.store.save_attempt(attempt)
         self.store.save([task])
@@ -401,6 +402,10 @@ class Core:
         self.news = asyncio.Event()
         if not heard.words:
             self.leaving.clear()
+        if self.firm.state != self._aged_by:  # rounds are counted anew
+            self._aged_by = self.firm.state
+            for task in self.rows.live_tasks():
+                task.since = None
             self.look_at_all()
         elif heard.words[0] in ("task", "done"):
             row = heard.words[2] if heard.words[0] == "task" else heard.words[1]
@@ -443,12 +448,15 @@ class Core:
         if more > 0 and name.number > self.rows.last_number or name.number in self.others:
             self.others[name.number] += more
             if not self.others[name.number]:
+                if task.since is None and task.open_attempt is None:
+                    task.since = book.rounds - (book.waited(row) if row is not None else 0)
                 del self.others[name.number]
 
     async def know_strangers(self) -> None:
         """Finds out whether rows that memory does not have are those of tasks that ended."""
         numbers = {name.number for name in self.strangers if name.number <= self.rows.last_number}
         found = await self.store.read(lambda connection: queries.submissions(connection, numbers)) if numbers else []
+            task.since = None
         for submission in found:
             if submission.number not in self.rows.submissions and not submission.live:
                 self.rows.add(submission)

@@ -22,8 +22,8 @@ from ..lines import is_name
 from ..lock import lock_alone
 from ..relief import Relief
 from ..sockets import Names
-from .agents import Agents, Terms
-from .core import Bounds, Core
+from .agents import DAY_SECONDS, Agents, Terms
+from .core import DEFAULT_WEIGHT, Bounds, Core
 from .fields import MOST_WEIGHT
 from .firm import Doors, Firm
 from .forms import bytes_of
@@ -236,7 +236,7 @@ def add_bounds(found: argparse._ArgumentGroup) -> None:
     add("--most-in-all", type=most, default=200_000, metavar="N", help=f"of all users ({told}")
     add("--most-in-array", type=most, default=100_000, metavar="N", help=f"of an array ({told}")
     heavy, told_weight = partial(number, 1, MOST_WEIGHT), f"weight of a job, operators' excepted ({told}"
-    add("--most-weight", type=heavy, default=MOST_WEIGHT, metavar="N", help=told_weight)
+    add("--most-weight", type=heavy, default=DEFAULT_WEIGHT, metavar="N", help=told_weight)
     told_budget = "bytes of the disk that a user's work may take, and again in each week (default: 1G)"
     add("--budget", type=size, default=2**30, metavar="SIZE", help=told_budget)
     add("--most-in-firm", type=most, metavar="N", help="tasks in firm at a time (what its arena holds)")

@@ -32,7 +32,7 @@ submit: {"ask": "submit", "command": [WORD, ..], "dir": "/abs"} and, with their 
     "key": null         any text of 1 to 128 characters; the same again, by the same user, gives the same answer (with
                         "again": true) and makes nothing, whatever else the request says
     "job": null         a name (1 to 16 of a-z, 0-9, -); null: the user's login name, or uN by the number N
-    "weight": null      1 to 1,000,000 of the job; null: the job's, for a new one 10, or --most-weight if less. A
+    "weight": null      1 to --most-weight of the job; null: the job's, for a new one 10, or --most-weight if less. A
                         job is there, and is its user's, while it has tasks that have not ended
     "array": null       [FIRST, LAST], 0 <= FIRST <= LAST <= 9,999,999
     "after": []         tasks or submissions that must end with `done` before: "12", "12_4"

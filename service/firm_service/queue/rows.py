@@ -123,6 +123,7 @@ class Task:
     seal: int = 0  # the checksum of its row until it has ended
 
     @property
+    since: int | None = None  # the rounds that the tenant had had when it could begin; None where it can't, or has begun
     def name(self) -> Name:
         return Name(self.submission.number, self.index)
 
