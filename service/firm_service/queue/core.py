@@ -348,6 +348,17 @@ class Core:
     def begin_attempt(self, task: Task, attempt: Attempt) -> None:
         task.attempts, task.attempt, task.told, task.since = attempt.number, attempt, "", None
         self.rows.open[attempt.token] = attempt
+    def may_drop(self, number: int) -> bool:
+        """Whether nothing in memory rests on a submission."""
+        submission = self.rows.submissions.get(number)
+        return (submission is None or not submission.live) and number not in self.rows.waiters
+
+    def drop(self, number: int, is_large: bool) -> None:
+        """Removes a submission that ended long ago."""
+        self.store.require_good()
+        self.rows.drop(number)
+        self.store.drop(number, is_large)
+
         self.store.save_attempt(attempt)
         self.store.save([task])
         self._spend(task.submission.user, ATTEMPT_BYTES)

@@ -30,6 +30,7 @@ from .forms import bytes_of
 from .front import MOST_CLIENTS, TOO_MANY, Front, encode
 from .giving import Giver, Giving
 from .requests import Requests
+from .retention import Retention
 from .store import NotWritten, Store
 from .users import Operators
 
@@ -40,7 +41,7 @@ exit statuses, each but 0 with the reason on standard error:
   1  an error of firm-queue itself
   2  the command line
   4  the state can't be read or written, or another firm-queue has it
-  5  the database is damaged, missing, or of a newer firm-queue
+  5  the state is damaged, older than it was, incomplete, or of a newer firm-queue
   7  the socket can't be had"""
 
 
@@ -116,6 +117,7 @@ class Queue:
         notify(b"READY=1")
         works: list[Coroutine[Any, Any, None]] = [self._firm.watch(), giver.serve(), self._agents.expire_for_ever()]
         works += [self._recover_for_ever(), self._know_jobs_for_ever()]
+        works += [Retention(self._core, self._options.terms.history).serve()]
         try:
             async with asyncio.TaskGroup() as group:
                 for work in works:
@@ -239,6 +241,8 @@ def add_bounds(found: argparse._ArgumentGroup) -> None:
     add("--most-weight", type=heavy, default=DEFAULT_WEIGHT, metavar="N", help=told_weight)
     told_budget = "bytes of the disk that a user's work may take, and again in each week (default: 1G)"
     add("--budget", type=size, default=2**30, metavar="SIZE", help=told_budget)
+    told_days = f"for which tasks that have ended, and their outputs, are kept ({told}"
+    add("--keep-history", type=partial(number, 1, 36_500), default=30, metavar="DAYS", help=told_days)
     add("--most-in-firm", type=most, metavar="N", help="tasks in firm at a time (what its arena holds)")
     add("--no-rounds", action="store_true", help="ask for no rounds, where firmd has --after")
     add("--lease", type=timeout, default=60.0, metavar="SECONDS", help=f"after which a silent agent's runs end ({told}")
@@ -256,7 +260,7 @@ def read_options(arguments: list[str] | None) -> tuple[Options, str]:
         Operators(given.operators),
         Bounds(given.most_of_user, given.most_in_all, given.most_in_array, given.budget, given.most_weight),
         Giving(given.most_in_firm, not given.no_rounds),
-        Terms(given.lease, given.margin),
+        Terms(given.lease, given.margin, given.keep_history * DAY_SECONDS),
         given.http,
     )
     return options, given.log_format

@@ -25,6 +25,7 @@ HISTORY = "number index user job submitted attempt agent machine run began ended
 HISTORY += ["output", "host"]
 # What a task that ended without an attempt has of one.
 UNBEGUN = dict.fromkeys("agent machine run began seconds output host".split(), None) | {"attempt": 0}
+DROPPING = "dropping"  # the row of `meta` with the number of a submission whose rows are being removed
 MOST_LIVE = 2**64  # sums of checksums are taken modulo this
 
 
@@ -296,6 +297,39 @@ def shown_of(row: dict[str, Any]) -> dict[str, Any]:
     name = Name(row["number"], row["index"])
     index = None if name.index == SINGLE else name.index
     return {"task": str(name), **{key: row[key] for key in HISTORY}, "index": index}
+
+
+class Old(NamedTuple):
+    """A submission, and whether it may be removed."""
+
+    number: int
+    sent: float
+    is_over: bool  # all its tasks ended before the time
+    rows: int  # of tasks and attempts
+
+
+def older(connection: sqlite3.Connection, number: int, before: float, count: int) -> list[Old]:
+    """The submissions behind a number, so many of them."""
+    words = "SELECT number, sent FROM submission WHERE number > ? ORDER BY number LIMIT ?"
+    heads = fetched(connection, words, (number, count))
+    words = "SELECT number, COUNT(*) + SUM(attempts), COUNT(outcome) = COUNT(*) AND MAX(ended) < ? FROM task"
+    old = [one for one, sent in heads if sent < before]
+    rows = fetched(connection, f"{words} WHERE number IN ({marks_of(old)}) GROUP BY number", [before, *old])
+    found = {one: (bool(is_over), size) for one, size, is_over in rows}
+    return [Old(one, sent, *found.get(one, (False, 0))) for one, sent in heads]
+
+
+def rest(connection: sqlite3.Connection, count: int) -> tuple[str, list[Any]] | None:
+    """A statement, with values, that removes some rows of a submission that is being removed; None where none is. Its
+    tasks go first: attempts without them are missed nowhere."""
+    number = value_of(connection, DROPPING)
+    if number is None:
+        return None
+    for table, keys in (("task", "number, idx"), ("attempt", "number, idx, attempt")):
+        rows = fetched(connection, f"SELECT {keys} FROM {table} WHERE number = ? LIMIT ?", (int(number), count))
+        if rows:
+            return f"DELETE FROM {table} WHERE ({keys}) = ({marks_of(rows[0])})", rows
+    return "DELETE FROM meta WHERE name = ?", [(DROPPING,)]
 
 
 def conditions_of(asked: Asked, ended: str) -> tuple[str, list[Any]]:

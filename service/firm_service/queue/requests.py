@@ -130,8 +130,9 @@ register, first: {"ask": "register", "agent": "a1", "id": ID, "machines": {"m1":
   id: that of the agent's own state folder (History.name), new with a new one. RUN: {"token": T, "task": firm's name,
   "run": 7, "machine": "m1", "state": "claiming"|"starting"|"running"|"ended"}: all that are open, and all whose end is
   not acknowledged yet.
-  -> {"register": {"lease": 60, "beat": 20, "end": [T, ..], "keep": [T, ..], "state": firmd's id|null}}
-  end: runs that must end (the queue knows nothing of them, or took them as lost). keep: runs that go on although firm
+  -> {"register": {"lease": 60, "beat": 20, "history": 2592000, "end": [T, ..], "keep": [T, ..],
+   "state": firmd's id|null}}
+  history: seconds for which outputs of runs that have ended are kept. end: runs that must end (the queue knows nothing of them, or took them as lost). keep: runs that go on although firm
   lacks their rows; all others end or stay as firm's rows say. Open attempts of this id that are not among `runs` count
   as lost once the lease that they had, the longest grace and the margin are over. The same id again takes over from its
   older connection, once that is gone or silent. Machines that an agent no longer names are drained. A machine on an
@@ -485,7 +486,8 @@ class Requests:
             return [task for task in tasks if task.outcome in outcomes and chosen.has(task)], 0
         owner = chosen.user if user.is_operator else user.number
         asked = Asked(user=owner, job=chosen.job, outcomes=outcomes, limit=chosen.limit)
-        read, more = await self._core.store.read(lambda connection: queries.ended(connection, asked, MOST_READ_BYTES))
+        query = partial(queries.ended, asked=asked, most_bytes=MOST_READ_BYTES)
+        read, more = await self._core.store.read(query, aside=True)
         await self.know(user, [submission.user for submission in read])
         return [task for submission in read for task in submission.tasks.values()], more
 
@@ -510,7 +512,7 @@ class Requests:
         limit = DEFAULT_ROWS if given_limit is None else given_limit
         asked = Asked(user, fields.name("job"), frozenset(), None, None, name, limit + 1)
         asked = replace(asked, since=fields.time("since"), until=fields.time("until"))
-        rows = await self._core.store.read(lambda connection: queries.history(connection, asked))
+        rows = await self._core.store.read(lambda connection: queries.history(connection, asked), aside=True)
         await self.know(caller.user, [row["user"] for row in rows])
         for row in rows:
             row["user"] = name_of(row["user"])

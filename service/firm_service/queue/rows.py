@@ -323,3 +323,10 @@ class Rows:
 
 def place_of(need: Need) -> Place:
     return SINGLE if need.index is None else need.index, need.is_ok
+    def drop(self, number: int) -> None:
+        """Drops a submission that has ended, where it is there."""
+        if number in self._ended:
+            self._ended_tasks -= len(self.submissions[number].tasks)
+            self._ended_bytes -= self.submissions[number].size
+            del self._ended[number], self.submissions[number]
+

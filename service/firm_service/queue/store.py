@@ -30,10 +30,11 @@ from ..faults import RESTORE, Exit, Fault
 from ..files import replace_synced
 from ..logs import ERROR, INFO, tell
 from .audit import audit
-from .queries import COMMIT, Point, point_of, value_of
+from .queries import COMMIT, DROPPING, Point, point_of, value_of
 from .reach import Reach
 from .rows import Attempt, Spec, Submission, Task
 from .seals import Damaged, is_damage, places, seal, sealed, words_seal
+from .spending import WEEK_SECONDS
 from .upgrades import OLDER, upgrade
 
 DATABASE, ID, REACH = "queue.db", "id", "reach"
@@ -107,9 +108,11 @@ class Store:
         self.on_damage: Callable[[Fault], None] = lambda fault: None
         self._writer = ThreadPoolExecutor(1, "store")
         self._reader = ThreadPoolExecutor(1, "reader")
+        self._lister = ThreadPoolExecutor(1, "lister")
         self._auditor = ThreadPoolExecutor(1, "auditor")
         self._connection: sqlite3.Connection  # of the writer's thread alone
         self._reading: sqlite3.Connection  # of the reader's
+        self._listing: sqlite3.Connection  # of the lister's
         self._auditing: sqlite3.Connection | None = None  # while the whole database is looked at
         self._is_closing = threading.Event()
         self._reach: Reach  # of the writer's
@@ -123,7 +126,8 @@ class Store:
         """Opens the database, or makes it; raises `Fault`."""
         loop = asyncio.get_running_loop()
         await loop.run_in_executor(self._writer, self._begin)
-        await loop.run_in_executor(self._reader, self._begin_reading)
+        self._reading = await loop.run_in_executor(self._reader, self._begin_reading)
+        self._listing = await loop.run_in_executor(self._lister, self._begin_reading)
         self._auditing = sqlite3.connect(self._uri, uri=True, timeout=BUSY_SECONDS, check_same_thread=False)
         audited = loop.run_in_executor(self._auditor, audit, self._auditing, self._is_closing)
         if sum(path.stat().st_size for path in (self.path, self._log) if path.exists()) <= AT_START_BYTES:
@@ -142,9 +146,10 @@ class Store:
             self._auditing.interrupt()
         self._auditor.shutdown()
         await loop.run_in_executor(self._reader, lambda: self._reading.close())
+        await loop.run_in_executor(self._lister, lambda: self._listing.close())
         await loop.run_in_executor(self._writer, self._end)
-        self._reader.shutdown()
-        self._writer.shutdown()
+        for thread in (self._reader, self._lister, self._writer):
+            thread.shutdown()
 
     def _end(self) -> None:
         self._connection.close()
@@ -163,20 +168,22 @@ class Store:
     def _damage(self, error: BaseException | None) -> Fault:
         return Fault(Exit.JOURNAL, f"{self.path} is damaged ({error}); {RESTORE}")
 
-    async def read(self, query: Callable[[sqlite3.Connection], Result]) -> Result:
-        """What a query, of one statement or many, gives of all that has been committed by one moment."""
+    async def read(self, query: Callable[[sqlite3.Connection], Result], aside: bool = False) -> Result:
+        """What a query, of one statement or many, gives of all that has been committed by one moment. One that may take
+        long is made aside, where no submission waits for it."""
+        reader, connection = (self._lister, self._listing) if aside else (self._reader, self._reading)
         try:
             return await asyncio.get_running_loop().run_in_executor(self._reader, self._read, query)
         except sqlite3.Error as error:
             self._require_whole(error)
             raise
 
-    def _read(self, query: Callable[[sqlite3.Connection], Result]) -> Result:
-        self._reading.execute("BEGIN")
+    def _read(self, query: Callable[[sqlite3.Connection], Result], connection: sqlite3.Connection) -> Result:
+        connection.execute("BEGIN")
         try:
-            return query(self._reading)
+            return query(connection)
         finally:
-            self._reading.rollback()
+            connection.rollback()
 
     def _require_whole(self, error: BaseException) -> None:
         """Ends the queue where an error is damage."""
@@ -296,6 +303,20 @@ class Store:
         self._write("DELETE FROM mark WHERE machine = ?", [(machine,)])
         self._count(self._seals.pop(("mark", machine), 0), 0)
 
+    def drop(self, number: int, is_large: bool) -> None:
+        """Removes a submission that has ended; of a large one all but tasks and attempts, which `drop_rows` does."""
+        for table in ("submission", "need", "request", *(() if is_large else ("task", "attempt"))):
+            self._write(f"DELETE FROM {table} WHERE number = ?", [(number,)])
+        if is_large:
+            self._write(REPLACE["meta"], sealed("meta", [(DROPPING, str(number))]))
+
+    def drop_rows(self, words: str, rows: Sequence[tuple[Any, ...]]) -> None:
+        self._write(words, rows)
+
+    def forget_spent(self) -> None:
+        """Removes what was spent so long ago that all of it has come back."""
+        self._write("DELETE FROM spent WHERE at < ?", [(time.time() - WEEK_SECONDS,)])
+
     def _replace(self, table: str, values: tuple[str, ...]) -> None:
         """Writes a row that counts as long as it is there."""
         (row,) = sealed(table, [values])
@@ -414,8 +435,8 @@ class Store:
         except OSError as error:
             raise Fault(Exit.STATE, f"cannot use {self.folder}: {error}") from error
 
-    def _begin_reading(self) -> None:
-        self._reading = sqlite3.connect(self._uri, uri=True, timeout=BUSY_SECONDS)
+    def _begin_reading(self) -> sqlite3.Connection:
+        return sqlite3.connect(self._uri, uri=True, timeout=BUSY_SECONDS)
 
     def _opened(self) -> sqlite3.Connection:
         """The database, after a look at whose it is and how far it goes."""
