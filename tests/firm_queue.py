@@ -31,6 +31,7 @@ import queue_damage
 import queue_gaps
 import queue_hostile
 import queue_kills
+import queue_parts
 import queue_tables
 from harness import program
 from harness.checks import Check, Skipped, Suite, require, run_script, run_suites
@@ -734,7 +735,7 @@ CHECKS: tuple[Callable[[Setup], None], ...] = (
 
 
 def checks(setup: Setup) -> dict[str, Check]:
-    found: dict[str, Check] = {**queue_tables.CHECKS, **queue_gaps.TABLES}
+    found: dict[str, Check] = {**queue_tables.CHECKS, **queue_gaps.TABLES, **queue_parts.CHECKS}
     for check in CHECKS:
         found[check.__name__.replace("_", " ")] = partial(check, setup)
     found["kills"] = partial(

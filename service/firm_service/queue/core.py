@@ -17,11 +17,11 @@ from . import queries, states
 from .backlog import Backlog
 from .fields import Json, Refused, Submit
 from .firm import Firm, Heard
-from .rows import MOST_NUMBER, SINGLE, WORD_BYTES, Attempt, Job, Name, Need, Rows, Submission, Task
+from .rows import IDLE, MOST_NUMBER, SINGLE, WORD_BYTES, Attempt, Job, Name, Need, Rows, Submission, Task, idle_state
 from .spending import ATTEMPT_BYTES, NEED_BYTES, Spending, rows_bytes
 from .states import Change, End, Facts, Judgement, Needed, Past, State
 from .store import Store, text_of
-from .users import User, job_of
+from .users import User, job_of, owner_of
 
 MOST_ENDED = 20_000  # tasks that have ended and are kept in memory
 MOST_ENDED_BYTES = 2**26  # that their words take
@@ -237,6 +237,8 @@ class Core:
     def _job(self, user: User, one: Submit, jobs: dict[str, Job]) -> tuple[str, Job]:
         """The job of a submission, and its name."""
         name = one.job or job_of(user.number)
+        if (owner := owner_of(name)) not in (None, user.number):  # it would have no name where others have that
+            raise Refused("not-yours", f"the job {name} is the user {owner}'s")
         found = jobs.get(name) or self.rows.jobs.get(name)
         if found is not None and found.user != user.number and one.job is None:
             name = f"u{user.number}"
@@ -272,6 +274,8 @@ class Core:
         """Looks what these wait for; from then on each end is counted once. Ends what never may begin."""
         for submission in submissions:
             submission.open_needs = sum(self.needed(need).live > 0 for need in submission.needs)
+            if submission.live:
+                self.rows.recount(submission)
         for submission in submissions:
             judgement = states.judge(self.needed(need, forgotten) for need in submission.needs)
             if judgement == Judgement.UNMET and submission.live:
@@ -307,7 +311,7 @@ class Core:
                 continue
             changed.append(task)
             if change != Change.CANCEL:
-                task.is_held = change == Change.HOLD
+                self.rows.hold(task, change == Change.HOLD)
             elif task.open_attempt is None:
                 self.end(task, State.CANCELLED)
             else:
@@ -341,13 +345,9 @@ class Core:
                     continue
                 waiter.open_needs -= 1
                 if not waiter.is_blocked:
+                    self.rows.recount(waiter)
                     self._dirty.update(one.name for one in self.rows.live_of([waiter]))
 
-    # Attempts
-
-    def begin_attempt(self, task: Task, attempt: Attempt) -> None:
-        task.attempts, task.attempt, task.told, task.since = attempt.number, attempt, "", None
-        self.rows.open[attempt.token] = attempt
     def may_drop(self, number: int) -> bool:
         """Whether nothing in memory rests on a submission."""
         submission = self.rows.submissions.get(number)
@@ -359,6 +359,11 @@ class Core:
         self.rows.drop(number)
         self.store.drop(number, is_large)
 
+    # Attempts
+
+    def begin_attempt(self, task: Task, attempt: Attempt) -> None:
+        task.attempts, task.attempt, task.told, task.since = attempt.number, attempt, "", None
+        self.rows.open[attempt.token] = attempt
         self.store.save_attempt(attempt)
         self.store.save([task])
         self._spend(task.submission.user, ATTEMPT_BYTES)
@@ -397,6 +402,10 @@ class Core:
         self.firm.changed.set()
 
     def look_at_all(self) -> None:
+        if self.firm.state != self._aged_by:  # rounds are counted anew
+            self._aged_by = self.firm.state
+            for task in self.rows.live_tasks():
+                task.since = None
         self.backlog, self.strangers = Backlog(), set()
         self.unwanted.clear()
         self.others.clear()
@@ -413,10 +422,6 @@ class Core:
         self.news = asyncio.Event()
         if not heard.words:
             self.leaving.clear()
-        if self.firm.state != self._aged_by:  # rounds are counted anew
-            self._aged_by = self.firm.state
-            for task in self.rows.live_tasks():
-                task.since = None
             self.look_at_all()
         elif heard.words[0] in ("task", "done"):
             row = heard.words[2] if heard.words[0] == "task" else heard.words[1]
@@ -443,12 +448,15 @@ class Core:
             is_ours = row is not None and row.job == task.submission.job
             if states.is_wanted(self.facts(task)) and (row is None or is_ours):
                 self.unwanted.discard(name.firm)
+                if task.since is None and task.open_attempt is None:
+                    task.since = book.rounds - (book.waited(row) if row is not None else 0)
                 if row is None:
                     self.backlog.put(task)
                 else:
                     self.backlog.drop(task)
                 continue
             self.backlog.drop(task)
+            task.since = None
             if row is not None:
                 self.unwanted.add(name.firm)
             else:
@@ -459,15 +467,12 @@ class Core:
         if more > 0 and name.number > self.rows.last_number or name.number in self.others:
             self.others[name.number] += more
             if not self.others[name.number]:
-                if task.since is None and task.open_attempt is None:
-                    task.since = book.rounds - (book.waited(row) if row is not None else 0)
                 del self.others[name.number]
 
     async def know_strangers(self) -> None:
         """Finds out whether rows that memory does not have are those of tasks that ended."""
         numbers = {name.number for name in self.strangers if name.number <= self.rows.last_number}
         found = await self.store.read(lambda connection: queries.submissions(connection, numbers)) if numbers else []
-            task.since = None
         for submission in found:
             if submission.number not in self.rows.submissions and not submission.live:
                 self.rows.add(submission)
@@ -495,14 +500,42 @@ class Core:
     def counts(self, tasks: Iterable[Task]) -> Counter[str]:
         return Counter(states.state_of(self.facts(task)).value for task in tasks)
 
+    def begun(self) -> dict[Name, Task]:
+        """The queue's tasks that have a row in firm, or a process."""
+        rows, names = self.firm.rows, [attempt.name for attempt in self.rows.open.values()]
+        names += filter(None, map(Name.of_firm, rows.tasks if rows is not None else ()))
+        found = ((name, self.rows.task(name)) for name in names)
+        return {name: task for name, task in found if task is not None and task.is_live}
+
+    def states_of(self, user: int | None) -> Counter[str]:
+        """How many tasks that have not ended are in each state, of a user or of all."""
+        idle = self.rows.counts if user is None else self.rows.counts_of_user.get(user, Counter())
+        return self.states_with(idle, [task for task in self.begun().values() if user in (None, task.submission.user)])
+
+    def states_with(self, idle: Counter[str], begun: Sequence[Task]) -> Counter[str]:
+        """The states of tasks that are counted as if they were idle, some of which are not."""
+        counts = Counter(idle)
+        counts.subtract(map(idle_state, begun))
+        return counts + self.counts(begun)
+
+    def oldest(self) -> dict[str, float]:
+        """When the oldest task in each state was submitted."""
+        found, begun = dict[str, float](), Counter[tuple[int, str]]()
+        for task in self.begun().values():
+            state, sent = states.state_of(self.facts(task)).value, task.submission.sent
+            found[state] = min(found.get(state, sent), sent)
+            begun[task.submission.number, idle_state(task)] += 1
+        for place, state in enumerate(IDLE):
+            for number in self.rows.numbers[state]:
+                submission = self.rows.submissions[number]
+                if submission.counted[place] > begun[number, state]:
+                    found[state] = min(found.get(state, submission.sent), submission.sent)
+                    break
+        return found
+
     def ages(self) -> tuple[Counter[str], dict[str, float]]:
         """How many tasks are in each state, and when the oldest of them was submitted."""
-        counts, oldest = Counter[str](), dict[str, float]()
-        for task in self.rows.live_tasks():
-            state = states.state_of(self.facts(task)).value
-            counts[state] += 1
-            oldest[state] = min(oldest.get(state, task.submission.sent), task.submission.sent)
-        return counts, oldest
+        return self.states_of(None), self.oldest()
 
 
 class Ends:

@@ -520,7 +520,8 @@ class Requests:
 
     async def _machines(self, caller: Caller, given: Json) -> list[Json]:
         Fields(given, ["ask"])
-        return self._lists.machines(self._visible(caller.user))
+        begun = self._core.begun().values()
+        return self._lists.machines(task for task in begun if caller.user.may_see(task.submission.user))
 
     async def _list_agents(self, caller: Caller, given: Json) -> list[Json]:
         Fields(given, ["ask"])
@@ -528,13 +529,13 @@ class Requests:
 
     async def _jobs(self, caller: Caller, given: Json) -> list[Json]:
         Fields(given, ["ask"])
-        return self._lists.jobs(self._visible(caller.user))
+        return self._lists.jobs(caller.user)
 
     async def _status(self, caller: Caller, given: Json) -> Json:
         Fields(given, ["ask"])
         core, user = self._core, caller.user
         found: Json = {"tenant": self._tenant, "user": user.name, "is_operator": user.is_operator, "version": VERSION}
-        found |= {"states": dict(core.counts(self._visible(user))), "firm": self._lists.firm()}
+        found |= {"states": dict(core.states_of(user.sees)), "firm": self._lists.firm()}
         found |= {"writes": {"are_good": not core.store.trouble, "reason": core.store.trouble}}
         found |= {"quota": None if user.is_operator else core.bounds.of_user, "started": self._started}
         spent = {"spent": round(core.spending.of(user.number)), "most": core.bounds.budget}

@@ -3,6 +3,8 @@
 from __future__ import annotations
 
 import re
+from bisect import bisect_left, insort
+from collections import Counter
 from collections.abc import Iterable, Iterator, Sequence
 from dataclasses import dataclass, field
 from typing import Any
@@ -121,9 +123,9 @@ class Task:
     due: float = 0.0  # by CLOCK_BOOTTIME, from which it may be tried again
     told: str = ""  # why it was not begun when it was claimed last
     seal: int = 0  # the checksum of its row until it has ended
+    since: int | None = None  # the rounds that the tenant had had when it could begin; None where it can't, or has begun
 
     @property
-    since: int | None = None  # the rounds that the tenant had had when it could begin; None where it can't, or has begun
     def name(self) -> Name:
         return Name(self.submission.number, self.index)
 
@@ -164,6 +166,8 @@ class Submission:
     failed: int = 0  # tasks that ended otherwise than with `done`
     open_needs: int = 0  # that have not ended
     first_need: int = 0  # the place of the first of them, or of one before it
+    held: int = 0  # tasks that have not ended and are held
+    counted: tuple[int, int, int] = (0, 0, 0)  # as `Rows` has counted its tasks: held, blocked and others
     size: int = 0  # bytes of memory that its words take
 
     @property
@@ -198,6 +202,14 @@ class Job:
     user: int
     weight: int
     live: int = 0
+    counts: Counter[str] = field(default_factory=Counter)  # of these, by `IDLE`
+
+
+IDLE = ("held", "blocked", "queued")  # the state of a task that has no row in firm and no process
+
+
+def idle_state(task: Task) -> str:
+    return IDLE[0] if task.is_held else IDLE[1] if task.submission.is_blocked else IDLE[2]
 
 
 Place = tuple[int, bool]  # what is waited for: an index, or SINGLE for all tasks; and whether it must end with `done`
@@ -215,6 +227,10 @@ class Rows:
         self.live = self.bytes = 0
         self.waiters: dict[int, dict[Place, set[int]]] = {}  # submissions that wait, by number and place
         self.open: dict[str, Attempt] = {}  # attempts that have not ended, by token
+        # Tasks that have not ended, by `IDLE` as if none had a row in firm or a process: in all, and by user.
+        self.counts: Counter[str] = Counter()
+        self.counts_of_user: dict[int, Counter[str]] = {}
+        self.numbers: dict[str, list[int]] = {state: [] for state in IDLE}  # of submissions that have such tasks, sorted
         self._ended: dict[int, None] = {}  # submissions that have ended, in the order of their ends
         self._ended_tasks = self._ended_bytes = 0
 
@@ -227,7 +243,9 @@ class Rows:
         self.submissions[submission.number] = submission
         self.last_number = max(self.last_number, submission.number)
         if submission.live:
+            submission.held = sum(task.is_held for task in submission.tasks.values() if task.is_live)
             self._count(submission, submission.live)
+            self.recount(submission)
             self._count_bytes(submission, submission.size)
             for need in submission.needs:
                 if (needed := self.submissions.get(need.number)) is not None and not needed.live:
@@ -245,12 +263,37 @@ class Rows:
         submission = task.submission
         submission.live -= 1
         submission.failed += task.outcome != "done"
+        submission.held -= task.is_held
+        self.recount(submission)
         self._count(submission, -1)
         if not submission.live:
             self._count_bytes(submission, -submission.size)
             for need in submission.needs:
                 self._forget_waiter(submission.number, need)
             self._keep_ended(submission)
+
+    def hold(self, task: Task, is_held: bool) -> None:
+        """Takes in that a task which has not ended is held, or is not any more."""
+        task.submission.held += is_held - task.is_held
+        task.is_held = is_held
+        self.recount(task.submission)
+
+    def recount(self, submission: Submission) -> None:
+        """Takes in that other tasks of a submission are held or blocked, or have ended."""
+        free = submission.live - submission.held
+        now = (submission.held, free, 0) if submission.is_blocked else (submission.held, 0, free)
+        before, submission.counted = submission.counted, now
+        of_job = self.jobs[submission.job].counts
+        of_user = self.counts_of_user.setdefault(submission.user, Counter())
+        for state, old, new in zip(IDLE, before, now):
+            for counts in (self.counts, of_user, of_job) if old != new else ():
+                counts[state] += new - old
+            if not old and new:
+                insort(self.numbers[state], submission.number)
+            elif old and not new:
+                del self.numbers[state][bisect_left(self.numbers[state], submission.number)]
+        if not any(of_user.values()):
+            del self.counts_of_user[submission.user]
 
     def waiting_for(self, task: Task) -> list[tuple[int, bool]]:
         """Submissions of whose needs one is met by the end of a task, or, as is said of each, never will be. Each need
@@ -297,6 +340,13 @@ class Rows:
         for number in dropped:
             del self._ended[number], self.submissions[number]
 
+    def drop(self, number: int) -> None:
+        """Drops a submission that has ended, where it is there."""
+        if number in self._ended:
+            self._ended_tasks -= len(self.submissions[number].tasks)
+            self._ended_bytes -= self.submissions[number].size
+            del self._ended[number], self.submissions[number]
+
     def _keep_ended(self, submission: Submission) -> None:
         if submission.number not in self._ended:
             self._ended[submission.number] = None
@@ -323,10 +373,3 @@ class Rows:
 
 def place_of(need: Need) -> Place:
     return SINGLE if need.index is None else need.index, need.is_ok
-    def drop(self, number: int) -> None:
-        """Drops a submission that has ended, where it is there."""
-        if number in self._ended:
-            self._ended_tasks -= len(self.submissions[number].tasks)
-            self._ended_bytes -= self.submissions[number].size
-            del self._ended[number], self.submissions[number]
-

@@ -173,7 +173,7 @@ class Store:
         long is made aside, where no submission waits for it."""
         reader, connection = (self._lister, self._listing) if aside else (self._reader, self._reading)
         try:
-            return await asyncio.get_running_loop().run_in_executor(self._reader, self._read, query)
+            return await asyncio.get_running_loop().run_in_executor(reader, self._read, query, connection)
         except sqlite3.Error as error:
             self._require_whole(error)
             raise

@@ -90,3 +90,9 @@ def job_of(number: int) -> str:
     if re.fullmatch(rf"[a-z0-9-]{{1,{MOST_NAME}}}", name) and not name.isdigit():
         return name
     return f"u{number}"
+
+
+def owner_of(job: str) -> int | None:
+    """The user for whom such a name is kept; None where it is anybody's."""
+    found = re.fullmatch(r"u(0|[1-9][0-9]*)", job)
+    return int(found[1]) if found is not None else None
