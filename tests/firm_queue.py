@@ -36,6 +36,7 @@ import queue_tables
 from harness import program
 from harness.checks import Check, Skipped, Suite, require, run_script, run_suites
 from harness.deployed import SERVICE, columns
+from firm_service.queue.seals import seal
 from queue_kit import FOREVER, Case, Client, Firmd, Json, Setup, Size, asked_of_firm, claim_place, numbers
 
 CHECKS_AT_A_TIME = 8  # they mostly wait
@@ -549,21 +550,24 @@ def damage(setup: Setup) -> None:
             case.refuses(5, told)
             require(path.read_bytes() == text, f"{told}: it was changed")
         path.write_bytes(good)
-        changed(path, "PRAGMA user_version = 4")
-        case.refuses(5, "version 4")
+        changed(path, "PRAGMA user_version = 5")
+        case.refuses(5, "version 5")
         if not setup.is_quick:
-            changed(path, "PRAGMA user_version = 3", "UPDATE meta SET value = 'x' WHERE name = 'id'")
+            changed(path, "PRAGMA user_version = 4", *of_meta("id", "x"))
             case.refuses(5, "another state")
-            changed(path, "UPDATE meta SET value = 'beta' WHERE name = 'tenant'")
+            changed(path, *of_meta("tenant", "beta"))
             case.refuses(4, "the tenant beta")
         path.unlink()
         case.refuses(5, "is missing")
         path.write_bytes(good)
-        older = ["ALTER TABLE attempt DROP COLUMN runs_as", "DROP TABLE spent", "PRAGMA user_version = 1"]
-        changed(path, *older)
         case.start()
         with case.client() as client:
             require(client.ask("status")["last_number"] == 2 and len(client.ask("tasks")) == 2_001, "all is there")
+
+
+def of_meta(name: str, value: str) -> list[str]:
+    """A change of a row of `meta`, with its checksum."""
+    return [f"UPDATE meta SET (value, sum) = ('{value}', {seal('meta', (name, value))}) WHERE name = '{name}'"]
 
 
 def changed(path: Path, *words: str) -> None:

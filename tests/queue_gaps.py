@@ -215,12 +215,11 @@ def admitted_again(setup: Setup) -> None:
         client.submit(*FOREVER, array=[1, 3])
         case.until(lambda: len(case.world.running()) == 3, "three run")
         require(operator.ask(b"+ retire alpha") == b"+ ok retired alpha", "retired")
-        case.until(lambda: not case.world.running(), "they are ended")
         admission = f"+ admit {Size(churn=50_000).row('alpha')}"
         require(operator.ask(admission.encode()) == b"+ ok admitted alpha", "admitted")
-        case.until(lambda: len(case.world.running()) == 3, "they run again", SOON_SECONDS)
+        case.until(lambda: len(case.world.processes) == 6 and len(case.world.running()) == 3, "they run again")
         client.submit(*FOREVER)
-        case.until(lambda: len(case.world.running()) == 4, "so does a further one", SOON_SECONDS)
+        case.until(lambda: len(case.world.running()) == 4, "so does a further one")
         case.world.require_single()
 
 
@@ -232,11 +231,11 @@ def late_agent(setup: Setup) -> None:
         case.until(lambda: len(asked_of_firm(case, "machines")) == 2, "both are there")
         first.kill()
         client.submit(*FOREVER, array=[1, 4])
-        case.until(lambda: len(case.world.running()) == 4, "all run on the other one", SOON_SECONDS)
+        case.until(lambda: len(case.world.running()) == 4, "all run on the other one")
         require({process.machine for process in case.world.processes} == {"m2"}, case.world.processes)
         case.agent("a1", first.disk, m1=4)
         client.submit(*FOREVER, array=[1, 4])
-        case.until(lambda: len(case.world.running()) == 8, "it has them again once it is back", SOON_SECONDS)
+        case.until(lambda: len(case.world.running()) == 8, "it has them again once it is back")
         case.world.require_single()
 
 

@@ -5,24 +5,32 @@ from __future__ import annotations
 import asyncio
 import os
 import random
+import sqlite3
 import tempfile
 import time
 from collections.abc import Callable
+from contextlib import closing
 from pathlib import Path
 from types import SimpleNamespace
 from typing import Any
 
 from harness.checks import Missed, require
-from harness.deployed import agent_events, books, supervisor
-from firm_service import agent_state, agent_sweep
+from harness.deployed import Book, Doors, Firm, agent_events, books, supervisor
+from firm_service import agent_state, agent_sweep, view
 from firm_service.agent_state import Key, State, StateError
 from firm_service.queue import retention
+from firm_service.queue.agents import Agents, Terms
 from firm_service.queue.core import Core
+from firm_service.queue.firm import Heard
+from firm_service.queue.giving import Machines
 from firm_service.queue.states import Change, state_of
-from queue_damage import ANN, BOB, Parts, attempt, submit
+from firm_service.queue.store import APPLICATION, DATABASE, REACH
+from firm_service.queue.users import User
+from queue_damage import ANN, BOB, Parts, attempt, fill, read_all, submit
 from queue_kit import FAST
 from queue_tables import book_of
 
+ROOT = User(0, True)
 DAY = 86_400.0
 STEPS = 400  # of changes in the check of counters
 
@@ -97,6 +105,41 @@ def counters(folder: Path) -> None:
     asyncio.run(play())
 
 
+def kept_ages(folder: Path) -> None:
+    """What waits has waited as long once rows are told anew, and begins anew once it has begun."""
+
+    async def play() -> None:
+        parts = Parts(folder)
+        await parts.begin()
+        core, first, other = parts.core, book_of(64, 256), book_of(64, 256)
+        first.rounds = 100
+
+        def hear(book: Book) -> None:
+            core.firm._books, core.firm.reason = SimpleNamespace(tenants={"alpha": book}), ""  # type: ignore[assignment]
+            core.hear(Heard([], ""))
+            core.sort()
+
+        hear(first)
+        task = submit(core, ANN, weight=10)
+        core.sort()
+        first.rounds = 130
+        heavy = submit(core, ROOT, job="heavy", weight=39)
+        core.sort()
+        ages = [(first.rounds - (one.since or 0), core.backlog.first()) for one in (task, heavy)]
+        hear(other)
+        ages += [(other.rounds - (one.since or 0), core.backlog.first()) for one in (task, heavy)]
+        require([age for age, _ in ages] == [30, 0, 30, 0], ages)
+        require(core.backlog.first() == (-40, 1, -1), core.backlog.first())
+        other.tasks["1"] = books.Task("u1001", 1, (), 0, None, "m1")
+        attempt(core, task, None, 1)
+        core.look_at([task.name])
+        core.sort()
+        require(task.since is None and task not in core.backlog, "it has begun")
+        await parts.store.close()
+
+    asyncio.run(play())
+
+
 def old_history(folder: Path) -> None:
     """What ended long ago is removed in small commits, a large array too, and nothing else; numbers go on."""
 
@@ -146,6 +189,153 @@ COUNTS = (
     "SELECT (SELECT COUNT(*) FROM submission), (SELECT COUNT(*) FROM task), (SELECT COUNT(*) FROM attempt),"
     " (SELECT COUNT(*) FROM need), (SELECT COUNT(*) FROM request)"
 )
+
+
+def late_agents(folder: Path) -> None:
+    """Firm loses the machines of an agent that is away, or late with a beat, but for one on which something runs."""
+
+    async def play() -> None:
+        parts = Parts(folder)
+        agents = Agents(parts.core, Terms(60.0, 10.0))
+        await agents.begin(await parts.begin())
+        session = Session()
+        await agents.register(session, {"ask": "register", "agent": "a1", "id": "alpha-1", "machines": {"m1": 4, "m2": 8}})
+        found = [agents.machines()]
+        task = submit(parts.core, ANN)
+        attempt(parts.core, task, None, 7)
+        agents.leave(session)
+        require(parts.core.firm.changed.is_set(), "it is looked at at once")
+        found.append(agents.machines())
+        await agents.register(session, {"ask": "register", "agent": "a1", "id": "alpha-1", "machines": {"m1": 4, "m2": 8}})
+        found.append(agents.machines())
+        agents.agents["a1"].answered -= 31.0
+        found.append(agents.machines())
+        both, busy = Machines({"m1": 4, "m2": 8}, set()), Machines({"m1": 4}, {"m2"})
+        require(found == [both, busy, both, busy], found)
+        await parts.store.close()
+        again = Parts(folder)
+        agents = Agents(again.core, Terms(60.0, 10.0))
+        await agents.begin(await again.begin())
+        found = [agents.machines()]
+        agents.agents["a1"].answered -= 6.0
+        found.append(agents.machines())
+        require(found == [Machines({}, set()), Machines({}, {"m2"})], f"behind a restart: {found}")
+        await again.store.close()
+
+    asyncio.run(play())
+
+
+class Session:
+    """A connection of an agent."""
+
+    user = User(0, True)
+
+    def tell(self, words: dict[str, Any]) -> None:
+        """Nobody hears it."""
+
+    def end(self) -> None:
+        """It has no end."""
+
+    def is_gone(self) -> bool:
+        return False
+
+
+def counted_anew(folder: Path) -> None:
+    """What a tenant had answered before it was retired, or answers meanwhile, holds up nothing of what comes after."""
+
+    async def play() -> None:
+        firm = Firm(Doors("alpha", folder / "view", folder / "lines"), lambda heard: None)
+        lines = iter(range(2, 100))
+
+        def tell(line: str, reply: str) -> None:
+            firm._take_in({"number": next(lines), "line": line, "reply": reply})
+
+        firm._take_in({"book": view.rows_of(book_of(64, 256)), "state": "first"} | {})
+        for number in range(1, 4):
+            tell(f"alpha job j{number} 1", f"alpha {number} ok")
+        firm._answered = 3
+        require(firm.is_current, "all is heard of")
+        tell("+ retire alpha", "+ ok retired alpha")
+        require(firm.reason == "firm has no tenant alpha", firm.reason)
+        tell("+ admit alpha,64,256,1000000,0,5", "+ ok admitted alpha")
+        require(firm.is_current and firm.book is not None and not firm.book.jobs, "it has begun anew")
+
+        async def answer(reader: asyncio.StreamReader, writer: asyncio.StreamWriter) -> None:
+            await reader.readline()
+            tell("+ retire alpha", "+ ok retired alpha")
+            tell("+ admit alpha,64,256,1000000,0,5", "+ ok admitted alpha")
+            writer.write(b"alpha 500 ok\n")
+
+        async with await asyncio.start_unix_server(answer, folder / "lines"):
+            (reply,) = await firm.say(["show"])
+            require(reply.number == 500 and firm.is_current, f"{reply} of the tenant that was retired meanwhile")
+            firm.close()
+
+    asyncio.run(play())
+
+
+OLDER = """
+CREATE TABLE meta (name TEXT PRIMARY KEY, value TEXT NOT NULL) WITHOUT ROWID;
+CREATE TABLE submission (
+    number INTEGER PRIMARY KEY, user INTEGER NOT NULL, job TEXT NOT NULL, weight INTEGER NOT NULL, spec TEXT NOT NULL,
+    first INTEGER, last INTEGER, sent REAL NOT NULL);
+CREATE INDEX submission_job ON submission (job);
+CREATE TABLE request (
+    user INTEGER NOT NULL, key TEXT NOT NULL, answer TEXT NOT NULL, PRIMARY KEY (user, key)) WITHOUT ROWID;
+CREATE TABLE need (
+    number INTEGER NOT NULL, place INTEGER NOT NULL, needs INTEGER NOT NULL, idx INTEGER, is_ok INTEGER NOT NULL,
+    PRIMARY KEY (number, place)) WITHOUT ROWID;
+CREATE TABLE task (
+    number INTEGER NOT NULL, idx INTEGER NOT NULL, is_held INTEGER NOT NULL, is_cancelled INTEGER NOT NULL,
+    failures INTEGER NOT NULL, lost INTEGER NOT NULL, outcome TEXT, status INTEGER, reason TEXT NOT NULL, ended REAL,
+    attempts INTEGER NOT NULL, PRIMARY KEY (number, idx)) WITHOUT ROWID;
+CREATE INDEX task_live ON task (number) WHERE outcome IS NULL;
+CREATE TABLE attempt (
+    number INTEGER NOT NULL, idx INTEGER NOT NULL, attempt INTEGER NOT NULL, agent TEXT NOT NULL,
+    agent_id TEXT NOT NULL, machine TEXT NOT NULL, run INTEGER NOT NULL, token TEXT NOT NULL UNIQUE,
+    claimed REAL NOT NULL, began REAL, ended REAL, seconds REAL, outcome TEXT, status INTEGER, reason TEXT NOT NULL,
+    output TEXT, host TEXT, is_kept INTEGER NOT NULL, runs_as INTEGER,
+    PRIMARY KEY (number, idx, attempt)) WITHOUT ROWID;
+CREATE TABLE agent (name TEXT PRIMARY KEY, id TEXT NOT NULL, machines TEXT NOT NULL) WITHOUT ROWID;
+CREATE TABLE mark (machine TEXT PRIMARY KEY, mark TEXT NOT NULL) WITHOUT ROWID;
+CREATE TABLE spent (user INTEGER PRIMARY KEY, bytes REAL NOT NULL, at REAL NOT NULL);
+"""
+
+
+def make_older(state: Path) -> None:
+    """Makes the database what a queue of version 3 would have made of it."""
+    path, old = state / DATABASE, state / "older"
+    with closing(sqlite3.connect(path)) as connection:
+        connection.execute("ATTACH ? AS older", (str(old),))
+        for words in filter(str.strip, OLDER.split(";")):
+            connection.execute(words.replace("CREATE TABLE ", "CREATE TABLE older.").replace("INDEX ", "INDEX older."))
+        for (table,) in connection.execute("SELECT name FROM older.sqlite_schema WHERE type = 'table'").fetchall():
+            names = ", ".join(row[1] for row in connection.execute(f"PRAGMA older.table_info({table})"))
+            rest = " WHERE name <> 'commit'" if table == "meta" else ""
+            connection.execute(f"INSERT INTO older.{table} ({names}) SELECT {names} FROM main.{table}{rest}")
+        connection.execute("PRAGMA older.application_id = %d" % APPLICATION)
+        connection.execute("PRAGMA older.user_version = 3")
+        connection.commit()
+    with closing(sqlite3.connect(old)) as connection:
+        connection.execute("PRAGMA journal_mode = WAL")
+    old.replace(path)
+    (state / REACH).unlink()
+
+
+def older_database(folder: Path) -> None:
+    """A database of an older queue goes on with all that it has; an end of its upgrade in the midst changes nothing."""
+    state = folder / "state"
+    state.mkdir()
+    asyncio.run(fill(state, 12, lambda at: None))
+    wanted = asyncio.run(read_all(state))
+    make_older(state)
+    require(asyncio.run(read_all(state)) == wanted, "not all is there")
+    require(asyncio.run(read_all(state)) == wanted, "not all is there the second time")
+    make_older(state)
+    with closing(sqlite3.connect(state / DATABASE)) as connection:
+        connection.executescript("ALTER TABLE attempt DROP COLUMN runs_as; DROP TABLE spent; PRAGMA user_version = 1")
+    found = asyncio.run(read_all(state))
+    require(found[0][:5] == wanted[0][:5] and found[0][5] == {} and found[1] == wanted[1], "of the first version")
 
 
 # An agent's state.
@@ -271,7 +461,11 @@ def old_runs(folder: Path) -> None:
 
 CHECKS: dict[str, Callable[[], None]] = {
     "counters": within(counters),
+    "kept ages": within(kept_ages),
     "old history": within(old_history),
+    "late agents": within(late_agents),
+    "older database": within(older_database),
+    "counted anew": within(counted_anew),
     "short file": within(short_file),
     "torn event": within(torn_event),
     "sealed files": within(sealed_files),

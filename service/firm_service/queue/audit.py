@@ -31,7 +31,7 @@ def audit(connection: sqlite3.Connection, is_over: Event) -> None:
         connection.execute("BEGIN")  # all is of one moment
         ((told,),) = connection.execute("PRAGMA integrity_check(1)").fetchall()
         if told != "ok":
-            raise Damaged(told)
+            raise Damaged(" ".join(told.split()))
         for table in COLUMNS:
             require_rows(connection, table, is_over)
         for what, words in LACKING.items():

@@ -13,6 +13,7 @@ from collections.abc import Iterable, Mapping, Sequence
 from dataclasses import dataclass
 from types import MappingProxyType
 
+from ..books import Book
 from . import queries, states
 from .backlog import Backlog
 from .fields import Json, Refused, Submit
@@ -77,7 +78,7 @@ class Core:
         self.ends = Ends()
         self.ended_attempts: Counter[str] = Counter()  # since the start, by outcome
         self.news = asyncio.Event()  # set once more is heard of firm; there is another one then
-        self._aged_by: str | None = None  # the state of firmd whose rounds the waits of tasks are counted by
+        self._aged_by: Book | None = None  # the rows by whose rounds the waits of tasks are counted
         self._dirty: set[Name] = set()  # tasks of which it is to be looked whether firm should have them
 
     # Memory
@@ -401,11 +402,15 @@ class Core:
         self._dirty.update(names)
         self.firm.changed.set()
 
+    def _keep_ages(self) -> None:
+        """Has tasks have waited as long where rows that are told anew count their rounds anew."""
+        before, self._aged_by = self._aged_by, self.firm.rows
+        more = (self._aged_by.rounds if self._aged_by is not None else 0) - (before.rounds if before is not None else 0)
+        for task in self.rows.live_tasks() if before is not self._aged_by else ():
+            task.since = task.since + more if task.since is not None else None
+
     def look_at_all(self) -> None:
-        if self.firm.state != self._aged_by:  # rounds are counted anew
-            self._aged_by = self.firm.state
-            for task in self.rows.live_tasks():
-                task.since = None
+        self._keep_ages()
         self.backlog, self.strangers = Backlog(), set()
         self.unwanted.clear()
         self.others.clear()
