@@ -29,7 +29,7 @@ from agent_kit import AGENT, LIMIT_SECONDS, SOON_SECONDS, SSH, WAITS_FOR_GO
 from agent_kit import Case, children, command, connections_to, is_there, words_of
 from firm_service.agent import BEGUN_AT_A_TIME
 from harness.checks import Check, Missed, Skipped, Suite, print_skipped, require, run_script, run_suites
-from harness.deployed import SERVICE, Follower, feed
+from harness.deployed import SERVICE, Follower, feed, supervisor
 from harness.files import write_program
 from harness.ports import free_port
 from harness.program import ROOT, add_program
@@ -652,7 +652,7 @@ def faulty_starts() -> None:
         case.table("", {})
         (case.folder / "state").mkdir()
         for text, words in {
-            "no event\n": "line 1 is not an event",
+            'no event\n{"event": "state", "name": "n"}\n': "line 1 is not an event",
             '{"event": "end", "run": 7}\n': "line 1 doesn't follow",
         }.items():
             (case.folder / "state/events.jsonl").write_text(text)

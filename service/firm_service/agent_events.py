@@ -29,9 +29,9 @@ def status_of_shell(status: int) -> int:
 
 
 class Untold(NamedTuple):
-    """An event of a run that the queue is to be told."""
+    """An event of a run that is to be reported to the queue."""
 
-    count: int  # its place among all events
+    place: int  # among all events
     told: Event  # as the queue takes it
     run: Run
     event: Event
@@ -90,18 +90,18 @@ class Events(Observer):
 
     def refused(self, why: str) -> None:
         """The queue does not take the first: it is told in the plainest form, and where it has that, not at all."""
-        count, event, run, recorded = self.untold[0]
+        place, event, run, recorded = self.untold[0]
         run.tell(f": the queue does not take the event {event['event']}: {why}", WARNING)
         plain = plain_of(event)
         if event == plain:
             self.acknowledged(1)
         else:
-            self.untold[0] = Untold(count, plain, run, recorded)
+            self.untold[0] = Untold(place, plain, run, recorded)
 
     def acknowledged(self, count: int) -> None:
         """The queue has written that many."""
         for _ in range(min(count, len(self.untold))):
-            self._cursor = (self._name, self.untold.popleft().count)
+            self._cursor = (self._name, self.untold.popleft().place)
         if not self.untold:
             self.are_there.clear()
         self._aside.begin(Work(partial(self._keep, *self._cursor)))

@@ -24,13 +24,13 @@ class Hangs(OSError):
 
 
 def sealed(row: dict[str, Any], at: int) -> bytes:
-    """A line with a checksum, and the place at which the write of it begins: all before that was synced then."""
+    """Return a line with a checksum and the place where its write began: everything before that place was synced."""
     text = json.dumps({**row, AT: at})
     return b'%b, "sum": "%08x"}\n' % (text[:-1].encode(), crc32(text.encode()))
 
 
 def opened(line: bytes) -> dict[str, Any] | None:
-    """The event of a line; None where it is none, or not as it was written. An older agent's has no checksum."""
+    """Return the event of a line, None if it is damaged. An older agent's line has no checksum."""
     try:
         row = json.loads(line)
         if not isinstance(row, dict) or not line.endswith(b"\n"):
@@ -55,7 +55,7 @@ class EventFile:
         self._take_back()
 
     def write(self, rows: Sequence[dict[str, Any]]) -> None:
-        """Raises OSError where the rows are not on the disk; nothing of them counts then."""
+        """Write rows. Raise OSError, with no row written, if the disk fails."""
         self._take_back()
         self._has_more = True
         text = b"".join(sealed(row, self.size) for row in rows)
@@ -73,14 +73,14 @@ class EventFile:
         self._has_more = False
 
     def drop(self) -> None:
-        """Takes back the last write."""
+        """Discard the last write."""
         self.size -= self._last
         self._last, self._has_more = 0, True
         with suppress(OSError):
             self._take_back()
 
     def replace(self, rows: Sequence[dict[str, Any]]) -> None:
-        """Has the file consist of these rows; raises OSError where it is as it was."""
+        """Replace the file's rows. Raise OSError, with the file unchanged, if the disk fails."""
         text = b"".join(sealed(row, 0) for row in rows)
         replace_synced(self._path, text, 0o644)
         file = os.open(self._path, os.O_RDWR | os.O_APPEND)

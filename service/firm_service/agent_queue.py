@@ -147,7 +147,7 @@ class QueueSource:
         self._finished: dict[Key, float] = {}  # since when tasks have done their work and firm still has them
         self._beats: deque[float] = deque()  # of the link, that are not known to have been heard: when they were sent
         self._told = ""  # why the queue can't be used, as last told
-        self._history = HISTORY_SECONDS  # for which the queue keeps what has ended
+        self._history = HISTORY_SECONDS  # of ended tasks, in seconds, that the queue keeps
         self._aside = Aside()  # sweeps: the disk may hang
 
     @property
@@ -352,7 +352,7 @@ class QueueSource:
                     continue
 
     async def _sweep_for_ever(self) -> None:
-        """Removes what old runs have left. What was begun meanwhile is too young."""
+        """Remove folders of old runs from time to time. A run that begins meanwhile is too young."""
         while True:
             runs = [*self.agent.history.runs.values(), *(run for _, run in self.events.pending())]
             needed = frozenset(run.folder or run.name for run in runs)

@@ -7,9 +7,9 @@ the events alone are lost.
 A run's folder is `runs/NAME/TASK.RUN`: NAME is drawn with the first event, RUN counts all runs. It may be removed once
 the run has ended.
 
-Each event has a checksum, and the place at which the write of it begins: so a write that a power cut has torn, of which
-nothing was done, is told from damage, before which stands what was synced. An agent of the queue's shortens its file
-once that has grown: only what is open, or not acknowledged, is written anew.
+Each event has a checksum and the place where its write began. So a start tells damage from a write that a power cut
+has torn: no later write follows a torn one. An agent of the queue rewrites its file once that has grown, with open runs
+and unacknowledged events alone.
 """
 
 from __future__ import annotations
@@ -38,7 +38,7 @@ HERE = ""  # the host that is this one
 TOKEN_BYTES = 16  # so many that no two of the runs of all times are the same
 FIRST = frozenset({"state", "start", "keep"})  # events on which something rests that a restart would not find out
 
-MOST_FILE = 2**20  # bytes of the file before it is shortened, or as much as then, where that is more
+MAX_FILE = 2**20  # bytes of the file before it is shortened; more if so much is needed
 
 _BEGINNING = re.compile(rb'\{"(?:time|event)":')  # of an event
 
@@ -135,7 +135,7 @@ class History:
 
 
 def events_of(path: Path) -> Iterator[tuple[Event, int]]:
-    """The events of a file, each with its end. Ends before a write that was torn; raises `StateError` at damage."""
+    """Yield the events of a file, each with its end, up to a torn write. Raise `StateError` at damage."""
     with open(path, "rb") as file:
         end = 0
         for number, line in enumerate(file, 1):
@@ -149,8 +149,8 @@ def events_of(path: Path) -> Iterator[tuple[Event, int]]:
 
 
 def is_synced_past(text: bytes, place: int) -> bool:
-    """Whether an event behind the first of a text shows that what stands there was on the disk: it was written only
-    then. An older agent's says nothing of that, so it is taken for one that was."""
+    """Return whether a later event in the text was written once its first one was synced. An older agent's event says
+    nothing of that, and counts as such a one."""
     for found in _BEGINNING.finditer(text, 1):
         event = opened(text[found.start() : text.find(b"\n", found.start()) + 1])
         if event is not None and event.get(AT, place + 1) > place:
@@ -159,27 +159,27 @@ def is_synced_past(text: bytes, place: int) -> bool:
 
 
 def start_of(run: Run) -> Event:
-    """The event of a run's start, as far as it is needed any more."""
+    """Return the event of a run's start, with the fields that a restart needs."""
     place: Event = {"job": run.job, "machine": run.machine, "folder": run.folder, "token": run.token}
     place |= {} if run.host is None else {"ssh": run.host, "runs": run.runs}
     return {"event": "start", "run": run.number, **asdict(run.key), **place}
 
 
 class Observer:
-    """Hears of each event, with its run as it is before that."""
+    """Follows the events, each with its run as it was before."""
 
     def begin(self) -> None:
-        """All are told anew."""
+        """Start again: all events follow."""
 
     def heard(self, event: Event, run: Run | None) -> None:
-        """Takes in an event."""
+        """Follow an event."""
 
     def pending(self) -> list[tuple[Event, Run]]:
-        """Events, with their runs, that are still to be heard of after a restart."""
+        """Return the events that a restart must report again, with their runs."""
         return []
 
     def count_before(self, events: int) -> int:
-        """How many events an agent must have forgotten so that these, and no others, are not pending."""
+        """Return the count of dropped events with which these many more are all acknowledged."""
         return 0
 
 
@@ -205,9 +205,7 @@ class State:
     written, and nobody waits for the disk for long.
     """
 
-    def __init__(
-        self, folder: Path, owner: str, is_patient: bool = False, observer: Observer | None = None
-    ) -> None:
+    def __init__(self, folder: Path, owner: str, is_patient: bool = False, observer: Observer | None = None) -> None:
         """Raises `StateError`, and OSError where the folder can't be read and written."""
         require_own(folder)
         folder.mkdir(mode=0o750, parents=True, exist_ok=True)
@@ -221,7 +219,7 @@ class State:
         self.is_patient, self.observer = is_patient, observer or Observer()
         self._unwritten: list[Entry] = []  # that wait for the disk
         self._late: Late | None = None
-        self._most_file = MOST_FILE
+        self._max_file = MAX_FILE
         self._aside = Aside()
         (folder / OPEN).mkdir(exist_ok=True)
         unknown = self._replay({path.name for path in (folder / OPEN).iterdir()})
@@ -328,12 +326,11 @@ class State:
     # Shortening
 
     def _shorten(self) -> None:
-        """Has the file consist of what is needed any more, once it is long. Where the disk does not take that, it stays
-        as it is."""
-        if not self.is_patient or self.waits or self._file.size <= self._most_file:
+        """Rewrite a long file with the events that a restart needs. Keep the old file if the disk fails."""
+        if not self.is_patient or self.waits or self._file.size <= self._max_file:
             return
         rows = self._rows()
-        self._most_file = 2 * self._file.size  # it is tried again then
+        self._max_file = 2 * self._file.size  # it is tried again then
         work = self._aside.begin(Work(partial(self._file.replace, rows)))
         try:
             work.wait(HANG_SECONDS)
@@ -345,10 +342,12 @@ class State:
             self._shortened(rows)
 
     def _rows(self) -> list[Event]:
-        """Events from which a restart would know the same."""
+        """Return the events that a restart needs."""
         history, pending = self.history, self.observer.pending()
         told = {run.number for event, run in pending if event["event"] == "running"}
-        rows: list[Event] = [{"event": "tally", **asdict(key), **asdict(tally)} for key, tally in history.tallies.items()]
+        rows: list[Event] = [
+            {"event": "tally", **asdict(key), **asdict(tally)} for key, tally in history.tallies.items()
+        ]
         for run in history.runs.values():
             rows.append(start_of(run))
             if run.has_run and run.number not in told:
@@ -367,10 +366,10 @@ class State:
         return rows
 
     def _shortened(self, rows: list[Event] | None) -> None:
-        """Takes in that the file consists of these events, and has them told anew, with what waits for the disk."""
+        """Follow a rewrite of the file: its events, and those that wait for the disk, are counted again."""
         if rows is None:
             return
-        self._most_file = max(MOST_FILE, 2 * self._file.size)
+        self._max_file = max(MAX_FILE, 2 * self._file.size)
         self.observer.begin()
         history = History()
         for event in [*rows, *(entry.event for entry in self._unwritten)]:

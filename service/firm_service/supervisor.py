@@ -129,7 +129,7 @@ class Outcome(NamedTuple):
     seconds: float | None = None  # that it took, of a leased run
 
     def text(self) -> str:
-        """What only leased runs have is left out for others."""
+        """Return it as JSON, without the fields that only leased runs have if they are empty."""
         return sealed({name: value for name, value in self._asdict().items() if value is not None or name == "fault"})
 
 
@@ -155,12 +155,12 @@ def short(word: str) -> str:
 
 
 def sealed(row: dict[str, Any]) -> str:
-    """An object as JSON, with a checksum of its other fields."""
+    """Return an object as JSON with a checksum."""
     return json.dumps({**row, SUM: zlib.crc32(json.dumps(row).encode())})
 
 
 def opened(text: str) -> Any:
-    """What a sealed text has; one of an older supervisor has no checksum. Raises ValueError where it is damaged."""
+    """Return the object of a sealed text. Raise ValueError if it is damaged. An older supervisor wrote no checksum."""
     row = json.loads(text)
     if isinstance(row, dict) and SUM in row:
         wanted = row.pop(SUM)
@@ -170,7 +170,7 @@ def opened(text: str) -> Any:
 
 
 def sync_names(folder: Path) -> None:
-    """Waits until the names in a folder, and its own, are on the disk."""
+    """Sync the names in a folder, and its own."""
     for place in (folder, folder.parent):
         descriptor = os.open(place, os.O_RDONLY | os.O_DIRECTORY)
         try:
@@ -180,7 +180,7 @@ def sync_names(folder: Path) -> None:
 
 
 def write_whole(path: Path, text: str) -> None:
-    """The file has all of the text, on the disk, or is not there; its name may not be."""
+    """Write a file, synced, whole or not at all. Its name may not be synced."""
     draft = path.with_name(f"{path.name}.{os.getpid()}")
     with open(draft, "w") as file:
         file.write(text)
@@ -200,7 +200,7 @@ class Claim(NamedTuple):
 
     @staticmethod
     def of(folder: Path) -> Claim:
-        """Raises OSError where nobody has claimed the run, and ValueError where the claim is damaged."""
+        """Return the claim of a run. Raise OSError if there is none, ValueError if it is damaged."""
         held = opened((folder / "process").read_text())
         if held is None:
             return Claim(None)
@@ -673,7 +673,7 @@ def keep(request: Request, command: str | list[str], group: Group | None, writin
     while True:
         try:
             write_whole(folder / "status", outcome.text())
-            return sync_names(folder)  # a power cut would have the work done again
+            return sync_names(folder)  # otherwise a power cut could run it again
         except FileNotFoundError:  # the folder was removed
             return
         except OSError:  # the disk is full: the work is done and must not be done again
