@@ -235,11 +235,11 @@ def files_of_the_queue(setup: Setup) -> None:
 def begin(case: Case, ask: Callable[[list[Json]], list[Json]], name: str, outputs: dict[str, str]) -> None:
     """Has an agent, on a machine of its own, begin tasks of a user with these outputs, by their names."""
     agent: Json = {"ask": "register", "agent": name, "id": name, "machines": {f"m{name}": len(outputs)}}
-    ask([{**agent, "runs": []}])
     for task, output in outputs.items():
         submit = {"ask": "submit", "command": FOREVER, "dir": "/tmp", "output": str(case.folder / output)}
         (answer,) = as_user(ANN, case.socket, [submit])
         require(str(answer["submit"]["number"]) == task, answer)
+    ask([{**agent, "runs": []}])
     runs: list[Json] = []
     for number, task in enumerate(outputs):
         place = claim_place(case, task)

@@ -27,7 +27,7 @@ LAG_SECONDS = 1.0  # for which a claim waits until the queue has heard what its 
 ASK_AGAIN_SECONDS = 1.0
 BEATS = 3  # in a lease
 SILENT_BEATS = 1.5  # without one for this long an agent is called silent
-FIRST_SECONDS = 5.0  # for agents to come back to a queue that has begun
+AWAY_SECONDS = 5.0  # for an agent to return once its connection has ended, or the queue has begun
 DAY_SECONDS = 86_400.0
 CORDONED, DRAINED, GONE = "cordoned", "drained", "gone"  # marks of machines; gone: no agent names it any more
 
@@ -38,7 +38,7 @@ class Terms:
 
     lease: float = 60.0
     margin: float = 10.0  # until its runs are taken for lost, after the lease and the longest grace
-    history: float = 30 * DAY_SECONDS  # for which agents keep outputs of what has ended, as the queue does the rest
+    history: float = 30 * DAY_SECONDS  # seconds for which ended tasks and their outputs are kept
 
     @property
     def beat(self) -> float:
@@ -73,7 +73,8 @@ class Agent:
     is_waiting: bool = False  # with a claim
     runs: frozenset[str] | None = None  # what its last beat said that it has
     since: float | None = None  # when it registered
-    is_late: bool = False  # as was last looked at
+    left: float = field(default_factory=boot_time)  # when its last connection ended, by CLOCK_BOOTTIME
+    is_late: bool = False  # at the last look
 
     @property
     def silence(self) -> float:
@@ -149,7 +150,7 @@ class Agents:
             for machine, slots in agent.machines.items() if (agent.is_known or is_late) and not agent.is_lost else ():
                 mark = self.core.marks.get(machine)
                 if mark is None and is_late and not loads[machine] and not kept[machine]:
-                    unwanted.add(machine)  # nothing could begin there; what runs on others' machines would be ended
+                    unwanted.add(machine)  # no task could begin there; draining a busy one would end its tasks
                 elif not agent.is_known:
                     continue
                 elif mark is None and not kept[machine]:
@@ -293,8 +294,7 @@ class Agents:
         """Takes in that a connection has ended."""
         for agent in self.agents.values():
             if agent.session is session:
-                agent.session = None
-                self.core.firm.changed.set()
+                agent.session, agent.left = None, boot_time()
                 tell(WARNING, f"{agent.name}: its connection has ended; its runs go on for the lease", agent=agent.name)
 
     def over_at(self, agent: Agent) -> float:
@@ -530,8 +530,9 @@ class Agents:
         return f"the agent {agent.name} is {state} for {agent.silence:.0f} s"
 
     def is_late(self, agent: Agent) -> bool:
-        """Whether nothing is to be given to an agent now."""
-        return self.state_of(agent) != "up" and (agent.is_known or agent.silence > FIRST_SECONDS)
+        """Return whether an agent is to get no task now. One that has just left may be back at once."""
+        state = self.state_of(agent)
+        return state == "silent" or state == "away" and boot_time() - agent.left > AWAY_SECONDS
 
     def state_of(self, agent: Agent) -> str:
         if agent.is_lost:
