@@ -1,23 +1,27 @@
-"""Whether the queue serves a database of which a bit, a part, a file or the last commits are not as they were written.
+"""Damages a queue's state in each way that a disk or an operator may, and checks that the queue notices.
 
-Each trial begins with a copy of a state, as a clean stop or a kill leaves it, changes a file of it and has the queue's
-own parts read it. Either they report the damage, or all that they read is what the unchanged copy gives.
+Each trial copies a state that a clean stop or a kill has left, changes one of its files, and reads the copy with the
+queue's own parts. They must report the damage, or read the same as from an unchanged copy.
 """
 
 from __future__ import annotations
 
 import asyncio
+import os
 import random
 import shutil
+import signal
 import sqlite3
 import tempfile
 import time
 from collections import Counter
 from collections.abc import Callable
 from concurrent.futures import ProcessPoolExecutor
-from dataclasses import dataclass
-from functools import partial
+from dataclasses import dataclass, fields
+from functools import cache, partial
+from multiprocessing import Process, get_context
 from pathlib import Path
+from threading import Timer
 from typing import Any
 
 from harness.checks import require
@@ -32,7 +36,8 @@ from firm_service.queue.store import DATABASE, REACH, NotWritten, Store
 from firm_service.queue.users import User
 from queue_kit import FAST, Setup
 
-TRIALS, QUICK_TRIALS = 500, 40
+TRIALS, QUICK_TRIALS = 500, 20
+ROUNDS = 120  # of changes that make a state
 LOG = f"{DATABASE}-wal"
 KEYS = 40
 ANN, BOB = User(1_001), User(1_002)
@@ -60,7 +65,7 @@ def submit(core: Core, user: User, key: str | None = None, **more: Any) -> Task:
 
 
 def attempt(core: Core, task: Task, status: int | None, token: int) -> None:
-    """An attempt that ends with a status, or is open."""
+    """Add an attempt that ends with a status, or is open."""
     place = ("a1", "alpha-1", "m1", token, f"{token:032x}", time.time())
     made = Attempt(task.name, task.attempts + 1, *place, runs_as=ANN.number)
     core.begin_attempt(task, made)
@@ -69,8 +74,8 @@ def attempt(core: Core, task: Task, status: int | None, token: int) -> None:
         core.end_attempt(made, End("ended", status), 1.5)
 
 
-async def fill(folder: Path, rounds: int, keep: Callable[[int], None]) -> None:
-    """Makes a state of all kinds of rows, by many commits; `keep` is told after each round."""
+async def fill(folder: Path, rounds: int, keep: Callable[[int], None] = lambda at: None) -> None:
+    """Make a state with all kinds of rows, by many commits, and call `keep` after each round."""
     parts = Parts(folder)
     await parts.begin()
     core, store = parts.core, parts.store
@@ -94,7 +99,7 @@ async def fill(folder: Path, rounds: int, keep: Callable[[int], None]) -> None:
 
 
 async def read_all(folder: Path) -> Any:
-    """All that a queue over this state would serve; raises `Fault`."""
+    """Return all that a queue over this state would serve, or raise `Fault`."""
     parts = Parts(folder)
     try:
         kept = await parts.begin()
@@ -129,7 +134,7 @@ def all_of(kept: queries.Kept, connection: sqlite3.Connection) -> Any:
 
 def shown(row: Task | Attempt) -> tuple[Any, ...]:
     left_out = {"submission", "attempt"} if isinstance(row, Task) else set()
-    return tuple(getattr(row, name) for name in row.__slots__ if name not in left_out)
+    return tuple(getattr(row, each.name) for each in fields(row) if each.name not in left_out)
 
 
 # Trials.
@@ -137,10 +142,11 @@ def shown(row: Task | Attempt) -> tuple[Any, ...]:
 
 @dataclass(frozen=True)
 class Trial:
-    """What is done to a copy of a state: a seed, and what else there is to put in a file's place."""
+    """A change of one file in a copy of a state."""
 
     state: Path
-    older: tuple[Path, ...]  # earlier copies of the same
+    older: tuple[Path, ...]  # earlier copies of the same, to be put in its place
+    file: str
     seed: int
 
 
@@ -178,60 +184,69 @@ def put_back(path: Path, older: Path, draw: random.Random) -> str:
     return f"as in {older.name}"
 
 
-CHANGES = [flip] * 16 + [cut, empty, remove, put_back, put_back]
+CHANGES = [flip] * 8 + [cut, empty, remove, put_back]
 
 
 def tried(trial: Trial) -> tuple[str, str, str]:
-    """The file that was changed, how, and what came of it: `same`, `told`, or what is wrong."""
+    """Return the changed file, the change, and the result: `same`, `told`, or an error."""
     draw = random.Random(trial.seed)
     with tempfile.TemporaryDirectory(prefix="queue-damage-", dir=FAST) as name:
         folder = Path(name) / "state"
         shutil.copytree(trial.state, folder)
-        sizes = {each: (folder / each).stat().st_size for each in (DATABASE, LOG, REACH) if (folder / each).exists()}
-        chosen = draw.choices(list(sizes), [size if size > 1_000 else 10_000 for size in sizes.values()])[0]
         change = draw.choice(CHANGES)
-        what = change(folder / chosen, draw.choice(trial.older), draw)
+        what = f"{change.__name__}: {change(folder / trial.file, draw.choice(trial.older), draw)}"
         try:
             found = asyncio.run(read_all(folder))
         except Fault as fault:
             is_told = fault.status == Exit.JOURNAL and str(folder) in str(fault)
-            return chosen, f"{change.__name__}: {what}", "told" if is_told else f"{fault.status!r}: {fault}"
+            return trial.file, what, "told" if is_told else f"{fault.status!r}: {fault}"
         except Exception as error:
-            return chosen, f"{change.__name__}: {what}", repr(error)
-    wanted = asyncio.run(read_all_of_copy(trial.state))
-    return chosen, f"{change.__name__}: {what}", "same" if found == wanted else "served unseen"
+            return trial.file, what, repr(error)
+    return trial.file, what, "same" if found == whole(trial.state) else "served unseen"
 
 
-async def read_all_of_copy(state: Path) -> Any:
+@cache
+def whole(state: Path) -> Any:
+    """Return all that a queue over an unchanged copy of a state would serve."""
     with tempfile.TemporaryDirectory(prefix="queue-damage-", dir=FAST) as name:
-        return await read_all(Path(shutil.copytree(state, Path(name) / "state")))
+        return asyncio.run(read_all(Path(shutil.copytree(state, Path(name) / "state"))))
+
+
+def fill_until_killed(live: Path, base: Path) -> None:
+    """Fill a state, copy it from time to time, and kill this process amid a further commit."""
+
+    def keep(at: int) -> None:
+        if at in (10, 30, 100, 117):
+            shutil.copytree(live, base / f"at-{at}")
+        if at == ROUNDS - 1:
+            Timer(0.02, os.kill, (os.getpid(), signal.SIGKILL)).start()
+
+    asyncio.run(fill(live, 10 * ROUNDS, keep))
 
 
 def damaged(setup: Setup) -> None:
-    """No bit, cut, lost or older file of a state is served unseen, behind a clean stop or a kill."""
+    """No changed bit, cut, missing or older file is served unseen, after a clean stop or a kill."""
     count = QUICK_TRIALS if setup.is_quick else TRIALS
     with tempfile.TemporaryDirectory(prefix="queue-damage-", dir=FAST) as name:
-        base = Path(name)
-        live, rounds = base / "live", 120
-
-        def keep(at: int) -> None:
-            if at in (10, 30, 100, 117, rounds - 1):
-                shutil.copytree(live, base / f"at-{at}")
-
-        live.mkdir(mode=0o700)
-        asyncio.run(fill(live, rounds, keep))
-        killed, older = base / f"at-{rounds - 1}", tuple(base / f"at-{at}" for at in (10, 30, 100, 117))
-        require(
-            (killed / LOG).stat().st_size > 100_000 and not (live / LOG).exists(), "not what a kill and a stop leave"
-        )
-        trials = [Trial((live, killed)[at % 2], older, setup.seed + at) for at in range(count)]
-        with ProcessPoolExecutor(4) as pool:
+        stopped, killed = Path(name) / "stopped", Path(name) / "killed"
+        for state in (stopped, killed):
+            state.mkdir(mode=0o700)
+        process = Process(target=fill_until_killed, args=(killed, Path(name)))
+        process.start()
+        asyncio.run(fill(stopped, ROUNDS))
+        process.join()
+        require(process.exitcode == -signal.SIGKILL, f"it ended with {process.exitcode}")
+        require((killed / LOG).stat().st_size > 100_000 and not (stopped / LOG).exists(), "no log, or two")
+        older = tuple(Path(name) / f"at-{at}" for at in (10, 30, 100, 117))
+        files = [(killed, LOG), (killed, DATABASE), (killed, REACH), (stopped, DATABASE), (stopped, REACH)]
+        trials = [Trial(files[at % 5][0], older, files[at % 5][1], setup.seed + at) for at in range(count)]
+        with ProcessPoolExecutor(4, get_context("spawn")) as pool:
             results = list(pool.map(tried, trials))
-    found = Counter((chosen, change.split(":")[0], result) for chosen, change, result in results)
+    found = Counter((file, what.split(":")[0], result) for file, what, result in results)
     print(f"    seed {setup.seed}: {dict(found)}", flush=True)
     wrong = [result for result in results if result[2] not in ("same", "told")]
     require(not wrong, f"{len(wrong)} of {count}: {wrong[:10]}")
-    require(all(result[2] == "told" for result in results if result[0] == REACH or "put_back" in result[1]), results)
+    require(all(result == "told" for file, _, result in results if file == REACH), f"changes of {REACH}: {found}")
 
 
 CHECKS: tuple[Callable[[Setup], None], ...] = (damaged,)

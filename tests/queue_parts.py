@@ -1,4 +1,4 @@
-"""The queue's and the agent's own parts, asked without sockets and processes: what they count, remove and take back."""
+"""Checks of parts of the queue and the agent without sockets and processes: counters, retention, files of events."""
 
 from __future__ import annotations
 
@@ -8,8 +8,9 @@ import random
 import sqlite3
 import tempfile
 import time
+from collections import Counter
 from collections.abc import Callable
-from contextlib import closing
+from contextlib import closing, suppress
 from pathlib import Path
 from types import SimpleNamespace
 from typing import Any
@@ -18,15 +19,17 @@ from harness.checks import Missed, require
 from harness.deployed import Book, Doors, Firm, agent_events, books, supervisor
 from firm_service import agent_state, agent_sweep, view
 from firm_service.agent_state import Key, State, StateError
-from firm_service.queue import retention
+from firm_service.queue import retention, sums
 from firm_service.queue.agents import Agents, Terms
 from firm_service.queue.core import Core
 from firm_service.queue.firm import Heard
 from firm_service.queue.giving import Machines
-from firm_service.queue.states import Change, state_of
-from firm_service.queue.store import APPLICATION, DATABASE, REACH
+from firm_service.queue.listing import Lists
+from firm_service.queue.rows import Task
+from firm_service.queue.seals import columns, seal
+from firm_service.queue.states import Change, Facts, state_of
 from firm_service.queue.users import User
-from queue_damage import ANN, BOB, Parts, attempt, fill, read_all, submit
+from queue_damage import ANN, BOB, Parts, attempt, submit
 from queue_kit import FAST
 from queue_tables import book_of
 
@@ -36,7 +39,7 @@ STEPS = 400  # of changes in the check of counters
 
 
 def within(work: Callable[[Path], None]) -> Callable[[], None]:
-    """A check in a folder of its own."""
+    """Return a check that runs in an empty folder."""
 
     def check() -> None:
         with tempfile.TemporaryDirectory(prefix="queue-parts-", dir=FAST) as name:
@@ -48,8 +51,14 @@ def within(work: Callable[[Path], None]) -> Callable[[], None]:
 # What the queue counts.
 
 
+def know(core: Core, book: Book) -> None:
+    """Give the core these rows as those of firm."""
+    setattr(core.firm, "_books", SimpleNamespace(tenants={"alpha": book}))
+    core.firm.reason = ""
+
+
 def require_counts(core: Core) -> None:
-    """The counters are what a walk over all tasks gives."""
+    """The counters equal those of a walk over all tasks."""
     for user in (None, ANN.number, BOB.number):
         walked = [task for task in core.rows.live_tasks() if user in (None, task.submission.user)]
         wanted = core.counts(walked)
@@ -63,21 +72,27 @@ def require_counts(core: Core) -> None:
         begun = [task for task in core.begun().values() if task.submission.job == name]
         wanted = core.counts(task for task in core.rows.live_tasks() if task.submission.job == name)
         require(core.states_with(job.counts, begun) == wanted, name)
+    for submission in core.rows.submissions.values():
+        begun = [task for task in core.begun().values() if task.submission is submission]
+        states = core.states_of_submission(submission, begun)
+        require(states == core.counts(submission.tasks.values()), f"{submission.number}: {states}")
 
 
 def counters(folder: Path) -> None:
-    """After any changes the counters of states, by user and job, and the oldest are those of the tasks."""
+    """After random changes the counters by user, job and submission, and the oldest, equal those of a walk."""
 
     async def play() -> None:
         parts, draw = Parts(folder), random.Random(7)
         await parts.begin()
         core, book = parts.core, book_of(4_096, 65_536)
-        core.firm._books, core.firm.reason = SimpleNamespace(tenants={"alpha": book}), ""  # type: ignore[assignment]
+        know(core, book)
         for step in range(STEPS):
             live = list(core.rows.live_tasks())
             task = draw.choice(live) if live else None
             user = draw.choice([ANN, BOB])
-            match draw.choice(["submit", "array", "after", "hold", "release", "cancel", "give", "place", "begin", "end"]):
+            match draw.choice(
+                ["submit", "array", "after", "hold", "release", "cancel", "give", "place", "begin", "end"]
+            ):
                 case "submit":
                     submit(core, user, hold=draw.random() < 0.3)
                 case "array":
@@ -105,8 +120,33 @@ def counters(folder: Path) -> None:
     asyncio.run(play())
 
 
+def no_walks(folder: Path) -> None:
+    """Status, metrics, jobs and the page's submissions read counters, and look at no task that only waits."""
+
+    async def play() -> None:
+        parts = Parts(folder)
+        await parts.begin()
+        core, looked = parts.core, list[Task]()
+        for user in (ANN, BOB):
+            submit(core, user, array=[1, 2_000], hold=user is BOB)
+        facts = core.facts
+
+        def facts_of(task: Task) -> Facts:
+            looked.append(task)
+            return facts(task)
+
+        setattr(core, "facts", facts_of)
+        require(core.ages()[0] == Counter(queued=2_000, held=2_000), core.ages())
+        require(len(Lists(core, Agents(core, Terms())).jobs(ROOT)) == 2, "two jobs")
+        states = [core.states_of_submission(one, []) for one in core.rows.submissions.values()]
+        require(states == [{"queued": 2_000}, {"held": 2_000}] and not looked, f"{states}; {len(looked):,} looks")
+        await parts.store.close()
+
+    asyncio.run(play())
+
+
 def kept_ages(folder: Path) -> None:
-    """What waits has waited as long once rows are told anew, and begins anew once it has begun."""
+    """A waiting task keeps its wait when firm's rows are read again, and loses it once it begins."""
 
     async def play() -> None:
         parts = Parts(folder)
@@ -115,7 +155,7 @@ def kept_ages(folder: Path) -> None:
         first.rounds = 100
 
         def hear(book: Book) -> None:
-            core.firm._books, core.firm.reason = SimpleNamespace(tenants={"alpha": book}), ""  # type: ignore[assignment]
+            know(core, book)
             core.hear(Heard([], ""))
             core.sort()
 
@@ -141,7 +181,7 @@ def kept_ages(folder: Path) -> None:
 
 
 def old_history(folder: Path) -> None:
-    """What ended long ago is removed in small commits, a large array too, and nothing else; numbers go on."""
+    """Old submissions are removed in small commits, a large array too, and nothing else; numbers go on."""
 
     async def play() -> None:
         parts = Parts(folder)
@@ -162,7 +202,7 @@ def old_history(folder: Path) -> None:
             sizes.append(sum(len(rows) for _, rows in changes))
             commit(changes)
 
-        parts.store._commit = measured  # type: ignore[method-assign]
+        setattr(parts.store, "_commit", measured)
         retention.STEP_SECONDS = 0.0
         try:
             early = await retention.Retention(core, 30 * DAY).remove_old()
@@ -171,18 +211,45 @@ def old_history(folder: Path) -> None:
             retention.STEP_SECONDS = step
         require(early == 0, f"{early} were removed at once")
         require(count == 2, f"{count} were removed")
-        require(max(sizes) <= retention.MOST_ROWS + 5, f"a commit of {max(sizes)} changes")
+        require(max(sizes) <= retention.MAX_ROWS + 5, f"a commit of {max(sizes)} changes")
         await parts.store.close()
         again = Parts(folder)
         kept = await again.begin()
         require(kept.rows.last_number == 4 and sorted(kept.rows.submissions) == [3, 4], sorted(kept.rows.submissions))
-        rows = await again.store.read(lambda connection: connection.execute(COUNTS).fetchone())
+        rows = await again.store.read(lambda connection: tuple(connection.execute(COUNTS).fetchone()))
         require(rows == (2, 4, 1, 1, 0), f"submissions, tasks, attempts, needs, requests: {rows}")
         require(submit(again.core, ANN).submission.number == 5, "a number is given again")
         await again.store.close()
         require(waiter.submission.is_blocked, "what waits for others waits on")
 
     asyncio.run(play())
+
+
+def damaged_history(folder: Path) -> None:
+    """A task whose time of its end is damaged, so that it looks old, is reported and not removed."""
+
+    async def play() -> None:
+        parts = Parts(folder)
+        await parts.begin()
+        attempt(parts.core, submit(parts.core, ANN), 0, 1)
+        await parts.store.settled()
+        with closing(sqlite3.connect(parts.store.path)) as connection:
+            connection.execute("UPDATE task SET ended = 1.0")
+            connection.execute("UPDATE submission SET sent = 1.0, sum = ?", [seal_of_old(connection)])
+            connection.commit()
+        with suppress(sqlite3.Error):
+            await retention.Retention(parts.core, 30 * DAY).remove_old()
+        rows = await parts.store.read(lambda connection: tuple(connection.execute(COUNTS).fetchone()))
+        require(rows[0] == 1 and "of task" in str(parts.damage), f"{rows}, {parts.damage}")
+        await parts.store.close()
+
+    asyncio.run(play())
+
+
+def seal_of_old(connection: sqlite3.Connection) -> int:
+    """The checksum of the only submission as if it were old."""
+    (row,) = connection.execute(f"SELECT {columns('submission')} FROM submission").fetchall()
+    return seal("submission", (*row[:6], 1.0, *row[7:9]))
 
 
 COUNTS = (
@@ -192,32 +259,37 @@ COUNTS = (
 
 
 def late_agents(folder: Path) -> None:
-    """Firm loses the machines of an agent that is away, or late with a beat, but for one on which something runs."""
+    """Idle machines of an agent that is away, or late with a beat, leave firm; busy ones stay."""
 
     async def play() -> None:
         parts = Parts(folder)
         agents = Agents(parts.core, Terms(60.0, 10.0))
         await agents.begin(await parts.begin())
         session = Session()
-        await agents.register(session, {"ask": "register", "agent": "a1", "id": "alpha-1", "machines": {"m1": 4, "m2": 8}})
+        await agents.register(
+            session, {"ask": "register", "agent": "a1", "id": "alpha-1", "machines": {"m1": 4, "m2": 8}}
+        )
         found = [agents.machines()]
         task = submit(parts.core, ANN)
         attempt(parts.core, task, None, 7)
         agents.leave(session)
-        require(parts.core.firm.changed.is_set(), "it is looked at at once")
         found.append(agents.machines())
-        await agents.register(session, {"ask": "register", "agent": "a1", "id": "alpha-1", "machines": {"m1": 4, "m2": 8}})
+        agents.agents["a1"].left -= 6.0
+        found.append(agents.machines())
+        await agents.register(
+            session, {"ask": "register", "agent": "a1", "id": "alpha-1", "machines": {"m1": 4, "m2": 8}}
+        )
         found.append(agents.machines())
         agents.agents["a1"].answered -= 31.0
         found.append(agents.machines())
         both, busy = Machines({"m1": 4, "m2": 8}, set()), Machines({"m1": 4}, {"m2"})
-        require(found == [both, busy, both, busy], found)
+        require(found == [both, both, busy, both, busy], found)
         await parts.store.close()
         again = Parts(folder)
         agents = Agents(again.core, Terms(60.0, 10.0))
         await agents.begin(await again.begin())
         found = [agents.machines()]
-        agents.agents["a1"].answered -= 6.0
+        agents.agents["a1"].left -= 6.0
         found.append(agents.machines())
         require(found == [Machines({}, set()), Machines({}, {"m2"})], f"behind a restart: {found}")
         await again.store.close()
@@ -226,22 +298,22 @@ def late_agents(folder: Path) -> None:
 
 
 class Session:
-    """A connection of an agent."""
+    """A connection of an agent, which nobody reads."""
 
     user = User(0, True)
 
     def tell(self, words: dict[str, Any]) -> None:
-        """Nobody hears it."""
+        """Discard it."""
 
     def end(self) -> None:
-        """It has no end."""
+        """Do nothing."""
 
     def is_gone(self) -> bool:
         return False
 
 
 def counted_anew(folder: Path) -> None:
-    """What a tenant had answered before it was retired, or answers meanwhile, holds up nothing of what comes after."""
+    """Replies from before a tenant was retired, or from meanwhile, hold up nothing after it is admitted again."""
 
     async def play() -> None:
         firm = Firm(Doors("alpha", folder / "view", folder / "lines"), lambda heard: None)
@@ -274,68 +346,10 @@ def counted_anew(folder: Path) -> None:
     asyncio.run(play())
 
 
-OLDER = """
-CREATE TABLE meta (name TEXT PRIMARY KEY, value TEXT NOT NULL) WITHOUT ROWID;
-CREATE TABLE submission (
-    number INTEGER PRIMARY KEY, user INTEGER NOT NULL, job TEXT NOT NULL, weight INTEGER NOT NULL, spec TEXT NOT NULL,
-    first INTEGER, last INTEGER, sent REAL NOT NULL);
-CREATE INDEX submission_job ON submission (job);
-CREATE TABLE request (
-    user INTEGER NOT NULL, key TEXT NOT NULL, answer TEXT NOT NULL, PRIMARY KEY (user, key)) WITHOUT ROWID;
-CREATE TABLE need (
-    number INTEGER NOT NULL, place INTEGER NOT NULL, needs INTEGER NOT NULL, idx INTEGER, is_ok INTEGER NOT NULL,
-    PRIMARY KEY (number, place)) WITHOUT ROWID;
-CREATE TABLE task (
-    number INTEGER NOT NULL, idx INTEGER NOT NULL, is_held INTEGER NOT NULL, is_cancelled INTEGER NOT NULL,
-    failures INTEGER NOT NULL, lost INTEGER NOT NULL, outcome TEXT, status INTEGER, reason TEXT NOT NULL, ended REAL,
-    attempts INTEGER NOT NULL, PRIMARY KEY (number, idx)) WITHOUT ROWID;
-CREATE INDEX task_live ON task (number) WHERE outcome IS NULL;
-CREATE TABLE attempt (
-    number INTEGER NOT NULL, idx INTEGER NOT NULL, attempt INTEGER NOT NULL, agent TEXT NOT NULL,
-    agent_id TEXT NOT NULL, machine TEXT NOT NULL, run INTEGER NOT NULL, token TEXT NOT NULL UNIQUE,
-    claimed REAL NOT NULL, began REAL, ended REAL, seconds REAL, outcome TEXT, status INTEGER, reason TEXT NOT NULL,
-    output TEXT, host TEXT, is_kept INTEGER NOT NULL, runs_as INTEGER,
-    PRIMARY KEY (number, idx, attempt)) WITHOUT ROWID;
-CREATE TABLE agent (name TEXT PRIMARY KEY, id TEXT NOT NULL, machines TEXT NOT NULL) WITHOUT ROWID;
-CREATE TABLE mark (machine TEXT PRIMARY KEY, mark TEXT NOT NULL) WITHOUT ROWID;
-CREATE TABLE spent (user INTEGER PRIMARY KEY, bytes REAL NOT NULL, at REAL NOT NULL);
-"""
-
-
-def make_older(state: Path) -> None:
-    """Makes the database what a queue of version 3 would have made of it."""
-    path, old = state / DATABASE, state / "older"
-    with closing(sqlite3.connect(path)) as connection:
-        connection.execute("ATTACH ? AS older", (str(old),))
-        for words in filter(str.strip, OLDER.split(";")):
-            connection.execute(words.replace("CREATE TABLE ", "CREATE TABLE older.").replace("INDEX ", "INDEX older."))
-        for (table,) in connection.execute("SELECT name FROM older.sqlite_schema WHERE type = 'table'").fetchall():
-            names = ", ".join(row[1] for row in connection.execute(f"PRAGMA older.table_info({table})"))
-            rest = " WHERE name <> 'commit'" if table == "meta" else ""
-            connection.execute(f"INSERT INTO older.{table} ({names}) SELECT {names} FROM main.{table}{rest}")
-        connection.execute("PRAGMA older.application_id = %d" % APPLICATION)
-        connection.execute("PRAGMA older.user_version = 3")
-        connection.commit()
-    with closing(sqlite3.connect(old)) as connection:
-        connection.execute("PRAGMA journal_mode = WAL")
-    old.replace(path)
-    (state / REACH).unlink()
-
-
-def older_database(folder: Path) -> None:
-    """A database of an older queue goes on with all that it has; an end of its upgrade in the midst changes nothing."""
-    state = folder / "state"
-    state.mkdir()
-    asyncio.run(fill(state, 12, lambda at: None))
-    wanted = asyncio.run(read_all(state))
-    make_older(state)
-    require(asyncio.run(read_all(state)) == wanted, "not all is there")
-    require(asyncio.run(read_all(state)) == wanted, "not all is there the second time")
-    make_older(state)
-    with closing(sqlite3.connect(state / DATABASE)) as connection:
-        connection.executescript("ALTER TABLE attempt DROP COLUMN runs_as; DROP TABLE spent; PRAGMA user_version = 1")
-    found = asyncio.run(read_all(state))
-    require(found[0][:5] == wanted[0][:5] and found[0][5] == {} and found[1] == wanted[1], "of the first version")
+def cells(_: Path) -> None:
+    """A cell of CSV steers no terminal, breaks no line and is no formula; numbers stay."""
+    found = [sums.safe_cell(value) for value in ("=1\x1b[2J", "no such command: ./\n\r\x9b", "a b", -1.5, None)]
+    require(found == ["'=1\\x1b[2J", "no such command: ./\\n\\r\\x9b", "a b", -1.5, None], found)
 
 
 # An agent's state.
@@ -355,8 +369,8 @@ def run_once(state: State, number: int) -> None:
 
 
 def short_file(folder: Path) -> None:
-    """The file of an agent's events stays short however many runs it has had; what is open or not acknowledged stays."""
-    most, agent_state.MOST_FILE = agent_state.MOST_FILE, 10_000
+    """The file of an agent's events stays short after many runs, and keeps open runs and unacknowledged events."""
+    most, agent_state.MAX_FILE = agent_state.MAX_FILE, 10_000
     try:
         state, events = state_of_agent(folder)
         first = state.start(Key("first", 1, "firmd"), {"job": "j", "weight": 1, "machine": "m1", "ssh": ""})
@@ -377,9 +391,12 @@ def short_file(folder: Path) -> None:
         require(told == wanted, told)
         for _ in range(2):
             state.lock.close()
-            time.sleep(0.2)  # the cursor is written aside
+            time.sleep(0.2)  # a thread writes the cursor
             again, heard = state_of_agent(folder)
-            runs = {run.key.task: (run.number, run.token, run.machine, run.has_run, run.ends, run.is_kept, run.host) for run in again.history.runs.values()}
+            runs = {
+                run.key.task: (run.number, run.token, run.machine, run.has_run, run.ends, run.is_kept, run.host)
+                for run in again.history.runs.values()
+            }
             require(runs["first"][:5] == (1, first.token, "m1", True, "preempted"), runs)
             require(runs["last"][:3] == (2, last.token, "m2") and runs["last"][5], runs)
             require(again.history.last_run == 302 and again.history.name == state.history.name, again.history.last_run)
@@ -388,11 +405,11 @@ def short_file(folder: Path) -> None:
             state = again
         state.lock.close()
     finally:
-        agent_state.MOST_FILE = most
+        agent_state.MAX_FILE = most
 
 
 def torn_event(folder: Path) -> None:
-    """An event that a power cut has torn in its midst, its end on the disk, is cut; a changed one before is damage."""
+    """A start cuts an event that a power cut has torn, with its end on the disk; a changed earlier one is damage."""
     state, _ = state_of_agent(folder)
     for number in range(1, 4):
         run_once(state, number)
@@ -423,12 +440,12 @@ def torn_event(folder: Path) -> None:
         except StateError:
             continue
         found.lock.close()
-        if found.history != again.history:  # the name of the checksum's field alone is nothing to lose
+        if found.history != again.history:  # a changed name of the checksum's field loses nothing
             raise Missed(f"bit {place % 8} of byte {place // 8} is served")
 
 
 def sealed_files(_: Path) -> None:
-    """No changed bit in a run's status or claim is taken for what was written."""
+    """No changed bit in a run's status or claim is read as if it were whole."""
     outcome = supervisor.Outcome(1, False, None, None, 2.5)
     text = outcome.text().encode()
     require(supervisor.opened(text.decode())["status"] == 1, text)
@@ -439,13 +456,22 @@ def sealed_files(_: Path) -> None:
             found = supervisor.opened(changed.decode())
         except ValueError:
             continue
-        same = isinstance(found, dict) and all(found.get(name) == value for name, value in outcome._asdict().items() if value is not None)
+        same = isinstance(found, dict) and all(
+            found.get(name) == value for name, value in outcome._asdict().items() if value is not None
+        )
         require(same, f"bit {place % 8} of byte {place // 8}: {found}")
 
 
 def old_runs(folder: Path) -> None:
-    """Folders of runs go a day behind their end, with an output once the queue forgets the task; no others."""
-    made = {"gone.1": (2, 0), "kept.2": (2, 5), "old.3": (31, 5), "young.4": (0, 0), "open.5": (40, 0), "untold.6": (40, 5)}
+    """Folders of runs are removed a day after their end, with an output once the queue forgets the task; no others."""
+    made = {
+        "gone.1": (2, 0),
+        "kept.2": (2, 5),
+        "old.3": (31, 5),
+        "young.4": (0, 0),
+        "open.5": (40, 0),
+        "untold.6": (40, 5),
+    }
     for name, (days, size) in made.items():
         run = folder / "alpha-1" / name
         run.mkdir(parents=True)
@@ -461,10 +487,12 @@ def old_runs(folder: Path) -> None:
 
 CHECKS: dict[str, Callable[[], None]] = {
     "counters": within(counters),
+    "no walks": within(no_walks),
     "kept ages": within(kept_ages),
     "old history": within(old_history),
+    "damaged history": within(damaged_history),
+    "cells": within(cells),
     "late agents": within(late_agents),
-    "older database": within(older_database),
     "counted anew": within(counted_anew),
     "short file": within(short_file),
     "torn event": within(torn_event),

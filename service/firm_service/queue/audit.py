@@ -1,7 +1,7 @@
-"""A look at the whole database: whether all rows are there, and as they were written.
+"""Checks the whole database: that no row is missing or changed.
 
-It takes some 20 s a gigabyte, so only a small database is looked at before it is served; the rows that are served are
-judged one by one all the same.
+This takes some 20 s a gigabyte, so only a small database is checked before it is served. Each row is checked when it is
+read in any case.
 """
 
 from __future__ import annotations
@@ -13,8 +13,8 @@ from threading import Event
 
 from .seals import COLUMNS, Damaged, columns, opened, require_words
 
-AT_ONCE, PAUSE_SECONDS = 200, 0.002  # rows, and until the next ones: other threads have Python's lock meanwhile
-# Rows that lack others which stood beside them.
+AT_ONCE, PAUSE_SECONDS = 200, 0.002  # rows, and a pause that leaves Python's lock to other threads
+# Queries for submissions with missing rows.
 LACKING = {
     "tasks": "SELECT s.number FROM submission s WHERE COALESCE(s.last - s.first + 1, 1)"
     " <> (SELECT COUNT(*) FROM task t WHERE t.number = s.number)",
@@ -25,22 +25,22 @@ LACKING = {
 }
 
 
-def audit(connection: sqlite3.Connection, is_over: Event) -> None:
-    """Raises `Damaged`, and sqlite3.Error."""
+def audit(connection: sqlite3.Connection, is_over: Event, pause: float) -> None:
+    """Check the database, with a pause after some rows. Raise `Damaged` or sqlite3.Error."""
     with closing(connection):
-        connection.execute("BEGIN")  # all is of one moment
+        connection.execute("BEGIN")  # one snapshot
         ((told,),) = connection.execute("PRAGMA integrity_check(1)").fetchall()
         if told != "ok":
             raise Damaged(" ".join(told.split()))
         for table in COLUMNS:
-            require_rows(connection, table, is_over)
+            require_rows(connection, table, is_over, pause)
         for what, words in LACKING.items():
             for (number,) in connection.execute(f"{words} LIMIT 1"):
                 raise Damaged(f"{what} of the submission {number} are missing")
 
 
-def require_rows(connection: sqlite3.Connection, table: str, is_over: Event) -> None:
-    """Raises `Damaged` where a row of a table is not as it was written."""
+def require_rows(connection: sqlite3.Connection, table: str, is_over: Event, pause: float) -> None:
+    """Raise `Damaged` at a changed row of a table."""
     more = ", spec" if table == "submission" else ""
     with closing(connection.execute(f"SELECT {columns(table)}{more} FROM {table}")) as found:
         while (rows := found.fetchmany(AT_ONCE)) and not is_over.is_set():
@@ -48,4 +48,5 @@ def require_rows(connection: sqlite3.Connection, table: str, is_over: Event) -> 
                 values = opened(table, row)
                 if more:
                     require_words(values[0], row[-1], values[8])
-            time.sleep(PAUSE_SECONDS)
+            if pause:
+                time.sleep(pause)

@@ -19,8 +19,8 @@ MOST_LINES = 1_000  # to firm at a time
 LONG_HEAP = 1_000  # entries of a backlog, beside twice its members
 
 
-# What is heaviest with the rounds that it has waited first, then what was submitted first: the rounds from which it has
-# waited less the weight, number and index. So it never changes: all that waits gets heavier alike.
+# Round in which the task became ready minus its job's weight, number, index. The order never changes, since each round
+# makes all waiting tasks dearer alike; the oldest of equal tasks comes first.
 Order = tuple[int, int, int]
 
 
@@ -204,7 +204,7 @@ def tasks_of_jobs(book: Book, leaving: Iterable[str] = ()) -> Counter[str]:
 
 class Yielding:
     """The queue's tasks that wait in firm and have no process. The lightest make room for heavier ones, by what firm
-    itself goes by: a job's weight, and the rounds that the task has waited, here or there."""
+    itself compares: a job's weight plus the rounds that the task has waited, in the queue or in firm."""
 
     def __init__(self, book: Book, leaving: set[str], task_of: Callable[[Name], Task | None]) -> None:
         self._book, self._leaving, self._task_of = book, leaving, task_of

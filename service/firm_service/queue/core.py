@@ -40,7 +40,7 @@ class Bounds:
     in_all: int
     array: int  # tasks of one array
     budget: int = 2**30  # bytes of the disk that a user, operators excepted, may take, and again in each week
-    weight: int = DEFAULT_WEIGHT  # of a job of such a user: what is heavy enough preempts all that others run
+    weight: int = DEFAULT_WEIGHT  # of a job of such a user; a heavier job could preempt all tasks of others
 
 
 Forgotten = Mapping[int, Submission]  # such as have ended and are not in memory any more
@@ -70,7 +70,7 @@ class Core:
         self.leaving: set[str] = set()  # rows that firm was told to drop: none of them is begun meanwhile
         self.own_jobs: set[str] = set()  # of the queue's making, in firm
         self.strangers: set[Name] = set()  # rows of firm's with such names that memory does not have
-        self.others: Counter[int] = Counter()  # rows of firm's by others, by numbers that the queue has not given
+        self.others: Counter[int] = Counter()  # rows of others in firm whose names have numbers yet to be assigned
         self.marks: dict[str, str] = {}  # machines that are cordoned or drained
         self.answers: dict[tuple[int, str], list[Json]] = {}  # to requests with keys, lately
         self._answered = 0  # submissions that they name
@@ -78,7 +78,7 @@ class Core:
         self.ends = Ends()
         self.ended_attempts: Counter[str] = Counter()  # since the start, by outcome
         self.news = asyncio.Event()  # set once more is heard of firm; there is another one then
-        self._aged_by: Book | None = None  # the rows by whose rounds the waits of tasks are counted
+        self._aged_by: Book | None = None  # whose rounds `Task.since` counts
         self._dirty: set[Name] = set()  # tasks of which it is to be looked whether firm should have them
 
     # Memory
@@ -164,7 +164,7 @@ class Core:
         return made
 
     def _next_numbers(self, count: int) -> list[int]:
-        """Numbers for submissions: none that firm has from others, as from a queue whose database was lost."""
+        """Return free numbers for submissions. Names of others, as of a queue whose database was lost, occupy some."""
         found: list[int] = []
         number = self.rows.last_number
         while len(found) < count:
@@ -238,7 +238,7 @@ class Core:
     def _job(self, user: User, one: Submit, jobs: dict[str, Job]) -> tuple[str, Job]:
         """The job of a submission, and its name."""
         name = one.job or job_of(user.number)
-        if (owner := owner_of(name)) not in (None, user.number):  # it would have no name where others have that
+        if (owner := owner_of(name)) not in (None, user.number):  # the default job of that user
             raise Refused("not-yours", f"the job {name} is the user {owner}'s")
         found = jobs.get(name) or self.rows.jobs.get(name)
         if found is not None and found.user != user.number and one.job is None:
@@ -275,7 +275,7 @@ class Core:
         """Looks what these wait for; from then on each end is counted once. Ends what never may begin."""
         for submission in submissions:
             submission.open_needs = sum(self.needed(need).live > 0 for need in submission.needs)
-            if submission.live:
+            if submission.is_blocked and submission.live:
                 self.rows.recount(submission)
         for submission in submissions:
             judgement = states.judge(self.needed(need, forgotten) for need in submission.needs)
@@ -350,12 +350,12 @@ class Core:
                     self._dirty.update(one.name for one in self.rows.live_of([waiter]))
 
     def may_drop(self, number: int) -> bool:
-        """Whether nothing in memory rests on a submission."""
+        """Return whether no live task needs a submission."""
         submission = self.rows.submissions.get(number)
         return (submission is None or not submission.live) and number not in self.rows.waiters
 
     def drop(self, number: int, is_large: bool) -> None:
-        """Removes a submission that ended long ago."""
+        """Remove a submission that ended long ago."""
         self.store.require_good()
         self.rows.drop(number)
         self.store.drop(number, is_large)
@@ -403,7 +403,7 @@ class Core:
         self.firm.changed.set()
 
     def _keep_ages(self) -> None:
-        """Has tasks have waited as long where rows that are told anew count their rounds anew."""
+        """Keep the waits of tasks when firm's rows are read again, with another count of rounds."""
         before, self._aged_by = self._aged_by, self.firm.rows
         more = (self._aged_by.rounds if self._aged_by is not None else 0) - (before.rounds if before is not None else 0)
         for task in self.rows.live_tasks() if before is not self._aged_by else ():
@@ -468,7 +468,7 @@ class Core:
                 self.unwanted.discard(name.firm)
 
     def _skip(self, name: Name, more: int) -> None:
-        """Notes which numbers firm has from others: none of them is given while it has such a row."""
+        """Count the rows of others in firm that occupy a number."""
         if more > 0 and name.number > self.rows.last_number or name.number in self.others:
             self.others[name.number] += more
             if not self.others[name.number]:
@@ -506,32 +506,36 @@ class Core:
         return Counter(states.state_of(self.facts(task)).value for task in tasks)
 
     def begun(self) -> dict[Name, Task]:
-        """The queue's tasks that have a row in firm, or a process."""
+        """Return the queue's tasks with a row in firm or a process."""
         rows, names = self.firm.rows, [attempt.name for attempt in self.rows.open.values()]
         names += filter(None, map(Name.of_firm, rows.tasks if rows is not None else ()))
         found = ((name, self.rows.task(name)) for name in names)
         return {name: task for name, task in found if task is not None and task.is_live}
 
     def states_of(self, user: int | None) -> Counter[str]:
-        """How many tasks that have not ended are in each state, of a user or of all."""
-        idle = self.rows.counts if user is None else self.rows.counts_of_user.get(user, Counter())
+        """Return the number of live tasks in each state, of a user or of all."""
+        idle = self.rows.counts if user is None else self.rows.counts_of_user.get(user, [])
         return self.states_with(idle, [task for task in self.begun().values() if user in (None, task.submission.user)])
 
-    def states_with(self, idle: Counter[str], begun: Sequence[Task]) -> Counter[str]:
-        """The states of tasks that are counted as if they were idle, some of which are not."""
-        counts = Counter(idle)
+    def states_with(self, idle: Sequence[int], begun: Sequence[Task]) -> Counter[str]:
+        """Return the numbers of tasks by state, from those by idle state and the tasks that are not idle."""
+        counts = Counter(dict(zip(IDLE, idle)))
         counts.subtract(map(idle_state, begun))
         return counts + self.counts(begun)
 
+    def states_of_submission(self, submission: Submission, begun: Sequence[Task]) -> dict[str, int]:
+        """Return the number of its tasks in each state. It reads counters and the tasks that have begun."""
+        return {**submission.ends, **self.states_with(submission.counted, begun)}
+
     def oldest(self) -> dict[str, float]:
-        """When the oldest task in each state was submitted."""
+        """Return the time of the oldest task's submission, by state."""
         found, begun = dict[str, float](), Counter[tuple[int, str]]()
         for task in self.begun().values():
             state, sent = states.state_of(self.facts(task)).value, task.submission.sent
             found[state] = min(found.get(state, sent), sent)
             begun[task.submission.number, idle_state(task)] += 1
         for place, state in enumerate(IDLE):
-            for number in self.rows.numbers[state]:
+            for number in self.rows.numbers[place]:
                 submission = self.rows.submissions[number]
                 if submission.counted[place] > begun[number, state]:
                     found[state] = min(found.get(state, submission.sent), submission.sent)

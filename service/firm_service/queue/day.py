@@ -4,8 +4,9 @@ from __future__ import annotations
 
 import sqlite3
 from dataclasses import dataclass, field
+from itertools import chain
 
-from .queries import attempt_of, fetched
+from .queries import attempt_of
 from .seals import columns
 
 DAY_SECONDS, STEPS = 86_400.0, 96
@@ -34,10 +35,10 @@ def day_of(connection: sqlite3.Connection, now: float, user: int | None) -> Day:
     found = Day(now - DAY_SECONDS, DAY_SECONDS / STEPS)
     of_user = "JOIN submission s ON s.number = a.number WHERE (? IS NULL OR s.user = ?) AND"
     words = f"SELECT {columns('attempt', 'a')} FROM attempt a {of_user} a.outcome IS NOT NULL AND a.ended >= ?"
-    rows = fetched(connection, words, (user, user, found.since))
+    ended = connection.execute(words, (user, user, found.since))
     words = f"SELECT {columns('attempt', 'a')} FROM task t JOIN attempt a ON (a.number, a.idx) = (t.number, t.idx)"
-    rows += fetched(connection, f"{words} {of_user} t.outcome IS NULL AND a.outcome IS NULL", (user, user))
-    for attempt in map(attempt_of, rows):
+    begun = connection.execute(f"{words} {of_user} t.outcome IS NULL AND a.outcome IS NULL", (user, user))
+    for attempt in map(attempt_of, chain(ended, begun)):
         if attempt.began is not None:
             found.add(attempt.began, now if attempt.ended is None else attempt.ended)
         if attempt.outcome is not None:

@@ -158,7 +158,7 @@ class Firm:
         self.reason = "" if is_there else f"firm has no tenant {self.doors.tenant}"
         outcome = reply.split(" ", 2)[-1]
         if reply.startswith("+"):
-            self._answered = 0  # a tenant that comes again counts its commands anew
+            self._answered = 0  # a tenant that is admitted again restarts its count
             return Heard([], "")
         if outcome == "ok" or outcome.startswith("ok evicted") or outcome.startswith("ok round"):
             return Heard(line.split()[1:], outcome)
@@ -182,7 +182,7 @@ class Firm:
             for _ in lines:
                 text = (await reader.readline()).decode()
                 replies.append(Reply.read(text.strip(), self.doors.tenant))
-            if self.rows is rows:  # otherwise a tenant that was retired meanwhile has given these
+            if self.rows is rows:  # otherwise the tenant was retired meanwhile
                 self._answered = replies[-1].number
             return replies
         except (OSError, ValueError) as error:

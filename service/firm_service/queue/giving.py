@@ -21,8 +21,8 @@ from .store import NotWritten
 AWAY_SECONDS = 0.2  # until firmd is tried again
 FULL_SECONDS = 1.0  # until a task is given again after firm had no room for it, or the disk failed
 WORN_SECONDS = 10.0
-# A round is asked for this multiple of the duration of the one before it after that, and at most this long; no sooner
-# than the third where it makes waits dearer: else a weight would be worth seconds where rounds come ten a second.
+# Pause between rounds: this multiple of the last round's duration, up to the second. A round that makes waits dearer
+# comes after at least the third: with ten rounds a second, a weight of 10 would be worth one second.
 ROUND_SHARE, LONGEST_ROUND_PAUSE, WAIT_SECONDS = 2, 0.2, 1.0
 # While tasks wait beside free slots, a round makes each wait dearer by 1, until one is worth a slot. It is asked for so
 # long after the last one: with spread 1, the last of 64 slots is worth a wait within some five minutes. As each is a
@@ -227,7 +227,7 @@ def rounds_to_start(book: Book) -> float:
 
 
 def has_waited(book: Book) -> bool:
-    """Whether a round has left a task waiting, which a further one makes dearer."""
+    """Return whether a round left a task waiting: a further one makes its wait dearer."""
     return bool(book.waiting) and any(book.waited(task) for task in book.tasks.values())
 
 

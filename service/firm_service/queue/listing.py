@@ -156,7 +156,7 @@ class Lists:
         ]
 
     def jobs(self, user: User) -> list[Json]:
-        """Jobs that a user may see, with the states of their tasks."""
+        """Return the jobs that a user may see, with the states of their tasks."""
         begun: dict[str, list[Task]] = {}
         for task in self._core.begun().values():
             begun.setdefault(task.submission.job, []).append(task)

@@ -23,18 +23,18 @@ LAST = "LEFT JOIN attempt a ON (a.number, a.idx, a.attempt) = (t.number, t.idx, 
 COMMIT = "commit"  # the row of `meta` that each commit writes
 HISTORY = "number index user job submitted attempt agent machine run began ended seconds outcome status reason".split()
 HISTORY += ["output", "host"]
-# What a task that ended without an attempt has of one.
+# Columns of the attempt of a task that ended without one.
 UNBEGUN = dict.fromkeys("agent machine run began seconds output host".split(), None) | {"attempt": 0}
-DROPPING = "dropping"  # the row of `meta` with the number of a submission whose rows are being removed
-MOST_LIVE = 2**64  # sums of checksums are taken modulo this
+DROPPING = "dropping"  # row of `meta`: the number of a submission whose rows are being removed
+MODULUS = 2**64  # of sums of checksums
 
 
 class Point(NamedTuple):
-    """How far the database is."""
+    """Summary of the database as of a commit."""
 
     number: int  # of commits
     last: int  # the highest number of a submission
-    live: int  # the sum of the checksums of all that has not ended: tasks, attempts, agents, marks and the lease
+    live: int  # sum of the checksums of live tasks and attempts, of agents, marks and the lease
 
     @classmethod
     def read(cls, text: str) -> Point:
@@ -42,7 +42,7 @@ class Point(NamedTuple):
         return cls(int(number), int(last), int(live, 16))
 
     def text(self) -> str:
-        return f"{self.number} {self.last} {self.live % MOST_LIVE:x}"
+        return f"{self.number} {self.last} {self.live % MODULUS:x}"
 
 
 @dataclass(frozen=True, slots=True)
@@ -55,7 +55,7 @@ class Kept:
     spent: dict[int, tuple[float, float]]  # bytes, and when, by user
     lease: float | None  # the longest that agents may have; None: of an older queue, or a new database
     point: Point
-    seals: dict[tuple[str, str], int]  # checksums of rows of agents and marks, and of the lease, by table and key
+    seals: dict[tuple[str, str], int]  # checksums of agents, marks and the lease, by table and key
 
 
 @dataclass(frozen=True, slots=True)
@@ -72,8 +72,8 @@ class Asked:
 
 
 def load(connection: sqlite3.Connection) -> Kept:
-    """All that has not ended. What it waits for and has ended did so as it should: otherwise it had ended with that.
-    Raises `Damaged` where that is not all, or not as it was written."""
+    """Return the submissions with live tasks. Their needs that ended were met: otherwise the tasks had ended too. Raise
+    `Damaged` at a missing or changed row."""
     point = point_of(connection)
     rows = Rows(point.last)
     live = {number for (number,) in fetched(connection, "SELECT DISTINCT number FROM task WHERE outcome IS NULL")}
@@ -84,7 +84,7 @@ def load(connection: sqlite3.Connection) -> Kept:
     seals = {(table, row[0]): row[-1] for table in ("agent", "mark") for row in small[table]}
     seals |= {("meta", row[0]): row[-1] for row in table_of(connection, "meta") if row[0] == "lease"}
     sums = [task.seal for task in rows.live_tasks()] + [attempt.seal for attempt in rows.open.values()]
-    if (sum(sums) + sum(seals.values()) - point.live) % MOST_LIVE:
+    if (sum(sums) + sum(seals.values()) - point.live) % MODULUS:
         raise Damaged("what has not ended is not all there, or as it was at the last commit")
     agents = {name: (agent_id, json.loads(machines)) for name, agent_id, machines, _ in small["agent"]}
     spent = {user: (size, at) for user, size, at, _ in small["spent"]}
@@ -93,7 +93,7 @@ def load(connection: sqlite3.Connection) -> Kept:
 
 
 def table_of(connection: sqlite3.Connection, table: str) -> list[Any]:
-    """All rows of a small table, with their checksums."""
+    """Return all rows of a small table, with their checksums."""
     found = fetched(connection, f"SELECT {columns(table)} FROM {table}")
     for row in found:
         opened(table, row)
@@ -101,7 +101,7 @@ def table_of(connection: sqlite3.Connection, table: str) -> list[Any]:
 
 
 def value_of(connection: sqlite3.Connection, name: str) -> str | None:
-    """A value of `meta`; None where there is none."""
+    """Return a value of `meta`, if any."""
     found = fetched(connection, f"SELECT {columns('meta')} FROM meta WHERE name = ?", (name,))
     return str(opened("meta", found[0])[1]) if found else None
 
@@ -139,7 +139,9 @@ def submissions(
                 raise Damaged(f"the submission {number} has {len(submission.needs)} of {counts[number]} needs")
             submission.measure(texts[number])
         left = most
-        for row in fetched(connection, f"{TASKS} {LAST} WHERE t.number IN ({marks}) ORDER BY 1, 2 LIMIT ?", [*some, most]):
+        for row in fetched(
+            connection, f"{TASKS} {LAST} WHERE t.number IN ({marks}) ORDER BY 1, 2 LIMIT ?", [*some, most]
+        ):
             add_task(by_number[row[0]], row)
             left -= 1
         if left:
@@ -149,14 +151,14 @@ def submissions(
     return found
 
 
-def head_of(row: Sequence[Any]) -> Submission:
-    """A submission without words, needs and tasks."""
+def head_of(row: tuple[Any, ...]) -> Submission:
+    """Return a submission without words, needs and tasks."""
     number, user, job, weight, first, last, sent, _, _ = opened("submission", row)
     return Submission(number, user, job, weight, WORDLESS, first, last, sent)
 
 
-def whole_of(row: Sequence[Any]) -> Submission:
-    """A submission with its words, which stand behind its head."""
+def whole_of(row: tuple[Any, ...]) -> Submission:
+    """Return a submission with its words, the row's last column."""
     submission = head_of(row)
     require_words(submission.number, row[-1], row[8])
     submission.spec = spec_of(row[-1])
@@ -180,7 +182,7 @@ def forgotten(connection: sqlite3.Connection, numbers: Sequence[int], owner: int
         for row in rows:
             left -= 1
             task = task_of(found[row[0]], row)
-            if task.outcome is None:  # submitted since memory was looked at, which has it by now
+            if task.outcome is None:  # submitted meanwhile: memory has it
                 continue
             task.outcome = sys.intern(task.outcome)
             task.submission.tasks[task.index] = task
@@ -192,8 +194,8 @@ def marks_of(values: Collection[int]) -> str:
     return ", ".join("?" * len(values))
 
 
-def add_task(submission: Submission, row: Sequence[Any]) -> None:
-    """Takes in a task, and its last attempt, as a row of `TASKS` has them."""
+def add_task(submission: Submission, row: tuple[Any, ...]) -> None:
+    """Add a task with its last attempt, from a row of `TASKS`."""
     task = task_of(submission, row)
     rest = row[WIDTHS["task"] :]
     if rest[0] is not None:
@@ -203,16 +205,18 @@ def add_task(submission: Submission, row: Sequence[Any]) -> None:
     submission.tasks[task.index] = task
     submission.live += task.is_live
     submission.failed += task.outcome not in (None, "done")
+    if task.outcome is not None:
+        submission.ends[task.outcome] = submission.ends.get(task.outcome, 0) + 1
 
 
-def task_of(submission: Submission, row: Sequence[Any]) -> Task:
+def task_of(submission: Submission, row: tuple[Any, ...]) -> Task:
     _, index, is_held, is_cancelled, failures, lost, outcome, status, reason, ended, attempts = opened("task", row)
     task = Task(submission, index, bool(is_held), bool(is_cancelled), failures, lost, outcome, status, reason, ended)
     task.attempts, task.seal = attempts, row[WIDTHS["task"] - 1] if outcome is None else 0
     return task
 
 
-def attempt_of(row: Sequence[Any]) -> Attempt:
+def attempt_of(row: tuple[Any, ...]) -> Attempt:
     number, index, *rest = opened("attempt", row)
     found = Attempt(Name(number, index), *rest)
     found.is_kept = bool(found.is_kept)
@@ -270,14 +274,14 @@ def bare(connection: sqlite3.Connection, numbers: Iterable[int], most_bytes: int
 
 
 def history(connection: sqlite3.Connection, asked: Asked) -> list[dict[str, Any]]:
-    """Attempts that ended, the oldest first, and tasks that ended without one: the newest, by their indexes alone."""
+    """Return the newest ended attempts, and tasks that ended without one, oldest first. It reads no other rows."""
     found = latest(connection, "attempt", asked) + latest(connection, "task", asked)
     found.sort(key=lambda row: (row["ended"], row["number"], row["index"]), reverse=True)
     return [shown_of(row) for row in reversed(found[: asked.limit])]
 
 
 def latest(connection: sqlite3.Connection, table: str, asked: Asked) -> list[dict[str, Any]]:
-    """The attempts that ended last, or the tasks of those that had none."""
+    """Return the attempts that ended last, or the tasks that ended last without one."""
     conditions, values = conditions_of(asked, "x.ended")
     words = f"SELECT {columns(table, 'x')}, {columns('submission', 's')} FROM {table} x"
     words += " CROSS JOIN submission s ON s.number = x.number WHERE x.outcome IS NOT NULL"
@@ -299,29 +303,39 @@ def shown_of(row: dict[str, Any]) -> dict[str, Any]:
     return {"task": str(name), **{key: row[key] for key in HISTORY}, "index": index}
 
 
-class Old(NamedTuple):
-    """A submission, and whether it may be removed."""
+@dataclass(slots=True)
+class Old:
+    """A submission that retention considers."""
 
     number: int
     sent: float
-    is_over: bool  # all its tasks ended before the time
-    rows: int  # of tasks and attempts
+    is_over: bool  # all its tasks ended long enough ago
+    tasks: int = 0
+    rows: int = 0  # of tasks and attempts
 
 
 def older(connection: sqlite3.Connection, number: int, before: float, count: int) -> list[Old]:
-    """The submissions behind a number, so many of them."""
-    words = "SELECT number, sent FROM submission WHERE number > ? ORDER BY number LIMIT ?"
-    heads = fetched(connection, words, (number, count))
-    words = "SELECT number, COUNT(*) + SUM(attempts), COUNT(outcome) = COUNT(*) AND MAX(ended) < ? FROM task"
-    old = [one for one, sent in heads if sent < before]
-    rows = fetched(connection, f"{words} WHERE number IN ({marks_of(old)}) GROUP BY number", [before, *old])
-    found = {one: (bool(is_over), size) for one, size, is_over in rows}
-    return [Old(one, sent, *found.get(one, (False, 0))) for one, sent in heads]
+    """Return the next `count` submissions after a number. Raise `Damaged` at a changed row: it may look old."""
+    words = f"SELECT {columns('submission')} FROM submission WHERE number > ? ORDER BY number LIMIT ?"
+    heads = [head_of(row) for row in fetched(connection, words, (number, count))]
+    found = {head.number: Old(head.number, head.sent, head.sent < before) for head in heads}
+    old = [one.number for one in found.values() if one.is_over]
+    words = f"SELECT {columns('task')} FROM task WHERE number IN ({marks_of(old)})"
+    with closing(connection.execute(words, old)) as rows:
+        for row in rows:
+            task = opened("task", row)
+            one, outcome, ended = found[task[0]], task[6], task[9]
+            one.is_over &= outcome is not None and ended < before
+            one.tasks, one.rows = one.tasks + 1, one.rows + 1 + task[10]
+    for head in heads:
+        if head.number in old and found[head.number].tasks != len(head.indices):
+            raise Damaged(f"the submission {head.number} lacks tasks")
+    return list(found.values())
 
 
 def rest(connection: sqlite3.Connection, count: int) -> tuple[str, list[Any]] | None:
-    """A statement, with values, that removes some rows of a submission that is being removed; None where none is. Its
-    tasks go first: attempts without them are missed nowhere."""
+    """Return a statement, with values, that removes the next rows of a submission that is being removed, if any. Tasks
+    come first: nothing reads attempts without a task."""
     number = value_of(connection, DROPPING)
     if number is None:
         return None

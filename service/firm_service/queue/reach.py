@@ -1,8 +1,8 @@
-"""How many commits were acknowledged, in a file beside the database, so that a loss of the last ones is missed.
+"""The number of acknowledged commits, in a file beside the database, which shows a loss of the last ones.
 
-SQLite ends its log silently at the first damaged frame, as after a crash, and takes an older copy of itself for good.
-So the database counts its commits, and this file says how far they went. It is synced after each commit, before any
-answer: the database is never behind it, and at most one commit ahead.
+SQLite ends its log silently at the first damaged frame, as after a crash, and accepts an older copy of itself. So the
+database counts its commits, and this file has that count too. It is synced after each commit, before any answer: the
+database is at most one commit ahead, and never lacks one.
 """
 
 from __future__ import annotations
@@ -15,12 +15,12 @@ from ..files import PRIVATE, replace_synced
 from ..records import record_at, sealed
 
 KIND = b"firm-reach 1"
-FILE_BYTES = 128  # in one sector of any disk, which has the old ones or the new
+FILE_BYTES = 128  # within one sector, so that a power cut leaves the old text or the new
 FIELD_BYTES = FILE_BYTES - len(sealed(KIND, b""))
 
 
 class Reach:
-    """The file, open: keeping a number opens none, and needs no room on the disk."""
+    """The open file. Writing a number opens no file and needs no room on the disk."""
 
     def __init__(self, path: Path, state: str, number: int) -> None:
         self.path, self.state, self.number = path, state, number
@@ -28,13 +28,13 @@ class Reach:
 
     @classmethod
     def make(cls, path: Path, state: str, number: int) -> Reach:
-        """A new file, on the disk."""
+        """Create the file, synced."""
         replace_synced(path, text_of(state, number), PRIVATE)
         return cls(path, state, number)
 
     @classmethod
     def read(cls, path: Path) -> Reach | None:
-        """None where there is no such file; raises a fault where it is not as it was written."""
+        """Open the file, if any. Raise `Fault` if it is damaged."""
         try:
             text = path.read_bytes()
         except FileNotFoundError:
@@ -46,7 +46,7 @@ class Reach:
         return cls(path, state.decode(), int(number))
 
     def keep(self, number: int) -> None:
-        """Returns once it is on the disk."""
+        """Write a number, synced."""
         os.pwrite(self._file, text_of(self.state, number), 0)
         os.fdatasync(self._file)
         self.number = number

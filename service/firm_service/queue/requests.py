@@ -130,13 +130,13 @@ register, first: {"ask": "register", "agent": "a1", "id": ID, "machines": {"m1":
   id: that of the agent's own state folder (History.name), new with a new one. RUN: {"token": T, "task": firm's name,
   "run": 7, "machine": "m1", "state": "claiming"|"starting"|"running"|"ended"}: all that are open, and all whose end is
   not acknowledged yet.
-  -> {"register": {"lease": 60, "beat": 20, "history": 2592000, "end": [T, ..], "keep": [T, ..],
-   "state": firmd's id|null}}
-  history: seconds for which outputs of runs that have ended are kept. end: runs that must end (the queue knows nothing of them, or took them as lost). keep: runs that go on although firm
-  lacks their rows; all others end or stay as firm's rows say. Open attempts of this id that are not among `runs` count
-  as lost once the lease that they had, the longest grace and the margin are over. The same id again takes over from its
-  older connection, once that is gone or silent. Machines that an agent no longer names are drained. A machine on an
-  agent's list, whose slots firm has otherwise, is drained and added anew once no run is open there.
+  -> {"register": {"lease": 60, "beat": 20, "history": s, "end": [T, ..], "keep": [T, ..], "state": firmd's id|null}}
+  history: seconds for which outputs of ended runs are kept. end: runs that must end (the queue knows nothing of them,
+  or took them as lost). keep: runs that go on although firm lacks their rows; all others end or stay as firm's rows
+  say. Open attempts of this id that are not among `runs` count as lost once the lease that they had, the longest grace
+  and the margin are over. The same id again takes over from its older connection, once that is gone or silent. Machines
+  that an agent no longer names are drained. A machine on an agent's list, whose slots firm has otherwise, is drained
+  and added anew once no run is open there.
   Errors: `agent-taken` (another id has this name and its lease is not over, with "seconds" until it is; or the same id
   has a connection that still beats, as an agent with a copy of the state has),
   `machine-taken` (another live agent has it; with "machine", "agent": register without it), `bad-field`. It may be
@@ -159,9 +159,8 @@ claim: {"ask": "claim", "token": T, "task": firm's name, "line": the row's, "sta
      to go or change.
   WORK: {"task": "12_4", "job": "web", "user": uid, "attempt": 1, "command": [..], "dir": "/abs", "env": {..},
    "output": "/abs"|null, "time": s|null, "grace": s, "memory": bytes|null, "processors": n|null}. env has FIRM_ID
-   (12_4), FIRM_NUMBER,
-   FIRM_INDEX (of an array) and FIRM_ATTEMPT beside the user's. There are no retries in it: a further attempt is a
-   further claim. output null: the run's own file.
+   (12_4), FIRM_NUMBER, FIRM_INDEX (of an array) and FIRM_ATTEMPT beside the user's. There are no retries in it: a
+   further attempt is a further claim. output null: the run's own file.
 
 told: {"ask": "told", "events": [EVENT, ..]}, at most 1,000, in their order; again until acknowledged, also after
   restarts. -> {"told": HOW MANY} once they are on the disk. Events of tokens that are unknown, or have ended, are
@@ -486,8 +485,8 @@ class Requests:
             return [task for task in tasks if task.outcome in outcomes and chosen.has(task)], 0
         owner = chosen.user if user.is_operator else user.number
         asked = Asked(user=owner, job=chosen.job, outcomes=outcomes, limit=chosen.limit)
-        query = partial(queries.ended, asked=asked, most_bytes=MOST_READ_BYTES)
-        read, more = await self._core.store.read(query, aside=True)
+        reading = self._core.store.read(lambda connection: queries.ended(connection, asked, MOST_READ_BYTES), True)
+        read, more = await reading
         await self.know(user, [submission.user for submission in read])
         return [task for submission in read for task in submission.tasks.values()], more
 
@@ -585,7 +584,7 @@ class Requests:
 
     async def _waited(self, caller: Caller, texts: Sequence[str], ends: float) -> Json:
         """What has become of tasks once they have ended, or the time is over; raises `NotWritten`."""
-        await self._submissions_of(caller.user, texts)
+        await self._submissions_of(caller.user, texts, are_whole=False)
         await self._wait_for(caller, [name_from(text) for text in dict.fromkeys(texts)], ends)
         tasks = (await self._named(caller.user, texts)).items()
         found = {str(name): {"state": self._lists.state_of(task), "status": task.status} for name, task in tasks}
@@ -694,9 +693,7 @@ class Requests:
             asked.update(missing)
         return found
 
-    async def _submissions_of(
-        self, user: User, texts: Sequence[str], are_whole: bool = False
-    ) -> dict[Name, Submission]:
+    async def _submissions_of(self, user: User, texts: Sequence[str], are_whole: bool) -> dict[Name, Submission]:
         """These names with their submissions, where the user may see all that is named."""
         names = {text: name_from(text) for text in texts}
         submissions = await self._found(user, {name.number for name in names.values()}, are_whole)

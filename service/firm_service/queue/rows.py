@@ -4,7 +4,6 @@ from __future__ import annotations
 
 import re
 from bisect import bisect_left, insort
-from collections import Counter
 from collections.abc import Iterable, Iterator, Sequence
 from dataclasses import dataclass, field
 from typing import Any
@@ -17,7 +16,7 @@ _TASK = re.compile(r"([1-9][0-9]{0,7})(?:_(0|[1-9][0-9]{0,6}))?")
 _FIRM_NAME = re.compile(r"([1-9][0-9]{0,7})(?:-(0|[1-9][0-9]{0,6}))?")
 
 
-@dataclass(frozen=True, slots=True, order=True)
+@dataclass(slots=True, order=True, unsafe_hash=True)  # a frozen one takes three times as long to make
 class Name:
     """A task, by its submission's number and its index."""
 
@@ -99,7 +98,7 @@ class Attempt:
     host: str | None = None
     is_kept: bool = False  # it goes on although firm has no row of it
     runs_as: int | None = None  # the user whose process it is; None: begun by a queue that did not keep that
-    seal: int = 0  # the checksum of its row while it is open
+    seal: int = 0  # checksum of its row while it is open
 
     @property
     def is_open(self) -> bool:
@@ -122,8 +121,8 @@ class Task:
     attempt: Attempt | None = None  # the last one
     due: float = 0.0  # by CLOCK_BOOTTIME, from which it may be tried again
     told: str = ""  # why it was not begun when it was claimed last
-    seal: int = 0  # the checksum of its row until it has ended
-    since: int | None = None  # the rounds that the tenant had had when it could begin; None where it can't, or has begun
+    seal: int = 0  # checksum of its row until it has ended
+    since: int | None = None  # number of rounds when it became ready to begin; None before that, and once it has begun
 
     @property
     def name(self) -> Name:
@@ -164,10 +163,11 @@ class Submission:
     tasks: dict[int, Task] = field(default_factory=dict)  # by index
     live: int = 0  # tasks that have not ended
     failed: int = 0  # tasks that ended otherwise than with `done`
+    ends: dict[str, int] = field(default_factory=dict)  # number of its ended tasks, by outcome
     open_needs: int = 0  # that have not ended
     first_need: int = 0  # the place of the first of them, or of one before it
-    held: int = 0  # tasks that have not ended and are held
-    counted: tuple[int, int, int] = (0, 0, 0)  # as `Rows` has counted its tasks: held, blocked and others
+    held: int = 0  # live tasks that are held
+    counted: tuple[int, int, int] = (0, 0, 0)  # live tasks by `IDLE`, as `Rows` has counted them
     size: int = 0  # bytes of memory that its words take
 
     @property
@@ -176,7 +176,7 @@ class Submission:
 
     @property
     def indices(self) -> Sequence[int]:
-        """Of its tasks."""
+        """Indices of its tasks."""
         return [SINGLE] if self.first is None or self.last is None else range(self.first, self.last + 1)
 
     def add_tasks(self, is_held: bool) -> None:
@@ -202,10 +202,10 @@ class Job:
     user: int
     weight: int
     live: int = 0
-    counts: Counter[str] = field(default_factory=Counter)  # of these, by `IDLE`
+    counts: list[int] = field(default_factory=lambda: [0, 0, 0])  # of live tasks, by `IDLE`
 
 
-IDLE = ("held", "blocked", "queued")  # the state of a task that has no row in firm and no process
+IDLE = ("held", "blocked", "queued")  # states of a task without a row in firm and without a process
 
 
 def idle_state(task: Task) -> str:
@@ -227,10 +227,11 @@ class Rows:
         self.live = self.bytes = 0
         self.waiters: dict[int, dict[Place, set[int]]] = {}  # submissions that wait, by number and place
         self.open: dict[str, Attempt] = {}  # attempts that have not ended, by token
-        # Tasks that have not ended, by `IDLE` as if none had a row in firm or a process: in all, and by user.
-        self.counts: Counter[str] = Counter()
-        self.counts_of_user: dict[int, Counter[str]] = {}
-        self.numbers: dict[str, list[int]] = {state: [] for state in IDLE}  # of submissions that have such tasks, sorted
+        # Live tasks by `IDLE`, as if none had a row in firm or a process: in all, and by user.
+        self.counts = [0, 0, 0]
+        self.counts_of_user: dict[int, list[int]] = {}
+        # Numbers of submissions with such tasks, sorted.
+        self.numbers: tuple[list[int], ...] = ([], [], [])
         self._ended: dict[int, None] = {}  # submissions that have ended, in the order of their ends
         self._ended_tasks = self._ended_bytes = 0
 
@@ -243,7 +244,7 @@ class Rows:
         self.submissions[submission.number] = submission
         self.last_number = max(self.last_number, submission.number)
         if submission.live:
-            submission.held = sum(task.is_held for task in submission.tasks.values() if task.is_live)
+            submission.held = sum([task.is_held for task in submission.tasks.values() if task.outcome is None])
             self._count(submission, submission.live)
             self.recount(submission)
             self._count_bytes(submission, submission.size)
@@ -255,14 +256,15 @@ class Rows:
         else:
             self._keep_ended(submission)
         for task in submission.tasks.values():
-            if (attempt := task.open_attempt) is not None:
-                self.open[attempt.token] = attempt
+            if task.attempt is not None and task.attempt.is_open:
+                self.open[task.attempt.token] = task.attempt
 
     def ended(self, task: Task) -> None:
         """Takes in that a task has its outcome."""
         submission = task.submission
         submission.live -= 1
         submission.failed += task.outcome != "done"
+        submission.ends[task.outcome or ""] = submission.ends.get(task.outcome or "", 0) + 1
         submission.held -= task.is_held
         self.recount(submission)
         self._count(submission, -1)
@@ -273,26 +275,30 @@ class Rows:
             self._keep_ended(submission)
 
     def hold(self, task: Task, is_held: bool) -> None:
-        """Takes in that a task which has not ended is held, or is not any more."""
+        """Hold or release a live task."""
         task.submission.held += is_held - task.is_held
         task.is_held = is_held
         self.recount(task.submission)
 
     def recount(self, submission: Submission) -> None:
-        """Takes in that other tasks of a submission are held or blocked, or have ended."""
-        free = submission.live - submission.held
-        now = (submission.held, free, 0) if submission.is_blocked else (submission.held, 0, free)
-        before, submission.counted = submission.counted, now
-        of_job = self.jobs[submission.job].counts
-        of_user = self.counts_of_user.setdefault(submission.user, Counter())
-        for state, old, new in zip(IDLE, before, now):
-            for counts in (self.counts, of_user, of_job) if old != new else ():
-                counts[state] += new - old
-            if not old and new:
-                insort(self.numbers[state], submission.number)
-            elif old and not new:
-                del self.numbers[state][bisect_left(self.numbers[state], submission.number)]
-        if not any(of_user.values()):
+        """Update the counters after a change of a submission's live, held or blocked tasks."""
+        free, before = submission.live - submission.held, submission.counted
+        now = (submission.held, free, 0) if submission.open_needs else (submission.held, 0, free)
+        of_user = self.counts_of_user.get(submission.user)
+        if of_user is None:
+            of_user = self.counts_of_user[submission.user] = [0, 0, 0]
+        of_job, submission.counted = self.jobs[submission.job].counts, now
+        for place, more in enumerate(now):
+            if more == before[place]:
+                continue
+            for counts in (self.counts, of_user, of_job):
+                counts[place] += more - before[place]
+            numbers = self.numbers[place]
+            if not before[place]:
+                insort(numbers, submission.number)
+            elif not more:
+                del numbers[bisect_left(numbers, submission.number)]
+        if not any(of_user):
             del self.counts_of_user[submission.user]
 
     def waiting_for(self, task: Task) -> list[tuple[int, bool]]:
@@ -341,7 +347,7 @@ class Rows:
             del self._ended[number], self.submissions[number]
 
     def drop(self, number: int) -> None:
-        """Drops a submission that has ended, where it is there."""
+        """Drop a submission that has ended, if memory has it."""
         if number in self._ended:
             self._ended_tasks -= len(self.submissions[number].tasks)
             self._ended_bytes -= self.submissions[number].size

@@ -5,8 +5,8 @@ all that was changed before. Where a commit fails, so does all that was changed 
 again once the disk takes writes. Until then nothing is changed. While a commit takes long, as on a disk that hangs, no
 further changes are begun; what it has may be on the disk in the end, so nobody is told that it is refused.
 
-Each commit has its number, and a sum of the checksums of all that has not ended, in a row of `meta`. So a start finds
-that rows are missing, or older than they were, without a look at what has ended.
+Each commit writes its number, and the sum of the checksums of all live rows, into a row of `meta`. So a start finds
+missing and older rows without reading ended ones.
 """
 
 from __future__ import annotations
@@ -29,13 +29,12 @@ from typing import Any, TypeVar
 from ..faults import RESTORE, Exit, Fault
 from ..files import replace_synced
 from ..logs import ERROR, INFO, tell
-from .audit import audit
+from .audit import PAUSE_SECONDS, audit
 from .queries import COMMIT, DROPPING, Point, point_of, value_of
 from .reach import Reach
 from .rows import Attempt, Spec, Submission, Task
-from .seals import Damaged, is_damage, places, seal, sealed, words_seal
+from .seals import COLUMNS, Damaged, is_damage, places, seal, sealed, seals_of_new, words_seal
 from .spending import WEEK_SECONDS
-from .upgrades import OLDER, upgrade
 
 DATABASE, ID, REACH = "queue.db", "id", "reach"
 VERSION = 4
@@ -44,8 +43,8 @@ LATE_SECONDS = 30.0  # after which a commit takes long
 BUSY_SECONDS = 5.0  # for another program that reads the database, as for a copy
 # Bytes of the write-ahead log, seconds between two waits for its readers, and of one, in which nothing is written.
 MOST_LOG, LOOK_SECONDS, READERS_SECONDS = 2**26, 30.0, 2.0
-AT_START_BYTES = 2**24  # of a database that is looked at as a whole before it is served; a larger one meanwhile
-HEADER_BYTES = b"\x02\x02"  # of the file, at 18: it has a write-ahead log
+AT_START_BYTES = 2**23  # of a database that is checked before it is served; a larger one is checked meanwhile
+HEADER_BYTES = b"\x02\x02"  # at 18 in a file with a write-ahead log
 SCHEMA = """
 CREATE TABLE meta (name TEXT PRIMARY KEY, value TEXT NOT NULL, sum INTEGER NOT NULL) WITHOUT ROWID;
 CREATE TABLE submission (
@@ -65,7 +64,6 @@ CREATE TABLE task (
     failures INTEGER NOT NULL, lost INTEGER NOT NULL, outcome TEXT, status INTEGER, reason TEXT NOT NULL, ended REAL,
     attempts INTEGER NOT NULL, sum INTEGER NOT NULL, PRIMARY KEY (number, idx)) WITHOUT ROWID;
 CREATE INDEX task_live ON task (number) WHERE outcome IS NULL;
-CREATE INDEX task_ended ON task (ended) WHERE outcome IS NOT NULL;
 CREATE INDEX task_unbegun ON task (ended) WHERE outcome IS NOT NULL AND attempts = 0;
 CREATE TABLE attempt (
     number INTEGER NOT NULL, idx INTEGER NOT NULL, attempt INTEGER NOT NULL, agent TEXT NOT NULL,
@@ -80,9 +78,10 @@ CREATE TABLE mark (machine TEXT PRIMARY KEY, mark TEXT NOT NULL, sum INTEGER NOT
 CREATE TABLE spent (user INTEGER PRIMARY KEY, bytes REAL NOT NULL, at REAL NOT NULL, sum INTEGER NOT NULL);
 """
 FIELDS = fields(Spec)
-REPLACE = {
-    table: f"INSERT OR REPLACE INTO {table} VALUES ({places(table)})" for table in "meta attempt agent mark spent".split()
-}
+ADD = {table: f"INSERT INTO {table} VALUES ({places(table)})" for table in ("need", "request")}
+ADD["task"] = "INSERT INTO task VALUES (?, ?, ?, 0, 0, 0, NULL, NULL, '', NULL, 0, ?)"  # a new one
+ADD["submission"] = f"INSERT INTO submission VALUES ({places('submission')}, ?)"
+REPLACE = {name: f"INSERT OR REPLACE INTO {name} VALUES ({places(name)})" for name in COLUMNS if name not in ADD}
 SAVE = """\
 UPDATE task SET (is_held, is_cancelled, failures, lost, outcome, status, reason, ended, attempts, sum)
 = (?, ?, ?, ?, ?, ?, ?, ?, ?, ?) WHERE number = ? AND idx = ?"""
@@ -113,12 +112,13 @@ class Store:
         self._connection: sqlite3.Connection  # of the writer's thread alone
         self._reading: sqlite3.Connection  # of the reader's
         self._listing: sqlite3.Connection  # of the lister's
-        self._auditing: sqlite3.Connection | None = None  # while the whole database is looked at
+        self._auditing: sqlite3.Connection | None = None  # while the whole database is checked
         self._is_closing = threading.Event()
         self._reach: Reach  # of the writer's
-        self._point = Point(0, 0, 0)  # of the last commit that counts, and what was changed since
-        self._seals: dict[tuple[str, str], int] = {}  # of rows that have not ended and are no tasks or attempts
+        self._number = self._last = self._live = 0  # fields of the next commit's `Point`
+        self._seals: dict[tuple[str, str], int] = {}  # of agents, marks and the lease, by table and key
         self._open: list[Change] = []  # what the next commit writes
+        self._spent: dict[int, tuple[int, float, float]] = {}  # the same of spending, by user
         self._next: asyncio.Future[None] | None = None  # that commit
         self._current: asyncio.Future[None] | None = None  # the one that is under way
 
@@ -129,8 +129,10 @@ class Store:
         self._reading = await loop.run_in_executor(self._reader, self._begin_reading)
         self._listing = await loop.run_in_executor(self._lister, self._begin_reading)
         self._auditing = sqlite3.connect(self._uri, uri=True, timeout=BUSY_SECONDS, check_same_thread=False)
-        audited = loop.run_in_executor(self._auditor, audit, self._auditing, self._is_closing)
-        if sum(path.stat().st_size for path in (self.path, self._log) if path.exists()) <= AT_START_BYTES:
+        is_small = sum(path.stat().st_size for path in (self.path, self._log) if path.exists()) <= AT_START_BYTES
+        pause = 0.0 if is_small else PAUSE_SECONDS
+        audited = loop.run_in_executor(self._auditor, audit, self._auditing, self._is_closing, pause)
+        if is_small:
             await asyncio.wait([audited])
             self._audited(audited, is_start=True)
         else:
@@ -156,21 +158,21 @@ class Store:
         self._reach.close()
 
     def _audited(self, done: asyncio.Future[None], is_start: bool = False) -> None:
-        """Takes in what a look at the whole database has found."""
+        """Handle the result of a check of the whole database."""
         error, self._auditing = done.exception(), None
         if is_damage(error) and is_start:
             raise self._damage(error) from error
         if is_damage(error):
             self.on_damage(self._damage(error))
-        elif error is not None and not isinstance(error, sqlite3.OperationalError):  # as of a disk that fails, or an end
+        elif error is not None and not isinstance(error, sqlite3.OperationalError):  # of a failing disk, or an end
             raise error
 
     def _damage(self, error: BaseException | None) -> Fault:
         return Fault(Exit.JOURNAL, f"{self.path} is damaged ({error}); {RESTORE}")
 
     async def read(self, query: Callable[[sqlite3.Connection], Result], aside: bool = False) -> Result:
-        """What a query, of one statement or many, gives of all that has been committed by one moment. One that may take
-        long is made aside, where no submission waits for it."""
+        """Return the result of a query, which may have several statements, over one snapshot. A long one runs aside, so
+        that no submission waits for it."""
         reader, connection = (self._lister, self._listing) if aside else (self._reader, self._reading)
         try:
             return await asyncio.get_running_loop().run_in_executor(reader, self._read, query, connection)
@@ -186,7 +188,7 @@ class Store:
             connection.rollback()
 
     def _require_whole(self, error: BaseException) -> None:
-        """Ends the queue where an error is damage."""
+        """End the queue if an error means damage."""
         if is_damage(error):
             self.on_damage(self._damage(error))
 
@@ -229,7 +231,8 @@ class Store:
 
     def read_anew(self, point: Point, seals: dict[tuple[str, str], int]) -> None:
         """Takes in that memory has been read: it has what is on the disk, and nothing else."""
-        self._is_ahead, self._point, self._seals = False, point, seals
+        self._is_ahead, self._seals = False, seals
+        self._number, self._last, self._live = point
 
     async def try_again(self) -> bool:
         """Whether the disk takes changes again, after a failure."""
@@ -252,22 +255,28 @@ class Store:
         number, needs = submission.number, submission.needs
         row = (number, submission.user, submission.job, submission.weight, submission.first, submission.last)
         head = (*row, submission.sent, len(needs), words_seal(spec))
-        self._write(f"INSERT INTO submission VALUES ({places('submission')}, ?)", [(*head, seal("submission", head), spec)])
-        rows = [(number, place, need.number, need.index, int(need.is_ok)) for place, need in enumerate(needs)]
-        self._write(f"INSERT INTO need VALUES ({places('need')})", sealed("need", rows))
-        tasks = sealed("task", map(row_of, submission.tasks.values()))
-        self._write(f"INSERT INTO task VALUES ({places('task')})", tasks)
-        for task, values in zip(submission.tasks.values(), tasks):
-            task.seal = self._count(task.seal, values[-1])
-        self._point = self._point._replace(last=max(self._point.last, number))
+        self._write(ADD["submission"], [(*head, seal("submission", head), spec)])
+        if needs:
+            rows = [(number, place, need.number, need.index, int(need.is_ok)) for place, need in enumerate(needs)]
+            self._write(ADD["need"], sealed("need", rows))
+        self._add_tasks(submission)
+        self._last = max(self._last, number)
+
+    def _add_tasks(self, submission: Submission) -> None:
+        number, is_held = submission.number, int(submission.held > 0)
+        seals = seals_of_new(number, submission.tasks, is_held)
+        self._write(ADD["task"], [(number, index, is_held, one) for index, one in zip(submission.tasks, seals)])
+        for task, one in zip(submission.tasks.values(), seals):
+            task.seal = one
+        self._live += sum(seals)
 
     def keep_answer(self, user: int, key: str, answer: list[Any]) -> None:
         rows = [(user, key, answer[0]["number"], json.dumps(answer))]
-        self._write(f"INSERT INTO request VALUES ({places('request')})", sealed("request", rows))
+        self._write(ADD["request"], sealed("request", rows))
 
     def spend(self, user: int, size: float) -> None:
-        """Writes how many bytes a user has spent by now."""
-        self._write(REPLACE["spent"], sealed("spent", [(user, float(size), time.time())]))
+        """Write the bytes that a user has spent, once with the next commit."""
+        self._spent[user] = (user, float(size), time.time())
 
     def save(self, tasks: Iterable[Task]) -> None:
         """Writes tasks as they are now."""
@@ -304,7 +313,7 @@ class Store:
         self._count(self._seals.pop(("mark", machine), 0), 0)
 
     def drop(self, number: int, is_large: bool) -> None:
-        """Removes a submission that has ended; of a large one all but tasks and attempts, which `drop_rows` does."""
+        """Remove an ended submission. `drop_rows` removes the tasks and attempts of a large one."""
         for table in ("submission", "need", "request", *(() if is_large else ("task", "attempt"))):
             self._write(f"DELETE FROM {table} WHERE number = ?", [(number,)])
         if is_large:
@@ -314,19 +323,19 @@ class Store:
         self._write(words, rows)
 
     def forget_spent(self) -> None:
-        """Removes what was spent so long ago that all of it has come back."""
+        """Remove spending that is older than a budget's week."""
         self._write("DELETE FROM spent WHERE at < ?", [(time.time() - WEEK_SECONDS,)])
 
     def _replace(self, table: str, values: tuple[str, ...]) -> None:
-        """Writes a row that counts as long as it is there."""
+        """Write a row of agents, marks or the lease."""
         (row,) = sealed(table, [values])
         self._write(REPLACE[table], [row])
         key = (table, values[0])
         self._seals[key] = self._count(self._seals.get(key, 0), row[-1])
 
     def _count(self, before: int, after: int) -> int:
-        """Takes in that a row which has not ended has another checksum, 0 for none; that one."""
-        self._point = self._point._replace(live=self._point.live + after - before)
+        """Replace a live row's checksum in the sum, 0 for none. Return the new one."""
+        self._live += after - before
         return after
 
     def _write(self, words: str, rows: Sequence[tuple[Any, ...]]) -> None:
@@ -349,11 +358,14 @@ class Store:
         if self._current is not None or self._next is None:
             return
         changes, self._open = self._open, []
-        self._point = self._point._replace(number=self._point.number + 1)
-        changes.append((REPLACE["meta"], sealed("meta", [(COMMIT, self._point.text())])))
+        changes.append((REPLACE["spent"], sealed("spent", self._spent.values())))
+        self._spent.clear()
+        self._number += 1
+        point = Point(self._number, self._last, self._live)
+        changes.append((REPLACE["meta"], sealed("meta", [(COMMIT, point.text())])))
         self._current, self._next = self._next, None
         self._lateness = asyncio.get_running_loop().call_later(LATE_SECONDS, self._tell_late)
-        work = partial(self._commit_known, changes, self._point.number)
+        work = partial(self._commit_known, changes, self._number)
         done = asyncio.get_running_loop().run_in_executor(self._writer, work)
         done.add_done_callback(self._committed)
 
@@ -379,11 +391,12 @@ class Store:
             self._hand_over()
             return
         self._require_whole(error)
-        self._point = self._point._replace(number=self._point.number - 1)
+        self._number -= 1
         self._is_ahead |= not self.why_bad  # otherwise it was a try, and nothing else was changed
         self.why_bad = f"{self.path}: {error}"
         last, self._next = self._next, None
         self._open.clear()
+        self._spent.clear()
         for future in (current, last):
             if future is not None:
                 future.set_exception(NotWritten(self.why_bad))
@@ -391,7 +404,7 @@ class Store:
         self.on_failure()
 
     def _commit_known(self, changes: list[Change], number: int) -> None:
-        """Writes changes, and then how far the commits go: never more than one of them is unknown."""
+        """Write changes, and then the number of commits, so that at most one is ahead."""
         if self._reach.number < number - 1:
             self._reach.keep(number - 1)
         self._commit(changes)
@@ -439,7 +452,7 @@ class Store:
         return sqlite3.connect(self._uri, uri=True, timeout=BUSY_SECONDS)
 
     def _opened(self) -> sqlite3.Connection:
-        """The database, after a look at whose it is and how far it goes."""
+        """Return the database once its owner, version and number of commits are checked."""
         mark = self.folder / ID
         name = mark.read_text("ascii", "replace").strip() if mark.exists() else None
         if name is not None and not self.path.exists():
@@ -455,12 +468,12 @@ class Store:
         if is_new:
             connection.execute("PRAGMA journal_mode = WAL")
             self._make(connection)
-        version = self._look_at(connection)
+        self._look_at(connection)
         connection.execute("PRAGMA synchronous = FULL")
         kept = value_of(connection, "id") or ""
         if name not in (None, kept):
             raise Fault(Exit.JOURNAL, f"{self.path} is of another state than {mark}; {RESTORE}")
-        self._reach = self._reached(kept, point_of(connection), name is None or version != VERSION)
+        self._reach = self._reached(kept, point_of(connection), name is None)
         if name is None:
             replace_synced(mark, f"{kept}\n".encode())
         return connection
@@ -472,24 +485,12 @@ class Store:
         connection.executemany(REPLACE["meta"], sealed("meta", rows))
         connection.execute("COMMIT")
 
-    def _look_at(self, connection: sqlite3.Connection) -> int:
-        """Raises `Fault` where the database is not one that this program can go on with; the version that it had."""
+    def _look_at(self, connection: sqlite3.Connection) -> None:
+        """Raise `Fault` or `Damaged` unless the database is of this program, version and tenant."""
         if one(connection, "PRAGMA application_id") != APPLICATION:
             raise Fault(Exit.JOURNAL, f"{self.path} is not a database of firm-queue's")
-        version: int = one(connection, "PRAGMA user_version")
-        if version not in (*OLDER, VERSION):
-            raise Fault(Exit.JOURNAL, f"{self.path} is of version {version}; this firm-queue reads {VERSION} at most")
-        if version == VERSION:
-            self._require_own(connection)
-        tenant = one(connection, "SELECT value FROM meta WHERE name = 'tenant'")
-        if tenant != self._tenant:
-            raise Fault(Exit.STATE, f"{self.path} is the queue of the tenant {tenant}, not of {self._tenant}")
-        if version != VERSION:
-            upgrade(connection, SCHEMA, VERSION)
-        return version
-
-    def _require_own(self, connection: sqlite3.Connection) -> None:
-        """Raises `Damaged` where the file is of another kind, or has other tables."""
+        if (version := one(connection, "PRAGMA user_version")) != VERSION:
+            raise Fault(Exit.JOURNAL, f"{self.path} is of version {version}; this firm-queue reads {VERSION} alone")
         with open(self.path, "rb") as file:
             header = file.read(20)[18:]
         with closing(sqlite3.connect(":memory:")) as other:
@@ -497,16 +498,18 @@ class Store:
             wanted = schema_of(other)
         if header != HEADER_BYTES or schema_of(connection) != wanted:
             raise Damaged("its header or its tables are not as they were written")
-        value_of(connection, "tenant")
+        tenant = value_of(connection, "tenant")
+        if tenant != self._tenant:
+            raise Fault(Exit.STATE, f"{self.path} is the queue of the tenant {tenant}, not of {self._tenant}")
 
     def _reached(self, state: str, point: Point, is_new: bool) -> Reach:
-        """How far the commits went; raises `Fault` where the database does not go so far, or further."""
+        """Return how far the commits went. Raise `Fault` if the database ends before that, or goes further."""
         path = self.folder / REACH
         reach = Reach.read(path)
-        if reach is None and not is_new:
-            raise Fault(Exit.JOURNAL, f"{path} is missing, with which the state began; {RESTORE}")
-        if reach is None or is_new:
+        if reach is None and is_new:
             return Reach.make(path, state, point.number)
+        if reach is None:
+            raise Fault(Exit.JOURNAL, f"{path} is missing, with which the state began; {RESTORE}")
         if reach.state != state:
             raise Fault(Exit.JOURNAL, f"{path} is of another state than {self.path}; {RESTORE}")
         if point.number < reach.number:
@@ -531,13 +534,13 @@ def one(connection: sqlite3.Connection, words: str) -> Any:
 
 
 def row_of(task: Task) -> tuple[Any, ...]:
-    """A task as its row has it."""
+    """Return a task's row."""
     first = (task.submission.number, task.index, int(task.is_held), int(task.is_cancelled), task.failures, task.lost)
     return (*first, plain(task.outcome), task.status, task.reason, task.ended, task.attempts)
 
 
 def plain(outcome: str | None) -> str | None:
-    """An outcome as it is read again: no member of an enumeration."""
+    """Return an outcome as a plain string, as it is read again."""
     return outcome if outcome is None else str(outcome)
 
 

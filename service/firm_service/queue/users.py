@@ -93,6 +93,7 @@ def job_of(number: int) -> str:
 
 
 def owner_of(job: str) -> int | None:
-    """The user for whom such a name is kept; None where it is anybody's."""
-    found = re.fullmatch(r"u(0|[1-9][0-9]*)", job)
-    return int(found[1]) if found is not None else None
+    """Return the user for whom a job's name is reserved, if any."""
+    digits = job[1:]
+    is_reserved = job[:1] == "u" and digits.isdigit() and (digits[0] != "0" or digits == "0")
+    return int(digits) if is_reserved else None
