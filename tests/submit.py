@@ -381,7 +381,7 @@ def as_another_user(found: Cluster, other: str) -> None:
 
 
 def why_of_user(path: Path, other: str) -> list[object]:
-    """What the user's own waiting task is told, and another's."""
+    """Return the reasons of the user's own waiting task, and the refusal for another user's task."""
     with Queue(path) as queue:
         number = queue.submit(Submission(command=("true",), dir="/")).id
         wait_until(lambda: queue.task(number).task.reason == "no free slot", "it does not wait")

@@ -1,9 +1,8 @@
 """A selector that gives each group of descriptors a share of the loop's turns, however many of them are ready.
 
-The clients of a socket are a group, and so is the socket itself. Each group has an epoll of its own, which stands in
-the selector's as one descriptor: so the loop learns which groups are ready, and takes some descriptors of each. The
-system gives those in turn. Without that, a socket with 500 clients that send a byte at a time would have 500 callbacks
-in a turn, whatever few bytes these are.
+The clients of a socket and the socket itself are groups. Each group has a separate epoll, which is one descriptor in
+the selector's: so the loop learns which groups are ready, and takes some descriptors of each. The system returns those
+in turn. Otherwise a socket with 500 clients that send a byte at a time would have 500 callbacks in a turn.
 """
 
 from __future__ import annotations

@@ -212,8 +212,7 @@ class Yielding:
         self._rows: list[tuple[int, int, str]] | None = None  # the lightest last, of these the youngest
 
     def leave(self, first: Order, needed: Room, missing: int) -> list[str] | None:
-        """Those that leave so that there is room for a task, and a number of tasks; None where there is none to be
-        made."""
+        """Return the rows that leave to make this room; None if no lighter tasks can make it."""
         weight = self._book.rounds - first[0]
         if weight <= self._lightest:
             return None
