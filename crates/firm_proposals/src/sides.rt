@@ -147,6 +147,8 @@ pub(crate) struct Side {
     // The hub and the outside, while they are not gone into, and the walk from the last of those.
     far: Stack,
     far_walk: Walk,
+    // Whether the next turn there goes to tasks.
+    is_tasks_turn: bool,
     // The machines between which and the hub or the outside units may go, without those seen to be of other classes.
     at_hub: Circle,
     at_edge: Circle,
@@ -169,6 +171,7 @@ impl Side {
             walk: Walk::NONE,
             far: Stack::new(memory, 2),
             far_walk: Walk::NONE,
+            is_tasks_turn: false,
             at_hub: Circle::new(memory, nodes),
             at_edge: Circle::new(memory, nodes),
         }
@@ -205,6 +208,7 @@ impl Side {
         self.walk = Walk::NONE;
         self.far.clear();
         self.far_walk = Walk::NONE;
+        self.is_tasks_turn = false;
         self.units = UnitLinks::NONE;
         self.saw_hub = false;
         self.saw_outside = false;
@@ -257,7 +261,7 @@ impl Side {
             place
         } else if !self.far_walk.is_done() {
             let mut walk = self.far_walk;
-            let place = self.look_round(view, other, &mut walk, work);
+            let place = self.look_from_afar(view, other, &mut walk, work);
             self.far_walk = walk;
             place
         } else {
@@ -321,15 +325,33 @@ impl Side {
         Found::On
     }
 
+    // Looks at the links of the hub or the outside, up to a new place that leads on, which it returns; `NONE` if there
+    // is none. Machines and tasks take turns: where thousands of machines lead nowhere, a task often leads on.
+    #[inline(always)]
+    fn look_from_afar(
+        &mut self,
+        view: &View,
+        other: &Side,
+        walk: &mut Walk,
+        work: &mut Work,
+    ) -> u32
+        ensures most { work.new.most ≡ work.old.most }
+    {
+        let is_tasks_turn = self.is_tasks_turn;
+        self.is_tasks_turn = !is_tasks_turn;
+        if walk.machines == 0 || (is_tasks_turn && walk.has_ways()) {
+            self.look_along(view, walk, work)
+        } else {
+            self.look_round(view, other, walk, work)
+        }
+    }
+
     // Looks at machines between which and the hub or the outside a unit may go, up to a new one that leads on, which it
-    // gives; `NONE` if there is none. Behind the machines come the tasks.
+    // gives; `NONE` if there is none.
     #[inline(always)]
     fn look_round(&mut self, view: &View, other: &Side, walk: &mut Walk, work: &mut Work) -> u32
         ensures most { work.new.most ≡ work.old.most }
     {
-        if walk.machines == 0 {
-            return self.look_along(view, walk, work);
-        }
         let from = walk.place;
         let is_hub = from == view.table.hub();
         for _ in 0..self.turn {
@@ -374,7 +396,7 @@ impl Side {
     {
         let from = walk.place;
         for _ in 0..self.turn {
-            if walk.is_done() || !work.look() {
+            if !walk.has_ways() || !work.look() {
                 return NONE;
             }
             let Link { by, at: to } = if self.is_ahead {
