@@ -20,24 +20,27 @@ import urllib.request
 from collections import Counter
 from collections.abc import Callable
 from contextlib import suppress
-from datetime import datetime, timedelta
 from functools import partial
 from pathlib import Path
 
 from harness import program, sessions
-from harness.checks import Check, Suite, require, run_script, run_suites
+from harness.checks import Check, Missed, Suite, require, run_script, run_suites
 from harness.deployed import SERVICE
 from harness.guard import guard
 from slurmdbd_kit import OTHERS, Slurmdbd
-from slurm_kit import BRIDGE, Cluster, Judge, Site, free_ports, require_packages, site, slowness, wait
+from slurm_kit import BRIDGE, LIMITS, Cluster, Judge, Site, free_ports, require_packages, site, slowness, wait
 
 EQUAL_SECONDS, START_SECONDS = 2.0, 5.0  # in which squeue has what firm decided, and 160 jobs run, on an idle host
 RETRY_SECONDS = 2.0  # at most, until firmd is found again
-STUCK_SECONDS = 60.0  # until a job that can't start is put off
+PLACED_SECONDS = 30.0  # until a job is put off whose slot is not free
 AT_A_TIME = 4  # checks
 USER = "nobody"
 PAGE = program.ROOT / "docs" / "CLUSTER.md"
 MOVING = "4096,65536,1099511627776,10,5,0"  # a third task on a machine costs more than a move
+LIGHT, ROUNDS = 32, 6  # jobs that are preempted again and again, and how often
+LAUNCHED, PAUSE_SECONDS = 16, 160.0  # jobs that are requeued as they start, and until all run again
+STEADY_SECONDS = 4.0  # for which they ran before their owner requeues some, so that no launch is disturbed
+REQUEUE_SECONDS = 25.0  # in which these run again on an idle host; Slurm by itself takes 121
 DOWN_SECONDS = 120.0  # for Slurm to give a node up
 PAGE_SECONDS = 900.0  # from the first command of the page to the end of a job, once the packages are there
 
@@ -119,7 +122,7 @@ def judge(place: Site, count: int, slots: int) -> dict[str, int]:
 
 
 def count_running(place: Site) -> int:
-    return sum(state == "RUNNING" for state, _ in place.cluster.squeue().values())
+    return len(running(place))
 
 
 def large(firm: str) -> None:
@@ -199,17 +202,24 @@ def orders(firm: str) -> None:
 
 def refusals(firm: str) -> None:
     """What is more than one slot, or chooses its node, is refused with Slurm's own words."""
-    with site(firm, 2, 2) as place:
+    with site(firm, 2, 2, more="SelectTypeParameters=CR_CPU_Memory\nDefMemPerCPU=500") as place:
         script = place.folder / "job"
         script.write_text("#!/bin/sh\n")
+        reserve = ["ReservationName=r", "StartTime=now", "Duration=60", f"Users={USER}", "Nodes=node2"]
+        place.cluster.run("scontrol", "create", "reservation", *reserve)
         for words, said in (
             (["-N2"], "one slot"),
             (["-n2"], "one slot"),
             (["-c2"], "one slot"),
             (["--exclusive"], "one slot"),
             (["--exclusive=user"], "one slot"),
+            (["--mem=501"], "MB of memory 500 at most"),
+            (["--mem=0"], "MB of memory 500 at most"),
+            (["--mem-per-cpu=501"], "MB of memory 500 at most"),
+            (["-n1", ":", "-n1"], "one component"),
             (["-w", "node1"], "firm chooses the node"),
             (["-x", "node1"], "firm chooses the node"),
+            (["--reservation=r"], "reserved nodes"),
             (["--comment=a\nb"], "control characters"),
             (["-A", "a|b"], "control characters"),
         ):
@@ -222,12 +232,21 @@ def refusals(firm: str) -> None:
 
 # Changes of a job that its user may not make: of its size, its node, when it runs, and whether firm may preempt it.
 CHANGES = ["NumCPUs=4", "NumNodes=2", "NumTasks=3", "CPUsPerTask=3", "MinCPUsNode=2", "Requeue=0"]
-CHANGES += ["ReqNodeList=node1", "ExcNodeList=node1", "Comment=a|b", "Comment=a\nb", "Account=a|b", "QOS=a\nb"]
+CHANGES += ["MinMemoryNode=501", "MinMemoryNode=0", "MinMemoryCPU=501"]
+CHANGES += [
+    "ReqNodeList=node1",
+    "ExcNodeList=node1",
+    "ReservationName=r",
+    "Comment=a|b",
+    "Comment=a\nb",
+    "Account=a|b",
+    "QOS=a\nb",
+]
 
 
 def changes(firm: str) -> None:
     """Whatever its user changes of a job, it has one slot, firm may preempt it, and his own hold stays."""
-    with site(firm, 1, 2) as place:
+    with site(firm, 1, 2, more="SelectTypeParameters=CR_CPU_Memory\nDefMemPerCPU=500") as place:
         held = place.submit(1, 60, "light", "--hold", user=USER)
         array = place.submit(4, 60, "light", "--array=1-4%1", user=USER)
         update = partial(place.cluster.try_run, "scontrol", "update", user=USER)
@@ -241,7 +260,7 @@ def changes(firm: str) -> None:
                 require(update(f"JobId={job}", f"Comment={words}").returncode == 0, f"a comment: {words!r}")
         place.start_bridge()
         wait(lambda: count_running(place) == 1, "an element of the array")
-        place.submit(2, 1, "heavy")
+        place.submit(2, 6, "heavy")  # longer than the first seconds of a job, in which none is requeued
         wait(lambda: place.count_said("preempt"), "a preemption of a job that its user has changed")
         wait(lambda: place.count_said("requeuehold"), "it is carried out")
         require(set(place.places()) & {held} == set(), "a held job whose comment has changed is firm's")
@@ -258,13 +277,6 @@ def changes(firm: str) -> None:
 # What else there is
 
 
-def is_put_off(place: Site, job: str) -> bool:
-    """Whether a job is held, with a later time to begin."""
-    reason, eligible, _ = place.cluster.run("squeue", "-h", "-j", job, "-O", "Reason:|,EligibleTime:|").split("|")
-    later = datetime.now() + timedelta(seconds=100)
-    return reason == "JobHeldUser" and eligible != "N/A" and datetime.fromisoformat(eligible) > later
-
-
 def moved(firm: str) -> None:
     """A job that firm moves is requeued, and runs to its end where firm has it then; a killed bridge is no matter."""
     with site(firm, 3, 4, limits=MOVING) as place:
@@ -273,7 +285,7 @@ def moved(firm: str) -> None:
         for node in ("node2", "node3"):
             set_node(place, node, "DRAIN")
         wait(lambda: drained(place, "node2") and drained(place, "node3"), "one machine")
-        place.submit(3, 20, "heavy")
+        place.submit(3, round(12 + 8 * slowness()), "heavy")
         wait(lambda: count_running(place) == 3, "three jobs on node1")
         for node in ("node2", "node3"):
             set_node(place, node, "RESUME")
@@ -287,21 +299,148 @@ def moved(firm: str) -> None:
         require(carried_out.get("move", 0) >= 2, f"moves: {carried_out}")
 
 
+def preempted(firm: str) -> None:
+    """Jobs that are preempted, or requeued by their owner, run again at once where they ran; none is lost."""
+    with site(firm, 2, 16) as place:
+        place.start_bridge()
+        wait(lambda: len(place.rows()["machines"]) == 2, "two machines")
+        array = place.submit(LIGHT, 3600, "light", user=USER)
+        runs = partial(all_run, place, array)
+        wait(runs, "all light jobs")
+        chance, slowest = random.Random(1), 0.0
+        for _ in range(ROUNDS):
+            heavy = place.submit(LIGHT, 3600, "heavy")
+            wait(lambda: not any(name.startswith(f"{array}-") for name in running(place)), "all of them are preempted")
+            time.sleep(chance.uniform(0, 1.5))
+            place.cluster.run("scancel", heavy)
+            wait(runs, "the light jobs again")
+            time.sleep(STEADY_SECONDS)
+            chosen = chance.sample(range(1, LIGHT + 1), LIGHT // 2)
+            place.cluster.run("scontrol", "requeue", f"{array}_[{','.join(map(str, chosen))}]", user=USER)
+            slowest = max(slowest, wait(runs, "the requeued jobs", REQUEUE_SECONDS))
+        told = f"{ROUNDS * LIGHT} preemptions and {ROUNDS * (LIGHT // 2)} requeues, none lost"
+        tell(f"{told}; at most {slowest:.1f} s after a requeue all run")
+        place.cluster.run("scancel", array)
+        wait(place.is_empty, "the end of all jobs")
+        Judge(place).require_single()
+
+
+def launched(firm: str) -> None:
+    """Jobs that their owner requeues as they start run again after Slurm's own pause; none is lost, none runs twice."""
+    with site(firm, 2, 8) as place:
+        place.start_bridge()
+        wait(lambda: len(place.rows()["machines"]) == 2, "two machines")
+        array = place.submit(LAUNCHED, 3600, "light", user=USER)
+        requests = "".join(f"requeue {array}_{index}\n" for index in range(1, LAUNCHED + 1)) * 20
+        restarts = partial(place.cluster.run, "squeue", "-h", "--array-unique", "-O", "RestartCnt")
+
+        def are_requeued() -> bool:
+            place.cluster.try_run("scontrol", user=USER, text=requests)  # Slurm refuses those that don't run
+            return "0" not in restarts().split()
+
+        wait(are_requeued, "a requeue of each")
+        seconds = wait(partial(all_run, place, array, LAUNCHED), "all jobs again", PAUSE_SECONDS)
+        tell(f"{LAUNCHED} jobs that were requeued as they started all run {seconds:.0f} s later")
+        place.cluster.run("scancel", array)
+        wait(place.is_empty, "the end of all jobs")
+        Judge(place).require_single()
+
+
+def all_run(place: Site, array: str, count: int = LIGHT) -> bool:
+    """Whether all elements of an array run; asks that none is lost."""
+    try:
+        jobs = place.cluster.squeue()
+    except Missed:  # slurmctld may be busy
+        return False
+    states = [state for name, (state, _) in jobs.items() if name.startswith(f"{array}-")]
+    require(len(states) == count, f"{count - len(states)} of {count} jobs are lost")
+    return states.count("RUNNING") == count
+
+
+def running(place: Site) -> list[str]:
+    return [name for name, (state, _) in place.cluster.squeue().items() if state == "RUNNING"]
+
+
 def put_off(firm: str) -> None:
-    """A job that Slurm can't start within a minute gives its slot back, and is put off."""
+    """A job that Slurm doesn't start gives its slot back, and is put off; also where another partition's has it."""
     others = "PartitionName=firm Nodes=node1 Default=YES State=UP\nPartitionName=other Nodes=node1 State=UP"
-    with site(firm, 1, 2, partitions=others) as place:
+    with site(firm, 1, 2, partitions=others, limits=LIMITS.removesuffix("5") + "0") as place:
         place.start_bridge()
         wait(lambda: place.rows()["machines"], "a machine")
         place.submit(1, 300, "light", "-p", "other", "-n2")
         wait(lambda: count_running(place) == 1, "the other partition's job")
         job = place.submit(1, 1, "light")
         wait(lambda: place.places().get(job) == "node1", "firm places the job")
-        wait(lambda: not is_in_firm(place, job), "its slot is given back", 2 * STUCK_SECONDS)
-        wait(lambda: is_put_off(place, job), "it is put off")
+        wait(lambda: place.count_said("put off"), "its slot is given back", 2 * PLACED_SECONDS)
+        wait(lambda: place.count_said("remote is 0"), "that preferences have no effect")
         place.cluster.run("scancel", "-p", "other")
-        place.cluster.run("scontrol", "update", f"JobId={job}", "StartTime=now")
         wait(place.is_empty, "its end")
+
+
+def blocked(firm: str) -> None:
+    """Jobs that Slurm can't start, for want of a licence, a feature or an unreserved node, keep no others waiting."""
+    with site(firm, 3, 4, more="Licenses=seat:1") as place:
+        run = place.cluster.run
+        reserve = ["ReservationName=r", "StartTime=now", "Duration=60", "Users=root", "Flags=IGNORE_JOBS"]
+        run("scontrol", "create", "reservation", "Nodes=node3", *reserve)
+        place.start_bridge()
+        place.submit(24, 1, "light", user=USER)
+        tell(f"24 jobs of 1 s, 8 slots and a reserved node: {wait(place.is_empty, 'their end'):.1f} s")
+        run("scontrol", "delete", "ReservationName=r")
+        wait(lambda: len(place.rows()["machines"]) == 3, "the reserved node again")
+        booked(place)
+        seats = place.submit(100, 3, "light", "--licenses=seat", user=USER)
+        wait(lambda: count_running(place) == 1, "the licence's first job")
+        other = place.submit(44, 1, "light", "--array=2-88:2", user=USER)
+        seconds = wait(lambda: not count_of(place, other), "jobs without a licence")
+        tell(f"44 jobs of 1 s behind 100 that have one licence, 12 slots: {seconds:.1f} s")
+        require(count_of(place, seats) > 60, f"{count_of(place, seats)} of 100 jobs have not had the licence")
+        run("scancel", seats)
+        wait(place.is_empty, "the end of all jobs")
+        run("scontrol", "update", "NodeName=node3", "AvailableFeatures=big", "ActiveFeatures=big")
+        first = place.submit(4, 20, "light", "--comment=near=node3")
+        wait(lambda: set(place.places().values()) == {"node3"}, "the node with the feature is in use")
+        big = place.submit(2, 1, "light", "-C", "big")
+        wait(lambda: place.count_said("put off"), "a node that a job is not made for")
+        run("scancel", first)
+        wait(place.is_empty, "the end of the jobs with a feature", 150)
+        require(Judge(place).works()[f"{big}_1"] == 1, "a job with a feature has not run")
+
+
+def booked(place: Site) -> None:
+    """A node with a reservation ahead takes only jobs that end before; others don't wait for it."""
+    reserve = ["ReservationName=later", "StartTime=now+1hour", "Duration=60", "Users=root", "Nodes=node3"]
+    place.cluster.run("scontrol", "create", "reservation", *reserve)
+    place.submit(24, 1, "light", user=USER)
+    tell(f"24 jobs of 1 s without a limit, 8 slots and a booked node: {wait(place.is_empty, 'their end'):.1f} s")
+    require(not place.count_said("put off"), "a job was placed on a node that is booked")
+    place.submit(24, 1, "light", user=USER)
+    short = place.submit(24, 2, "light", "-t", "30", user=USER)
+    tell(f"with 24 of 2 s and 30 minutes at most: {wait(place.is_empty, 'their end'):.1f} s")
+    ends = [row.split() for row in place.ledger.read_text().splitlines()]
+    require(any(row[1] == short and row[-1] == "node3" for row in ends), "no short job ran on the booked node")
+    place.cluster.run("scontrol", "delete", "ReservationName=later")
+
+
+def asleep(firm: str) -> None:
+    """A node that Slurm has powered down is a machine, and is woken for its jobs."""
+    more = "SuspendProgram=/bin/true\nResumeProgram=/bin/true\nSuspendTime=3600\nSuspendTimeout=3\nResumeTimeout=300"
+    with site(firm, 2, 2, more=more) as place:
+        look = partial(place.cluster.run, "sinfo", "-h", "-N", "-n", "node2", "-O", "StateComplete:100")
+        set_node(place, "node2", "POWER_DOWN")
+        place.cluster.kill("slurmd.node2")
+        wait(lambda: "powered_down" in look(), "a node without power")
+        place.start_bridge()
+        wait(lambda: len(place.rows()["machines"]) == 2, "it is a machine")
+        place.submit(4, 3, "light")
+        wait(lambda: "powering_up" in look(), "it is woken")
+        place.cluster.run("slurmd", "-N", "node2", "-b")  # as if its host had been started
+        wait(place.is_empty, "the end of all jobs")
+        judge(place, 4, 2)
+
+
+def count_of(place: Site, array: str) -> int:
+    return sum(name.startswith(f"{array}-") for name in place.cluster.squeue())
 
 
 def taken_over(firm: str) -> None:
@@ -385,7 +524,7 @@ def preempts(place: Site, weights: dict[str, int], account: str, *words: str) ->
     before = place.count_said("preempt")
     place.start_bridge()
     wait(lambda: place.rows()["machines"], "a machine")
-    place.submit(2, 8, "light", user=USER)
+    place.submit(2, round(4 + 4 * slowness()), "light", user=USER)
     wait(lambda: count_running(place) == 2, "two light jobs")
     waiting = place.submit(1, 2, "light", user=USER)
     wait(lambda: is_in_firm(place, waiting), "one that waits")
@@ -591,7 +730,11 @@ CHECKS: dict[str, Callable[[str], None]] = {
     "large": large,
     "decided": decided,
     "moved": moved,
+    "preempted": preempted,
+    "launched": launched,
     "put off": put_off,
+    "blocked": blocked,
+    "asleep": asleep,
     "accounts": accounts,
     "orders": orders,
     "taken over": taken_over,

@@ -23,15 +23,16 @@ from typing import Any, NamedTuple, Protocol
 
 from firmd_kit import JOURNAL_TOOL, Daemon
 from harness.checks import Missed, Skipped, require
-from harness.deployed import SERVICE
+from harness.deployed import SERVICE, slurm
 
+reading = slurm.reading
 PROGRAMS = ("munged", "slurmctld", "slurmd", "sbatch", "squeue", "sinfo", "scontrol", "scancel")
 PLUGIN = "slurm-wlm/job_submit_lua.so"
 BRIDGE = [sys.executable, str(SERVICE / "firm-slurm")]
 HEADING = "tenant,nodes,arcs,life,spread,churn,remote\n"
 LIMITS = "4096,65536,1099511627776,0,100000,5"  # as `firmctl make-roster` writes them by its recipe `pack`
 LIMIT_SECONDS = 90.0  # for anything that is waited for
-LOOK_SECONDS, MOST_SLOWNESS = 0.1, 4.0
+LOOK_SECONDS, MOST_SLOWNESS = 0.1, 8.0
 SLACK_SECONDS = 3.0  # by which slurmd may write the end of a job later than its end
 FIRST_PORT, LAST_PORT = 20_000, 32_000
 CONF = """\
@@ -71,8 +72,10 @@ MaxArraySize=100000
 KillWait=5
 SlurmctldTimeout=30
 SlurmdTimeout=15
-NodeName=node[1-{nodes}] NodeAddr=127.0.0.1 Port=[{first}-{last}] CPUs={cpus} RealMemory=1000
+NodeName=node[1-{nodes}] NodeHostname=host[1-{nodes}] NodeAddr=127.0.0.1 Port=[{first}-{last}] \
+CPUs={cpus} RealMemory=1000
 {partitions}
+{more}
 """
 NO_ACCOUNTS = "AccountingStorageType=accounting_storage/none"
 SCRIPT = """\
@@ -141,6 +144,7 @@ class Cluster:
     cpus: int
     partitions: str = "PartitionName=firm Nodes=ALL Default=YES MaxTime=INFINITE State=UP"
     accounts: Accounts | None = None
+    more: str = ""  # lines of slurm.conf
 
     def __post_init__(self) -> None:
         names = [f"node{node}" for node in range(1, self.nodes + 1)]
@@ -163,6 +167,7 @@ class Cluster:
                 first=port + 1,
                 last=port + self.nodes,
                 partitions=self.partitions,
+                more=self.more,
             )
         )
 
@@ -172,15 +177,16 @@ class Cluster:
 
     @property
     def environment(self) -> dict[str, str]:
-        return {**os.environ, "SLURM_CONF": str(self.conf), "PATH": f"{os.environ['PATH']}:/usr/sbin"}
+        own = {"SLURM_CONF": str(self.conf), "SLURM_BITSTR_LEN": "0", "PATH": f"{os.environ['PATH']}:/usr/sbin"}
+        return {**os.environ, **own}
 
-    def try_run(self, *words: str, user: str | None = None) -> subprocess.CompletedProcess[str]:
+    def try_run(self, *words: str, user: str | None = None, text: str = "") -> subprocess.CompletedProcess[str]:
         prefix = [] if user is None else ["runuser", "-u", user, "--"]
         return subprocess.run(
             [*prefix, *words],
             env=self.environment,
             cwd=self.folder,
-            stdin=subprocess.DEVNULL,
+            input=text,
             capture_output=True,
             text=True,
             timeout=LIMIT_SECONDS,
@@ -262,8 +268,12 @@ class Cluster:
 
     def squeue(self) -> dict[str, tuple[str, str]]:
         """The state and the node of each job that has not ended."""
-        rows = self.run("squeue", "-h", "-r", "-o", "%i|%T|%N").splitlines()
-        return {name.replace("_", "-"): (state, node) for name, state, node in (row.split("|") for row in rows)}
+        found: dict[str, tuple[str, str]] = {}
+        for row in self.run("squeue", "-h", "--array-unique", "-o", "%i|%T|%N").splitlines():
+            name, state, node = row.split("|")
+            for number, index in reading.elements_of(name):
+                found[f"{number}" if index is None else f"{number}-{index}"] = (state, node)
+        return found
 
 
 @dataclass
@@ -408,7 +418,7 @@ class Site:
 def site(firm: str, nodes: int, cpus: int, **words: Any) -> Iterator[Site]:
     """A site that runs, without a bridge."""
     require_packages()
-    of_cluster = {name: words.pop(name) for name in ("partitions", "accounts") if name in words}
+    of_cluster = {name: words.pop(name) for name in ("partitions", "accounts", "more") if name in words}
     with tempfile.TemporaryDirectory(prefix="firm-slurm-") as name:
         folder = Path(name)
         folder.chmod(0o755)
@@ -431,7 +441,7 @@ def keep(folder: Path) -> None:
     """Copies the logs to where they are wanted."""
     kept = os.environ.get("KEEP_LOGS")
     if kept is not None:
-        ignored = shutil.ignore_patterns("socket*", "any", "view", "moves", "operator", "spool", "database")
+        ignored = shutil.ignore_patterns("socket*", "any", "view", "moves", "operator", "spool", "database", "*.new")
         shutil.copytree(folder, Path(kept) / folder.name, ignore=ignored)
 
 

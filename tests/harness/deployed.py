@@ -10,6 +10,7 @@ from harness.program import ROOT
 import firm_service.slurm.check
 import firm_service.slurm.differences
 import firm_service.slurm.done
+import firm_service.slurm.refusals
 import firm_service.slurm.said
 from firm_service import agent_events, agent_machines, agent_queue, archive, books, budgets, extent, feed, feeder
 from firm_service import kept_books, lanes, past, past_rounds, records

@@ -7,7 +7,7 @@ import fcntl
 import time
 from collections import Counter
 from collections.abc import Coroutine, Sequence
-from dataclasses import dataclass, field
+from dataclasses import dataclass, field, replace
 from itertools import chain
 from pathlib import Path
 from typing import IO, Any
@@ -22,6 +22,7 @@ from .commands import NoSlurm
 from .differences import Standing, standing
 from .done import deeds
 from .reading import Picture, Use
+from .refusals import Refusals
 from .said import News, Seen, news, strays
 from .table import Partition, Table
 
@@ -59,6 +60,7 @@ class Side:
         self._last_round = self._full_until = -1e9
         self._foreign = 0  # lines that were obeyed, without those of this bridge
         self._warnings: dict[str, float] = {}  # when they were told last
+        self._refusals = Refusals()
 
     async def book(self) -> Book:
         """The tenant's rows, with all that was answered; raises `Away`."""
@@ -99,7 +101,13 @@ class Side:
         name = self.partition.name
         nodes, jobs = picture.nodes.get(name, {}), picture.jobs.get(name, {})
         book = await self.book()
-        seen = Seen(book, self._tasks & book.tasks.keys(), nodes, jobs, picture.at)
+        put_off = self._refusals.find(book, nodes, jobs, picture.at)
+        tasks = self._tasks & book.tasks.keys()
+        seen = Seen(book, tasks, nodes, jobs, picture.at, picture.licences, put_off, self._refusals.avoided())
+        if put_off:
+            self._tell(f"Slurm doesn't start {len(put_off)} jobs, which are put off, as {next(iter(put_off))}")
+            if book.limits.remote == 0:
+                self._warn("jobs don't avoid nodes that refused them: remote is 0 in the roster")
         found = news(seen, self.partition, time.monotonic() >= self._full_until)
         is_due = book.waiting > 0 and time.monotonic() - self._last_round >= self._every
         rivals = self.counts.rival_lines
@@ -107,7 +115,7 @@ class Side:
             await self._say(found)
             book = await self.book()
         if self.counts.rival_lines == rivals:  # else another bridge is at it
-            work = deeds(book, jobs, picture.at).phases()
+            work = deeds(replace(seen, book=book), self.partition).phases()
             if work:
                 await self._obey(work)
         self.counts.nodes = Counter(node.use for node in nodes.values())

@@ -10,7 +10,8 @@ from pathlib import Path
 from typing import NamedTuple
 
 from ..lines import is_name
-from ..sizes import MOST_NODES
+from ..queue.backlog import RESERVED_PART
+from ..sizes import HUBS, MOST_NODES, MOST_SLOTS
 from .hook import hook
 from .table import Partition, Table, Weigh
 
@@ -21,6 +22,7 @@ LINE = re.compile(r"\s*([A-Za-z]+)\s*=\s*(.*)", re.DOTALL)
 WORD = re.compile(r'([A-Za-z]+)=("[^"]*"|\S+)')
 MOST_INCLUDED = 100  # files
 SLURMDBD = "accounting_storage/slurmdbd"
+DEFAULTS = {"selecttype": "select/linear", "preempttype": "preempt/none"}  # Slurm's own
 # What AccountingStorageEnforce has where slurmdbd says which accounts, or which QOS, are a user's.
 ENFORCED = {Weigh.QOS: {"qos", "all"}}
 ENFORCED[Weigh.ACCOUNT] = ENFORCED[Weigh.QOS] | {"associations", "limits", "safe", "wckeys"}
@@ -31,6 +33,25 @@ class Advice(NamedTuple):
 
     what: str
     write: str
+
+
+class Hardware(NamedTuple):
+    """CPUs and memory of a node."""
+
+    cpus: int
+    core: int  # CPUs of a core
+    socket: int  # CPUs of a socket
+    memory: int  # MB
+
+    @classmethod
+    def read(cls, row: dict[str, str]) -> Hardware:
+        """From the words of a NodeName line; what it leaves out is 1, or follows from the others."""
+        numbers = {key: int(text) for key, text in row.items() if text.isdigit()}
+        threads, cores = numbers.get("threadspercore", 1), numbers.get("corespersocket", 1)
+        sockets = numbers.get("sockets", numbers.get("socketsperboard", 1)) * numbers.get("boards", 1)
+        cpus = numbers.get("cpus", numbers.get("procs", sockets * cores * threads))
+        core = threads if cpus >= sockets * cores * threads else 1  # with fewer CPUs, each is a core
+        return cls(cpus, core, core * cores, numbers.get("realmemory", 1))
 
 
 @dataclass
@@ -69,8 +90,16 @@ class Conf:
         parts = (part.partition("=") for part in self.values.get(key, "").split(",") if part)
         return {name.strip().lower(): value for name, _, value in parts}
 
+    def value(self, partition: str, key: str) -> str:
+        """Return what a partition has, by its own line or else by the common one."""
+        return self.partitions.get(partition, {}).get(key, self.values.get(key, ""))
+
     def node_names(self) -> list[str]:
         return [name for row in self.nodes for name in names_of(row["nodename"])]
+
+    def hardware(self) -> dict[str, Hardware]:
+        """By node."""
+        return {name: Hardware.read(row) for row in self.nodes for name in names_of(row["nodename"])}
 
     def names_in(self, partition: str) -> list[str]:
         listed = self.partitions[partition].get("nodes", "")
@@ -105,7 +134,7 @@ def advice(table: Table, conf: Conf) -> Iterator[Advice]:
         ("selecttype", "SelectType=select/cons_tres", "select/linear"),
         ("preempttype", "PreemptType=preempt/none", "preempt/"),
     ):
-        value = conf.values.get(key, "").lower()
+        value = conf.values.get(key, DEFAULTS[key]).lower()
         if value.startswith(bad) and value not in wanted.lower():
             yield Advice(f"{value}: Slurm must give single slots, and preempt nothing itself", wanted)
     owners: dict[str, str] = {}
@@ -145,7 +174,7 @@ def of_hook(table: Table, conf: Conf) -> Iterator[Advice]:
     path = conf.path.parent / "job_submit.lua"
     if not path.exists():
         yield Advice(f"{path} is not there", f"firm-slurm hook --table TABLE > {path}")
-    elif hook(table).strip() not in path.read_text():
+    elif hook(table, slot_memory(table, conf)).strip() not in path.read_text():
         told = f"{path} has not the hook of this table, or one of an older firm-slurm"
         yield Advice(told, f"firm-slurm hook --table TABLE > {path}, or into a site's own file")
 
@@ -163,14 +192,87 @@ def of_partition(partition: Partition, conf: Conf, owners: dict[str, str]) -> It
         if node in owners:
             yield Advice(f"node {node} is in {owners[node]} and {name}; only {owners[node]} has it", "one of them")
         owners.setdefault(node, name)
-    if len(names) > MOST_NODES - 2:
-        yield Advice(f"{name} has {len(names):,} nodes; a tenant has {MOST_NODES - 2:,} at most", "several partitions")
+    yield from of_nodes(partition, conf)
     if partition.weigh is Weigh.QOS and conf.values.get("accountingstoragetype", "").lower() != SLURMDBD:
         yield Advice(f"{name}: no job has a QOS without slurmdbd", f"AccountingStorageType={SLURMDBD}")
     row = conf.partitions[name]
     for key, bad, wanted in (("oversubscribe", "EXCLUSIVE", "NO"), ("exclusiveuser", "YES", "NO")):
         if row.get(key, "").upper() == bad:
             yield Advice(f"{name}: a job would take a whole node", f"PartitionName={name} .. {key}={wanted}")
+
+
+def of_nodes(partition: Partition, conf: Conf) -> Iterator[Advice]:
+    """Yield each cause of unused slots of a partition once, for the first node that has it."""
+    name, hardware, memory = partition.name, conf.hardware(), memory_of(partition, conf)
+    nodes = {node: hardware[node] for node in conf.names_in(name) if node in hardware}
+    parameters = conf.value(name, "selecttypeparameters").lower()
+    slots = {node: partition.slots or max(1, one.cpus // partition.cpus) for node, one in nodes.items()}
+    causes: dict[str, Advice] = {}
+    for node, one in nodes.items():
+        found = [of_cores(partition, node, one, parameters), of_slots(partition, node, slots[node])]
+        if memory is not None:
+            found.append(of_memory(partition, memory, node, one))
+        for advice in filter(None, found):
+            causes.setdefault(advice.write.partition("=")[0], advice)
+    yield from causes.values()
+    used = MOST_NODES - MOST_NODES // RESERVED_PART - HUBS - len(nodes)
+    total = sum(min(count, MOST_SLOTS) for count in slots.values())
+    if total > used:
+        sizes = f"{name} has {len(nodes):,} nodes with {total:,} slots"
+        told = f"{sizes}; a tenant with this many machines has room for {max(used, 0):,} tasks"
+        yield Advice(told, "several partitions")
+
+
+def of_cores(partition: Partition, node: str, one: Hardware, parameters: str) -> Advice | None:
+    """Slurm gives a job whole cores, or sockets, unless a CPU is what it counts."""
+    whole, what = (one.socket, "sockets") if "cr_socket" in parameters else (one.core, "cores")
+    if "cr_cpu" in parameters or partition.slots is not None or partition.cpus % whole == 0:
+        return None
+    wanted = -(-partition.cpus // whole) * whole
+    told = (
+        f"{partition.name}: Slurm gives a job whole {what}, of {whole} CPUs on node {node}; a slot has {partition.cpus}"
+    )
+    return Advice(
+        told, f"cpus = {wanted} in [partitions.{partition.name}] of the table, or SelectTypeParameters=CR_CPU"
+    )
+
+
+def of_slots(partition: Partition, node: str, slots: int) -> Advice | None:
+    if partition.slots is not None or slots <= MOST_SLOTS:
+        return None
+    told = (
+        f"{partition.name}: node {node} has {slots} slots; a machine of firm has {MOST_SLOTS} at most, others stay idle"
+    )
+    wanted = -(-slots * partition.cpus // MOST_SLOTS)
+    return Advice(told, f"cpus = {wanted} in [partitions.{partition.name}] of the table, or slots = {MOST_SLOTS}")
+
+
+def slot_memory(table: Table, conf: Conf) -> dict[str, int]:
+    """Return the MB of a slot of each partition for which slurm.conf says it."""
+    found = {partition.name: memory_of(partition, conf) for partition in table.partitions}
+    return {name: memory for name, memory in found.items() if memory}
+
+
+def memory_of(partition: Partition, conf: Conf) -> int | None:
+    """Return the MB that a job takes by default, 0 for all of a node, None if Slurm counts no memory."""
+    if "memory" not in conf.value(partition.name, "selecttypeparameters").lower():
+        return None
+    by_cpu, by_node = (number_of(conf.value(partition.name, key)) for key in ("defmempercpu", "defmempernode"))
+    return by_node or by_cpu * partition.cpus
+
+
+def of_memory(partition: Partition, needed: int, node: str, one: Hardware) -> Advice | None:
+    """Name a slot's memory that a node doesn't have as often as it has slots."""
+    slots = min(partition.slots or max(1, one.cpus // partition.cpus), MOST_SLOTS)
+    if 0 < needed * slots <= one.memory:
+        return None
+    takes = f"takes {needed:,} of {one.memory:,} MB" if needed else "takes all memory"
+    told = f"{partition.name}: a job without --mem {takes} of node {node}, which has {slots} slots"
+    return Advice(told, f"DefMemPerCPU={max(1, one.memory // (slots * partition.cpus))}")
+
+
+def number_of(text: str) -> int:
+    return int(text) if text.isdigit() else 0
 
 
 def of_shared(table: Table, conf: Conf, owners: dict[str, str]) -> Iterator[Advice]:

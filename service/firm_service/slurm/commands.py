@@ -7,13 +7,15 @@ import os
 import time
 from collections.abc import Sequence
 
-from .reading import JOB_FIELDS, NODE_FIELDS, Picture, format_of, read_jobs, read_nodes, without_shared
+from .reading import JOB_FIELDS, NODE_FIELDS, Picture, format_of, read_jobs, read_licences, read_nodes
+from .reading import read_reservations, with_reservations, without_shared
 
 ANSWER_SECONDS = 60.0
 MOST_AT_A_TIME, LEAST_TOGETHER = 4, 20  # commands that scontrol gives at a time, and how many of them one by one
-# Without the merging of an array's elements (-r), with their whole lists of indices, and times as seconds.
+# Whole lists of an array's indices, and times as seconds.
 ENVIRONMENT = {"SLURM_TIME_FORMAT": "%s", "SLURM_BITSTR_LEN": "0"}
 PRESET = ("SQUEUE_", "SINFO_", "SCONTROL_")  # options of users, in the environment
+NAMES: dict[str, list[str]] = {}  # the nodes of lists like node[1-3]
 
 
 class NoSlurm(Exception):
@@ -53,14 +55,31 @@ async def answer(*words: str) -> str:
 async def look(partitions: Sequence[str]) -> Picture:
     """What Slurm has of some partitions."""
     names, at = ",".join(partitions), time.time()
-    nodes, jobs = await asyncio.gather(
+    told = await asyncio.gather(
         answer("sinfo", "-h", "-N", "-p", names, "-O", format_of(NODE_FIELDS)),
-        answer("squeue", "-h", "-r", "-p", names, "-O", format_of(JOB_FIELDS)),
+        answer("squeue", "-h", "--array-unique", "-p", names, "-O", format_of(JOB_FIELDS)),
+        answer("scontrol", "-o", "show", "licenses"),
+        answer("scontrol", "-o", "show", "reservation"),
     )
     try:
-        return Picture(without_shared(read_nodes(nodes), partitions), read_jobs(jobs), at)
+        nodes, jobs = without_shared(read_nodes(told[0]), partitions), read_jobs(told[1])
     except ValueError as error:
         raise NoSlurm(f"sinfo or squeue printed what can't be read: {error}") from error
+    begins = await first_reservations(told[3])
+    for name, rows in nodes.items():
+        nodes[name] = with_reservations(rows, jobs.get(name, {}).values(), begins, at)
+    return Picture(nodes, jobs, read_licences(told[2]), at)
+
+
+async def first_reservations(text: str) -> dict[str, float]:
+    """Return when the first reservation of each node begins, or has begun."""
+    found: dict[str, float] = {}
+    for at, listed in sorted(read_reservations(text)):
+        if listed not in NAMES:
+            NAMES[listed] = (await answer("scontrol", "show", "hostnames", listed)).split()
+        for name in NAMES[listed]:
+            found.setdefault(name, at)
+    return found
 
 
 async def obey(phases: Sequence[Sequence[str]]) -> list[str]:

@@ -7,7 +7,8 @@ import asyncio
 import os
 import signal
 import sys
-from contextlib import suppress
+from collections.abc import Iterator
+from contextlib import contextmanager, suppress
 from importlib.util import find_spec
 from pathlib import Path
 
@@ -18,7 +19,7 @@ from ..command_line import NOT_THERE, USAGE, Failure, Verbs
 from ..daemons import notify
 from . import status
 from .bridge import Bridge, lock_alone
-from .check import Conf, advice, remarks
+from .check import Conf, advice, remarks, slot_memory
 from .hook import hook
 from .table import Table
 
@@ -79,15 +80,10 @@ async def serve_alone(bridge: Bridge, lock: Path) -> None:
 
 
 def check(options: argparse.Namespace) -> None:
-    table = table_of(options)
-    path = Path(options.conf or os.environ.get("SLURM_CONF", CONF))
-    try:
+    table, path = table_of(options), conf_of(options)
+    with reported(options, table):
         conf = Conf.read(path)
         found, remarked = list(advice(table, conf)), list(remarks(table, conf))
-    except OSError as error:
-        raise Failure(USAGE, f"{error.filename or path}: {error.strerror or error}") from error
-    except KeyError:
-        raise Failure(USAGE, f"{options.table}: there is no user {table.user}") from None
     told = "".join(f"{one.what}\n    {one.write}\n" for one in found) or f"{path}: nothing is to be changed\n"
     told += "".join(f"{one}\n" for one in remarked)
     answer = {"conf": str(path), "advice": [one._asdict() for one in found], "remarks": remarked}
@@ -96,12 +92,25 @@ def check(options: argparse.Namespace) -> None:
         raise Failure(NOT_THERE, f"{path}: {len(found)} to be changed")
 
 
-def print_hook(options: argparse.Namespace) -> None:
-    table = table_of(options)
+def conf_of(options: argparse.Namespace) -> Path:
+    return Path(options.conf or os.environ.get("SLURM_CONF", CONF))
+
+
+@contextmanager
+def reported(options: argparse.Namespace, table: Table) -> Iterator[None]:
+    """Turn what fails while the files of Slurm are read into `Failure`."""
     try:
-        sys.stdout.write(hook(table))
+        yield
+    except OSError as error:
+        raise Failure(USAGE, f"{error.filename or conf_of(options)}: {error.strerror or error}") from error
     except KeyError:
         raise Failure(USAGE, f"{options.table}: there is no user {table.user}") from None
+
+
+def print_hook(options: argparse.Namespace) -> None:
+    table = table_of(options)
+    with reported(options, table):
+        sys.stdout.write(hook(table, slot_memory(table, Conf.read(conf_of(options)))))
 
 
 def print_status(options: argparse.Namespace) -> None:
@@ -131,9 +140,10 @@ def parser() -> argparse.ArgumentParser:
     one.add_argument("--http", type=address, metavar="ADDRESS:PORT", help=told)
     logs.add_form(one)
     two = verbs.add("check", check, "look at slurm.conf before the first start, and say what to write")
-    two.add_argument("--conf", type=Path, metavar="FILE", help=f"otherwise SLURM_CONF, or {CONF}")
     three = verbs.add("status", print_status, "what firm and Slurm have now, and where they differ")
-    verbs.add("hook", print_hook, "print Slurm's job_submit.lua for the table")
+    four = verbs.add("hook", print_hook, "print Slurm's job_submit.lua for the table")
+    for command in (two, four):
+        command.add_argument("--conf", type=Path, metavar="FILE", help=f"otherwise SLURM_CONF, or {CONF}")
     for command in (two, three):
         command.add_argument("--json", action="store_true", help="print JSON")
     return found

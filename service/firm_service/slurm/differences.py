@@ -6,7 +6,7 @@ from collections import Counter
 from typing import NamedTuple
 
 from ..books import Book, Task
-from .reading import Job, State
+from .reading import Hold, Job, State
 
 
 class Difference(NamedTuple):
@@ -70,4 +70,4 @@ def kind_of(job: Job, now: float) -> str:
         return "stranger"
     if job.is_due(now):
         return "untold"
-    return "needing" if job.is_firms(now) or job.has_needs else "held"
+    return "needing" if job.has_needs or job.hold in (Hold.NONE, Hold.FIRM) else "held"

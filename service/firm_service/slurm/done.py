@@ -2,12 +2,13 @@
 
 from __future__ import annotations
 
+from collections import Counter
 from collections.abc import Iterator
 from dataclasses import dataclass, field
 
-from ..books import Book
-from .reading import LATER_SECONDS, Hold, Job, State
-
+from .reading import Hold, Job, State
+from .said import Seen
+from .table import Partition
 
 REQUEUE = "requeuehold Incomplete"  # what ended meanwhile doesn't run again
 HOLD = "uhold"  # after `hold`, which is an administrator's, the reason is another
@@ -53,28 +54,46 @@ def together(command: str, jobs: list[Job]) -> Iterator[str]:
             yield f"{command} {chosen[0].id if len(chosen) == 1 else f'{array}_[{indices}]'}"
 
 
-def deeds(book: Book, jobs: dict[str, Job], now: float) -> Deeds:
-    found = Deeds()
-    for name, job in jobs.items():
-        task = book.tasks.get(name)
+def deeds(seen: Seen, partition: Partition) -> Deeds:
+    found, free = Deeds(), free_slots(seen, partition)
+    for name, job in seen.jobs.items():
+        task = seen.book.tasks.get(name)
         if task is None:
             if job.is_released:
                 found.holds.append(job)
-            if job.is_stuck:
-                found.set_time(job, f"now+{LATER_SECONDS:.0f}")
+            if job.is_pending and name in seen.put_off:
+                found.set_time(job, f"now+{seen.put_off[name]:.0f}")
         elif job.state is State.RUNNING and job.node != task.machine:
-            found.requeues.append(job)
-        elif job.is_pending and job.is_firms(now):
-            place(found, job, task.machine, now)
+            if job.is_steady(seen.now):
+                found.requeues.append(job)
+        elif job.is_firms(seen.now):
+            node = seen.nodes.get(task.machine or "")
+            fits = node is None or job.fits(node, seen.now)
+            place(found, job, task.machine if fits else None, free, seen.now)
     return found
 
 
-def place(found: Deeds, job: Job, machine: str | None, now: float) -> None:
+def free_slots(seen: Seen, partition: Partition) -> Counter[str]:
+    """Return the slots of each node that Slurm can give now.
+
+    A job that is released before its slot is free would keep Slurm from starting others of its array.
+    """
+    taken = Counter(job.node for job in seen.jobs.values() if job.node is not None)
+    coming = Counter(job.pinned for job in seen.jobs.values() if job.is_released and job.pinned is not None)
+    found: Counter[str] = Counter()
+    for name, node in seen.nodes.items():
+        free = (node.cpus - node.allocated) // partition.cpus
+        found[name] = min(free, partition.slots_of(node) - taken[name]) - coming[name]
+    return found
+
+
+def place(found: Deeds, job: Job, machine: str | None, free: Counter[str], now: float) -> None:
     """What a pending job of firm's needs to start on a machine, or nowhere."""
     if job.hold is not Hold.NONE:
-        if machine is not None:
+        if machine is not None and free[machine] > 0 and job.may_start(now):
+            free[machine] -= 1
             found.start(job, machine)
     elif job.pinned != machine or machine is None:
         found.holds.append(job)  # it may be starting elsewhere: the next look shows whether it is held
-    elif job.eligible is not None and job.eligible > now:
+    elif job.eligible is not None and job.eligible > now and job.may_start(now):
         found.set_time(job, "now")  # Slurm has what it requeues wait two minutes

@@ -1,8 +1,9 @@
 -- Holds the jobs of the partitions that firm decides, and refuses those that take more than one slot.
 --
--- `firm-slurm hook` writes the two tables. slurmctld reads this file as job_submit.lua beside slurm.conf; a site with
+-- `firm-slurm hook` writes the three tables. slurmctld reads this file as job_submit.lua beside slurm.conf; a site with
 -- rules of its own calls firm_submit and firm_modify from them.
 local CPUS = {}   -- of a slot, by partition
+local MEMORY = {} -- MB of a slot, by partition, where Slurm counts memory
 local BRIDGE = {} -- users that may release a job: root, and the one that firm-slurm runs as
 
 -- Words in a job's comment: a hold is its user's own; how many elements of its array may run at a time.
@@ -33,6 +34,13 @@ local function is_many(request)
     end
   end
   return false
+end
+
+-- Whether a job asks for more memory than a slot has; 0 is all of a node.
+local function is_large(job, name)
+  local memory, by_node, by_cpu = MEMORY[name], job.min_mem_per_node, job.min_mem_per_cpu
+  return memory ~= nil and (by_node ~= nil and (by_node == 0 or by_node > memory)
+    or by_cpu ~= nil and (by_cpu == 0 or by_cpu * CPUS[name] > memory) or (job.mem_per_tres or "") ~= "")
 end
 
 local function refuse(...)
@@ -67,6 +75,9 @@ end
 -- Why a job has more than one slot, or asks for what firm decides.
 local function why_not(job, name)
   local cpus = CPUS[name]
+  if is_asked(job.het_job_offset) then
+    return string.format("a job of partition %s has one component", name)
+  end
   if job.script == nil then
     return string.format("partition %s takes batch jobs alone: use sbatch", name)
   end
@@ -80,8 +91,14 @@ local function why_not(job, name)
       return string.format("a job of partition %s has one slot: not %s", name, job[request])
     end
   end
+  if is_large(job, name) then
+    return string.format("a job of partition %s has one slot: MB of memory %d at most", name, MEMORY[name])
+  end
   if (job.req_nodes or "") ~= "" or (job.exc_nodes or "") ~= "" then
     return string.format("firm chooses the node in partition %s: --comment=near=NODE,.. prefers some", name)
+  end
+  if (job.reservation or "") ~= "" then
+    return string.format("partition %s takes no jobs of a reservation: firm places none on reserved nodes", name)
   end
   if not (is_plain(job.comment) and is_plain(job.account) and is_plain(job.qos)) then
     return "comment, account and QOS must have no | and no control characters"
@@ -123,9 +140,12 @@ local function kept_comment(job, record)
 end
 
 -- Why a change of a job is none of its user's.
-local function why_unchanged(job)
+local function why_unchanged(job, name)
   if (job.req_nodes or "") ~= "" or (job.exc_nodes or "") ~= "" then
     return "firm chooses the node"
+  end
+  if (job.reservation or "") ~= "" then
+    return "firm places no job on reserved nodes"
   end
   for _, size in ipairs(SIZES) do
     if is_asked(job[size]) then
@@ -136,6 +156,9 @@ local function why_unchanged(job)
     if is_many(job[request]) then
       return "a job keeps its size"
     end
+  end
+  if is_large(job, name) then
+    return "a job keeps its size"
   end
   if job.requeue == 0 then
     return "a job that firm preempts is requeued"
@@ -182,7 +205,7 @@ function firm_modify(job, record, partitions, uid)
   if not is_ours then
     return slurm.SUCCESS
   end
-  local why = why_unchanged(job)
+  local why = why_unchanged(job, record.partition)
   if why ~= nil then
     return deny(why)
   end

@@ -3,31 +3,51 @@
 from __future__ import annotations
 
 import re
-from collections.abc import Iterator, Sequence
+from collections.abc import Iterable, Iterator, Sequence
 from enum import Enum
+from math import inf
+from operator import itemgetter
 from typing import NamedTuple
 
 END = "|"  # of a field; the hook keeps it, and line feeds, out of what users write, and a comment comes last
-NODE_FIELDS = ("PartitionName", "NodeHost", "CPUsState", "StateComplete")
+NODE_FIELDS = ("PartitionName", "NodeList", "CPUsState", "Available", "StateComplete")
 JOB_FIELDS = (
-    *("Partition", "JobArrayID", "State", "PriorityLong", "Reason", "Account", "QOS", "Dependency"),
-    *("ReqNodes", "NodeList", "EligibleTime", "LastSchedEval", "StartTime", "Comment"),
+    *(
+        "Partition",
+        "JobArrayID",
+        "JobID",
+        "State",
+        "PriorityLong",
+        "Reason",
+        "Account",
+        "QOS",
+        "Dependency",
+        "Licenses",
+    ),
+    *("ReqNodes", "NodeList", "EligibleTime", "LastSchedEval", "StartTime", "RestartCnt", "SubmitTime", "TimeLimit"),
+    "Comment",
 )
 NOTHING = frozenset({"", "N/A", "(null)", "Unknown"})
-CLOSED = {"drain", "fail", "maint", "maintenance", "reboot", "reboot_requested", "reboot_issued"}
-CLOSED |= {"powered_down", "powering_down", "power_down", "planned_down"}
-UNCLEAR = {"not_responding", "powering_up", "power_up", "invalid_reg", "unknown"}
+CLOSED = {"drain", "fail", "maint", "maintenance", "reserved", "reboot", "reboot_requested", "reboot_issued"}
+UNCLEAR = {"not_responding", "powering_up", "powering_down", "power_down", "invalid_reg", "unknown"}
 GONE = {"down", "error", "future"}
 NEAR = re.compile(r"(?:^|\s)near=([a-z0-9,-]+)")
 MOST = re.compile(r"(?:^|\s)firm:most=([0-9]{1,9})(?!\S)")
 HELD = re.compile(r"(?:^|\s)firm:held(?!\S)")
-HELD_STATES = {"SPECIAL_EXIT", "RESV_DEL_HOLD"}  # by an administrator, or as a reservation is no more
+PART = re.compile(r"([0-9]+)(?:-([0-9]+)(?::([0-9]+))?)?")  # of the indices of an array
+ROW = re.compile(r"([0-9]+)(?:_([0-9]+)|_\[([0-9][0-9,:-]*)(?:%[0-9]+)?\])?")
+# By an administrator, as a reservation is no more, or after five failures of nodes.
+HELD_STATES = {"SPECIAL_EXIT", "RESV_DEL_HOLD", "REQUEUE_HOLD"}
 MOST_NEAR = 4  # machines that a task may prefer
 FIRM_HOLDS = {"JobHeldUser", "job requeued in held state"}  # by the hook, by `uhold` and by `requeuehold`
-# A job that Slurm was asked to start and has looked at again so much later can't start where it is pinned.
-STUCK_SECONDS = 60.0
-# A start that is set further ahead is its user's or firm-slurm's own; Slurm delays what it requeues by two minutes.
-LATER_SECONDS = 300.0
+MISFIT = "BadConstraints"  # Slurm holds a job that its node is not made for
+LICENCE = re.compile(r"([^,:;|=]+)(?:[:=]([0-9]+))?")
+FREE = re.compile(r"^LicenseName=(\S+) .*\bFree=([0-9]+)", re.MULTILINE)
+LIMIT = re.compile(r"(?:(?:([0-9]+)-)?([0-9]+):)?([0-9]+):([0-9]+)")  # 30:00, 1:00:00 or 2-12:00:00; else none
+RESERVATION = re.compile(r"^ReservationName=\S+ StartTime=([0-9]+) .*? Nodes=(\S+)", re.MULTILINE)
+PAUSE_SECONDS = 121.0  # for which Slurm delays what it requeues
+STEADY_SECONDS = 3.0  # for slurmd to launch a job
+KEPT_SECONDS = 5.0  # more than slurmctld's clock may be ahead, and than a requeued job has to wait
 
 
 class Use(Enum):
@@ -36,6 +56,7 @@ class Use(Enum):
     OPEN = "takes jobs"
     UNCLEAR = "Slurm has not given it up, or doesn't know it yet, as after a restart: all stays as it is"
     CLOSED = "takes no more jobs; those that run go on"
+    BOOKED = "the same until its next reservation, since no job would end before"
     GONE = "what ran there is over"
 
 
@@ -44,6 +65,7 @@ class Node(NamedTuple):
     cpus: int
     allocated: int  # of them
     use: Use
+    reserved: float = inf  # when its next reservation begins
 
 
 class State(Enum):
@@ -63,6 +85,9 @@ class Job(NamedTuple):
     """A job of a partition that has not ended; an element of an array is one of its own."""
 
     name: str  # the task's: 17, or 17-3 for an element of an array
+    number: int  # Slurm's own, of an element too
+    priority: int
+    reason: str  # why it is pending
     account: str
     qos: str
     near: tuple[str, ...]  # machines that it prefers
@@ -70,11 +95,14 @@ class Job(NamedTuple):
     state: State
     hold: Hold
     has_needs: bool  # it depends on jobs that have not ended
+    licences: tuple[tuple[str, int], ...]  # by name, with their number
     node: str | None  # where it runs
     pinned: str | None  # the node that it asks for
     eligible: float | None  # when Slurm may start it, once it is released
     evaluated: float | None  # when Slurm last looked whether it can start
     started: float | None
+    requeued: float | None  # when its last run had ended and Slurm queued it again
+    limit: float  # seconds that it may run
 
     @property
     def id(self) -> str:
@@ -92,21 +120,46 @@ class Job(NamedTuple):
     def is_released(self) -> bool:
         return self.is_pending and self.hold in (Hold.NONE, Hold.MISSED)
 
-    @property
-    def is_stuck(self) -> bool:
-        """Whether Slurm can't start it where it is pinned."""
-        if not self.is_released or self.pinned is None or self.eligible is None or self.evaluated is None:
+    def is_steady(self, now: float) -> bool:
+        """Return whether slurmd has surely launched a running job, so that it may be requeued.
+
+        A termination that overtakes the launch finds no process: Slurm takes the job for ended, and it runs on.
+        """
+        return self.started is None or now - self.started >= STEADY_SECONDS
+
+    def may_start(self, now: float) -> bool:
+        """Return whether a pending job may start: at its user's time, and after its last run.
+
+        slurmd refuses a credential from the second of the last run's termination (`slurm_cred.c`: `ctime <= revoked`),
+        and slurmctld then marks the job FAILED. A requeue follows the end of the last run and its epilog, so a start in
+        any later second is safe. `StartTime=now` has Slurm wait for this host's second, so clocks needn't agree.
+        If the last run was ended during its launch, Slurm's own pause stands.
+        """
+        if self.begins_later(now):
             return False
-        return self.evaluated - self.eligible >= STUCK_SECONDS
+        if self.requeued is None:
+            return True
+        last = self.evaluated if self.evaluated is not None else self.requeued  # when Slurm started it, or later
+        was_steady = last > self.requeued or self.requeued - last >= STEADY_SECONDS
+        return now >= self.requeued + (1 if was_steady else PAUSE_SECONDS)
+
+    def begins_later(self, now: float) -> bool:
+        """Return whether its user, or firm-slurm, has set a later time to begin. Slurm's own pause is none."""
+        is_pause = self.requeued is not None and self.eligible == self.requeued + PAUSE_SECONDS
+        return self.eligible is not None and self.eligible > now and not is_pause
 
     def is_firms(self, now: float) -> bool:
-        """Whether firm may decide when and where a pending job starts, or keep it if it has it."""
-        is_free = self.hold in (Hold.NONE, Hold.FIRM) and not self.has_needs and not self.is_stuck
-        return is_free and (self.eligible is None or self.eligible - now <= LATER_SECONDS)
+        """Return whether firm decides when and where a pending job starts, or keeps it for some seconds until then."""
+        is_free = self.hold in (Hold.NONE, Hold.FIRM) and not self.has_needs
+        return self.is_pending and is_free and self.may_start(now + KEPT_SECONDS)
 
     def is_due(self, now: float) -> bool:
-        """Whether firm is to have it, if it is pending and firm doesn't have it."""
-        return self.is_pending and self.is_firms(now) and (self.eligible is None or self.eligible <= now)
+        """Return whether firm is to have it."""
+        return self.is_firms(now) and self.may_start(now)
+
+    def fits(self, node: Node, now: float) -> bool:
+        """Return whether it would end before the next reservation of a node."""
+        return now + self.limit <= node.reserved
 
 
 class Picture(NamedTuple):
@@ -114,6 +167,7 @@ class Picture(NamedTuple):
 
     nodes: dict[str, dict[str, Node]]  # by partition and name
     jobs: dict[str, dict[str, Job]]  # by partition and task, in order of submission
+    licences: dict[str, int]  # that are free, by name
     at: float  # Unix time before it was asked
 
 
@@ -134,28 +188,55 @@ def word(text: str) -> str | None:
     return None if text in NOTHING else text
 
 
+def seconds_of(limit: str) -> float:
+    """Return a time limit in seconds; UNLIMITED is infinite."""
+    found = LIMIT.fullmatch(limit)
+    days, hours, minutes, seconds = map(int, found.groups("0")) if found else (0, 0, 0, 0)
+    return ((days * 24 + hours) * 60 + minutes) * 60.0 + seconds if found else inf
+
+
 def time_of(text: str) -> float | None:
     """A time as squeue prints it with SLURM_TIME_FORMAT=%s."""
     return float(text) if text.isascii() and text.isdigit() else None
 
 
-def use_of(state: str) -> Use:
-    """From words like idle+drain+not_responding."""
+def use_of(state: str, available: str = "up") -> Use:
+    """From words like idle+drain+not_responding, and whether its partition is up."""
     words = set(state.lower().split("+"))
     if words & GONE:
         return Use.GONE
     if words & CLOSED:
         return Use.CLOSED
-    return Use.UNCLEAR if words & UNCLEAR else Use.OPEN
+    return Use.UNCLEAR if words & UNCLEAR or available != "up" else Use.OPEN
 
 
 def read_nodes(text: str) -> dict[str, dict[str, Node]]:
     """By partition and name."""
     found: dict[str, dict[str, Node]] = {}
-    for partition, name, cpus, state in rows_of(text, NODE_FIELDS):
+    for partition, name, cpus, available, state in rows_of(text, NODE_FIELDS):
         allocated, _, _, total = cpus.split("/")
-        found.setdefault(partition, {})[name] = Node(name, int(total), int(allocated), use_of(state))
+        found.setdefault(partition, {})[name] = Node(name, int(total), int(allocated), use_of(state, available))
     return found
+
+
+def read_licences(text: str) -> dict[str, int]:
+    """Return the number of free licences by name, from `scontrol -o show licenses`."""
+    return {name: int(count) for name, count in FREE.findall(text)}
+
+
+def read_reservations(text: str) -> list[tuple[float, str]]:
+    """Return when reservations begin, with their nodes as Slurm lists them, from `scontrol -o show reservation`."""
+    return [(float(at), listed) for at, listed in RESERVATION.findall(text) if word(listed) is not None]
+
+
+def with_reservations(
+    nodes: dict[str, Node], jobs: Iterable[Job], begins: dict[str, float], now: float
+) -> dict[str, Node]:
+    """Return a partition's nodes with their next reservations, booked where no pending job would end before."""
+    shortest = min((job.limit for job in jobs if job.is_firms(now)), default=0.0)
+    found = {name: node._replace(reserved=begins.get(name, inf)) for name, node in nodes.items()}
+    booked = {name for name, node in found.items() if node.use is Use.OPEN and node.reserved < now + shortest}
+    return {name: node._replace(use=Use.BOOKED) if name in booked else node for name, node in found.items()}
 
 
 def without_shared(nodes: dict[str, dict[str, Node]], partitions: Sequence[str]) -> dict[str, dict[str, Node]]:
@@ -173,26 +254,51 @@ def read_jobs(text: str) -> dict[str, dict[str, Job]]:
     """By partition and task's name, in order of submission."""
     found: dict[str, list[tuple[tuple[int, int], Job]]] = {}
     for partition, *row in rows_of(text, JOB_FIELDS):
-        number, _, index = row[0].partition("_")
-        is_whole = row[2].isdigit()  # the priority, where no field before it has an end within
-        if is_whole and number.isdigit() and (index == "" or index.isdigit()):  # neither a part nor a whole array
-            found.setdefault(partition, []).append(((int(number), int(index or 0)), job_of(row)))
-    return {partition: {job.name: job for _, job in sorted(jobs)} for partition, jobs in found.items()}
+        elements = list(elements_of(row[0]))
+        if elements and row[3].isdigit():  # the priority, where no field before it has an end within
+            job = job_of(row)
+            for number, index in elements:
+                name = f"{number}" if index is None else f"{number}-{index}"
+                found.setdefault(partition, []).append(((number, index or 0), job._replace(name=name)))
+    return {
+        partition: {job.name: job for _, job in sorted(jobs, key=itemgetter(0))} for partition, jobs in found.items()
+    }
+
+
+def elements_of(name: str) -> Iterator[tuple[int, int | None]]:
+    """Return the number, and the index if any, of each job in a row: 17, 17_3, or the rest of an array as 17_[1-9:2%4].
+
+    `squeue -r` would list the elements, but leaves out the last one where Slurm writes the rest with a step.
+    """
+    found = ROW.fullmatch(name)
+    if found is None:  # a job of several components, or a row that isn't whole
+        return
+    number, index, rest = found.groups()
+    if rest is None:
+        yield int(number), None if index is None else int(index)
+        return
+    for first, last, step in PART.findall(rest):
+        yield from ((int(number), index) for index in range(int(first), int(last or first) + 1, int(step or 1)))
 
 
 def job_of(row: Sequence[str]) -> Job:
-    """From all fields behind the partition."""
-    name, state, priority, reason, account, qos, needs, pinned, node, eligible, evaluated, started, comment = row
+    """Return a job from all fields after the partition; jobs of one row differ in their names alone."""
+    name, number, state, priority, reason, account, qos, *rest = row
+    needs, licences, pinned, node, *times, restarts, submitted, limit, comment = rest
+    eligible, evaluated, started = map(time_of, times)
     is_pending = state == "PENDING" or state in HELD_STATES
     hold, is_users = Hold.NONE, HELD.search(comment) is not None
     if is_pending and (priority == "0" or state in HELD_STATES):
-        is_firms = state == "PENDING" and reason in FIRM_HOLDS and not is_users
-        hold = Hold.FIRM if is_firms else Hold.OTHER
+        is_firms = reason in FIRM_HOLDS or reason == MISFIT and word(pinned) is not None
+        hold = Hold.FIRM if state == "PENDING" and is_firms and not is_users else Hold.OTHER
     elif is_pending and is_users:
         hold = Hold.MISSED
     near, most = NEAR.search(comment), MOST.search(comment)
     return Job(
-        name=name.replace("_", "-"),
+        name=name,
+        number=int(number),
+        priority=int(priority),
+        reason=reason,
         account=word(account) or "",
         qos=word(qos) or "",
         near=tuple(dict.fromkeys(near[1].split(",")))[:MOST_NEAR] if near else (),
@@ -200,11 +306,14 @@ def job_of(row: Sequence[str]) -> Job:
         state=State.PENDING if is_pending else state_of(state),
         hold=hold,
         has_needs=word(needs) is not None,
+        licences=tuple((name, int(count or 1)) for name, count in LICENCE.findall(word(licences) or "")),
         node=None if is_pending else word(node),
         pinned=word(pinned),
-        eligible=time_of(eligible),
-        evaluated=time_of(evaluated),
-        started=time_of(started),
+        eligible=eligible,
+        evaluated=evaluated,
+        started=started,
+        requeued=time_of(submitted) if restarts not in ("0", "") else None,
+        limit=seconds_of(limit),
     )
 
 

@@ -10,7 +10,7 @@ from ..books import Book
 from ..lines import is_name
 from ..queue.backlog import TASK_ARCS, Room, reserve
 from ..roster import slot_cost
-from .reading import Job, Node, State, Use
+from .reading import MOST_NEAR, Job, Node, State, Use
 from .table import Drain, Partition
 
 MOST_LINES = 4_000  # at a time: what is left comes with the next look
@@ -28,6 +28,9 @@ class Seen:
     nodes: dict[str, Node]
     jobs: dict[str, Job]
     now: float
+    licences: dict[str, int] = field(default_factory=dict)  # that are free
+    put_off: dict[str, float] = field(default_factory=dict)  # tasks that Slurm doesn't start now, with the seconds
+    avoided: dict[str, set[str]] = field(default_factory=dict)  # nodes that refused jobs of an array
 
 
 @dataclass(slots=True)
@@ -41,13 +44,14 @@ class News:
 def news(seen: Seen, partition: Partition, has_room: bool = True) -> News:
     """The lines, without the round that follows them; no tasks where firm had no room for some a moment ago."""
     ended = {task for task in seen.tasks if not is_kept(seen, task)}
-    ended |= set(finishing(seen)) if partition.drain is Drain.FINISH else set()
+    ended |= set(finishing(seen, partition.drain))
     ended |= set(regrouped(seen, partition))  # they come again with the next look
     found = News([f"done {task}" for task in seen.book.tasks if task in ended])
     found.lines += [f"drain {machine}" for machine in seen.book.machines if is_over(seen.nodes.get(machine))]
     told = Telling(seen, partition, ended)
     for node in new_nodes(seen):
         told.add(node, found)
+    told.grow(found)
     if has_room and not found.taken:
         found.lines += told.tasks()
     used = told.groups | {task.job for name, task in seen.book.tasks.items() if name not in ended}
@@ -58,19 +62,20 @@ def news(seen: Seen, partition: Partition, has_room: bool = True) -> News:
 def is_kept(seen: Seen, task: str) -> bool:
     """Whether a task of firm's stays one: its job has not ended, and is no one else's to start."""
     job = seen.jobs.get(task)
-    return job is not None and (not job.is_pending or job.is_firms(seen.now))
+    return job is not None and (not job.is_pending or job.is_firms(seen.now) and task not in seen.put_off)
 
 
 def is_over(node: Node | None) -> bool:
     """Whether a machine takes no more tasks."""
-    return node is None or node.use in (Use.CLOSED, Use.GONE)
+    return node is None or node.use in (Use.CLOSED, Use.BOOKED, Use.GONE)
 
 
-def finishing(seen: Seen) -> Iterator[str]:
+def finishing(seen: Seen, drain: Drain) -> Iterator[str]:
     """Tasks that run to their end on nodes that take no more."""
+    uses = (Use.BOOKED, Use.CLOSED) if drain is Drain.FINISH else (Use.BOOKED,)
     for task, row in seen.book.tasks.items():
         job, node = seen.jobs.get(task), seen.nodes.get(row.machine or "")
-        if job is not None and node is not None and node.use is Use.CLOSED:
+        if job is not None and node is not None and node.use in uses:
             if job.state is State.RUNNING and job.node == row.machine:
                 yield task
 
@@ -106,12 +111,20 @@ class Telling:
             if job.node is not None:
                 self._on_node[job.node].append(job)
         self.groups: set[str] = set()  # firm's jobs that lines are told of
+        self._licences = Counter(seen.licences)  # that no task of firm's is to have
+        for job in (seen.jobs[name] for name in self._kept if name in seen.jobs):
+            if job.is_pending:
+                self._licences.subtract(dict(job.licences))
 
     def add(self, node: Node, found: News) -> None:
         """Tells of a node without jobs, or of one with the jobs that run there, where firm is sure to place them so."""
         jobs, slots = self._on_node[node.name], self._partition.slots_of(node)
         if (jobs or node.allocated) and not self._can_take(node, jobs, slots):
-            return
+            if any(job.state is State.LEAVING for job in jobs):
+                return  # its slot is free soon
+            jobs, slots = [], self.free_slots(node)
+            if slots < 1:
+                return
         groups = len({self._partition.group(job).name for job in jobs} - self._known)
         if not self._room.take(1 + len(jobs) + groups, 1 + slots + len(jobs) * (TASK_ARCS + 1) + groups):
             return
@@ -122,6 +135,22 @@ class Telling:
             found.taken[job.name] = node.name
         if jobs:
             found.lines.append("round")
+
+    def free_slots(self, node: Node) -> int:
+        """Return the slots of a node that no job has; others end as strangers."""
+        taken = -(-node.allocated // self._partition.cpus)
+        return self._partition.slots_of(node) - max(taken, len(self._on_node[node.name]))
+
+    def grow(self, found: News) -> None:
+        """Has machines that joined with fewer slots, and are idle now, join again with those that are free."""
+        running = {self._seen.book.tasks[name].machine for name in self._kept}
+        for name, slots in self._seen.book.machines.items():
+            node = self._seen.nodes.get(name)
+            if node is None or node.use is not Use.OPEN or name in running:
+                continue
+            free = self.free_slots(node)
+            if free > slots and self._room.take(0, free - slots):
+                found.lines += [f"drain {name}", f"machine {name} {free}"]
 
     def _can_take(self, node: Node, jobs: list[Job], slots: int) -> bool:
         """Whether a round places all that run on a node there: nothing else waits, and any other slot is dearer."""
@@ -140,18 +169,51 @@ class Telling:
         arrays.update(name.partition("-")[0] for name in self._kept)
         count, told = len(self._kept), 0
         self._room = self._room.without(reserve(self._seen.book.limits))
+        waiting = self._waiting()
         for job in sorted(self._due(), key=lambda job: -partition.group(job).weight):
             if job.most is not None and arrays[job.array] >= job.most:
                 continue
-            if told >= MOST_LINES or partition.most is not None and count >= partition.most:
+            if any(self._licences[name] < count for name, count in job.licences):
+                continue
+            if told >= MOST_LINES:
                 break
-            near = [machine for machine in job.near if machine in self._near]
+            near = self._near_of(job)
             is_new = partition.group(job).name not in self._known
-            if not self._room.take(1 + is_new, TASK_ARCS + len(near) + is_new):
+            needed = 1 + is_new, TASK_ARCS + len(near) + is_new
+            while waiting and waiting[-1][0] < partition.group(job).weight and self._is_full(count, needed):
+                name = waiting.pop()[-1]
+                yield f"done {name}"
+                self._room.take(-1, -TASK_ARCS - len(self._seen.book.tasks[name].prefers))
+                count, told = count - 1, told + 1
+            if self._is_full(count, needed):
                 break
+            self._room.take(*needed)
             yield from self._lines_of(job, near)
+            self._licences.subtract(dict(job.licences))
             arrays[job.array] += 1
             count, told = count + 1, told + 1
+
+    def _is_full(self, count: int, needed: tuple[int, int]) -> bool:
+        most = self._partition.most
+        return self._room.nodes < needed[0] or self._room.arcs < needed[1] or most is not None and count >= most
+
+    def _waiting(self) -> list[tuple[int, int, str]]:
+        """The tasks that wait, with their weights; the last is the first to make room for a heavier one."""
+        book = self._seen.book
+        rows = ((name, book.tasks[name]) for name in self._kept)
+        return sorted(
+            ((book.jobs[row.job], -row.line, name) for name, row in rows if row.machine is None), reverse=True
+        )
+
+    def _near_of(self, job: Job) -> list[str]:
+        """The machines that it prefers; after a refusal others than that one, with the most free slots first."""
+        avoided = self._seen.avoided.get(job.array)
+        if avoided is None:
+            return [machine for machine in job.near if machine in self._near]
+        loads = Counter(task.machine for task in self._seen.book.tasks.values())
+        free = {name: slots - loads[name] for name, slots in self._seen.book.machines.items()}
+        others = [name for name in free if name in self._near and name not in avoided]
+        return sorted(others, key=lambda name: (free[name] <= 0, name not in job.near, -free[name]))[:MOST_NEAR]
 
     def _due(self) -> Iterator[Job]:
         tasks, now = self._seen.book.tasks, self._seen.now
