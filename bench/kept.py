@@ -32,6 +32,7 @@ class RoundRecord:
     beside: float | None
     simplex: float | None = None
     scaling: float | None = None
+    seed: int = 1  # of the stream
 
     @property
     def all_looks(self) -> int:

@@ -1,11 +1,12 @@
 """Measures rounds of the built program, with LEMON's solvers on the same networks beside it where LEMON is installed.
 
 usage: tools/run bench/rounds.py [--program FILE] [--measure FILE] [--beside FILE] [--sizes 100x20,..]
-                                 [--kinds fresh,..] [--tenants N] [--repeats N] [--seed S] [--all-rounds] [--last]
-                                 [--keep] [--search] [--single]
+                                 [--kinds fresh,..] [--tenants N] [--repeats N] [--seeds 1,2,..] [--all-rounds]
+                                 [--last] [--keep] [--search] [--single]
 Prints tables in Markdown and keeps each round as a line of JSON in out/bench/rounds.jsonl; with `--search`, which times
 rounds found by searches alone, in out/bench/searched.jsonl. Every placement is checked to be legal and to cost what the
-reply says, and that cost against LEMON's optimum; the exit status is 1 where one is wrong.
+reply says, and that cost against LEMON's optimum; the exit status is 1 where one is wrong. Each stream is drawn by five
+seeds, as the numbers of one say little: tables show the worst of them, and the ranges of the ratios.
 
 Several tenants have the same stream and ask its rounds at once: as many as have 3,000 tasks together, 64 at most. A
 round's time, with one worker, is the processor time of all threads of the program from the first of these lines to the
@@ -34,6 +35,7 @@ from measure import Subjects, build_lemon, read_counts, time_stream
 from shared import BUILT, EXPLAIN, CannotRun, Missed, kinds, measuring, program_file, require, run_script
 
 SIZES = "100x20,500x100,2000x500,3000x1000"
+SEEDS = "1,2,3,4,5"
 ONE_WORKER = ("--workers", "1")
 MOST_TASKS = 3_000  # of all tenants together, so that their rows fit a processor's caches, as LEMON's network does
 MOST_TENANTS = 64
@@ -48,7 +50,7 @@ class Options:
     kinds: str
     tenants: int | None
     repeats: int
-    seed: int
+    seeds: str
     all_rounds: bool
     last: bool
     keep: bool
@@ -92,10 +94,10 @@ def words_of(options: Options) -> tuple[list[str], list[str]]:
     return [options.program, *ONE_WORKER], measure
 
 
-def measure_stream(options: Options, lemon: str | None, kind: str, size: str) -> list[RoundRecord]:
+def measure_stream(options: Options, lemon: str | None, kind: str, size: str, seed: int) -> list[RoundRecord]:
     """One record for each round of a stream."""
     tasks, machines = kinds.read_size(size)
-    stream = kinds.make(kind, tasks, machines, options.seed)
+    stream = kinds.make(kind, tasks, machines, seed)
     served, measure = words_of(options)
     programs = [served, *([[options.beside, *ONE_WORKER]] if options.beside else [])]
     records, counts = [], read_counts(measure, stream)
@@ -114,6 +116,7 @@ def measure_stream(options: Options, lemon: str | None, kind: str, size: str) ->
             proposed=counts[place].proposed,
             firm=firm,
             beside=beside[0] if beside else None,
+            seed=seed,
             **timed.solvers,
         )
         records.append(record)
@@ -125,13 +128,24 @@ def worst(records: list[RoundRecord]) -> RoundRecord:
     return max(records, key=lambda record: (record.ratio or 0, record.firm))
 
 
+def split(found: list[RoundRecord]) -> tuple[list[RoundRecord], list[RoundRecord]]:
+    """The cold rounds, and those that follow."""
+    return [record for record in found if record.round == 0], [record for record in found if record.round > 0]
+
+
+def span(ratios: list[float]) -> str:
+    """The least and the greatest, where these differ."""
+    found = [f"{ratio:.2f}" for ratio in (min(ratios, default=0.0), max(ratios, default=0.0))]
+    return " to ".join(dict.fromkeys(found)) if ratios else ""
+
+
 def names_of(found: Iterable[str]) -> list[str]:
     """The names, each once, in the order in which they come first."""
     return list(dict.fromkeys(found))
 
 
 def print_table(records: list[RoundRecord], sizes: list[str], all_rounds: bool) -> None:
-    """A row for each stream's cold round and for the worst that follows."""
+    """A row for each kind's worst cold round, and for the worst that follows, of all seeds."""
     timed = [name for name, seconds in records[0].times().items() if seconds is not None]
     heads = ("kind", "size", "round", "tasks", "arcs", "searches", "looks", "proposed", "looks / arc")
     print("| " + " | ".join(heads) + " | " + "".join(f"{name} ms | " for name in timed) + "firm / faster |")
@@ -139,29 +153,33 @@ def print_table(records: list[RoundRecord], sizes: list[str], all_rounds: bool) 
     for size in reversed(sizes):
         for kind in names_of(record.kind for record in records):
             found = [record for record in records if (record.kind, record.size) == (kind, size)]
-            shown = found if all_rounds else found[:1] + ([worst(found[1:])] if found[1:] else [])
+            cold, later = split(found)
+            shown = found if all_rounds else [worst(cold)] + ([worst(later)] if later else [])
             for record in shown:
                 print(row(record, timed))
 
 
 def print_ratios(records: list[RoundRecord], sizes: list[str], of_each: Callable[[RoundRecord], float | None]) -> None:
-    """By size, a ratio of the cold round and the greatest of those that follow."""
+    """By size, a ratio of the cold round and the greatest of those that follow: its range over the seeds."""
     print("| kind | " + " | ".join(f"{size}, cold | later" for size in sizes) + " |")
     print("| --- |" + " ---: | ---: |" * len(sizes))
     for kind in names_of(record.kind for record in records):
         cells = []
         for size in sizes:
-            ratios = [of_each(record) or 0 for record in records if (record.kind, record.size) == (kind, size)]
-            cells += [f"{ratios[0]:.2f}", f"{max(ratios[1:]):.2f}" if ratios[1:] else ""]
+            found = [record for record in records if (record.kind, record.size) == (kind, size)]
+            cold, later = split(found)
+            cells.append(span([of_each(record) or 0 for record in cold]))
+            seeds = dict.fromkeys(record.seed for record in later)
+            cells.append(span([max(of_each(one) or 0 for one in later if one.seed == seed) for seed in seeds]))
         print(f"| {kind} | " + " | ".join(cells) + " |")
 
 
 def print_growth(records: list[RoundRecord], sizes: list[str], of_each: Callable[[RoundRecord], float]) -> None:
-    """The cold round's figure for each arc, by size, and how it grows."""
+    """The cold round's figure for each arc, by size, and how it grows; of the worst seed."""
     print("| kind | " + " | ".join(sizes) + " | last / first |\n| --- |" + " ---: |" * (len(sizes) + 1))
     for kind in names_of(record.kind for record in records):
         cold = [record for record in records if record.kind == kind and record.round == 0]
-        each = [of_each(record) / record.arcs for record in cold]
+        each = [max(of_each(record) / record.arcs for record in cold if record.size == size) for size in sizes]
         cells = [f"{it:,.1f}" for it in each] + [f"{each[-1] / each[0]:.1f}"]
         print(f"| {kind} | " + " | ".join(cells) + " |")
 
@@ -185,15 +203,19 @@ def measure_all(options: Options, lemon: str | None, file: TextIO) -> tuple[list
     """The records of all streams, and how many streams were wrong."""
     records: list[RoundRecord] = []
     wrong = 0
-    for size, kind in product(options.sizes.split(","), options.kinds.split(",")):
+    seeds = map(int, options.seeds.split(","))
+    for size, kind, seed in product(options.sizes.split(","), options.kinds.split(","), seeds):
         try:
-            found = measure_stream(options, lemon, kind, size)
+            found = measure_stream(options, lemon, kind, size, seed)
         except Missed as missed:
             wrong += 1
-            print(f"WRONG: {kind} {size}: {missed}", flush=True)
+            print(f"WRONG: {kind} {size}, seed {seed}: {missed}", flush=True)
             continue
         records += found
-        print(f"{kind} {size}: " + ", ".join(milliseconds(each.firm) for each in found) + " ms", file=sys.stderr)
+        print(
+            f"{kind} {size}, seed {seed}: " + ", ".join(milliseconds(each.firm) for each in found) + " ms",
+            file=sys.stderr,
+        )
         kept.keep(file, found)
     return records, wrong
 
@@ -209,7 +231,7 @@ def read_options() -> Options:
     parser.add_argument("--kinds", default=",".join(kinds.KINDS))
     parser.add_argument("--tenants", type=int, help="how many have the stream")
     parser.add_argument("--repeats", type=int, default=5)
-    parser.add_argument("--seed", type=int, default=1)
+    parser.add_argument("--seeds", default=SEEDS, help="of each stream (default: %(default)s)")
     parser.add_argument("--all-rounds", action="store_true", help="a row for each round")
     parser.add_argument("--last", action="store_true", help="measure nothing, print the tables of the last run")
     parser.add_argument("--keep", action="store_true", help=results.HELP)

@@ -20,8 +20,9 @@ import sys
 import tempfile
 import threading
 import time
+from collections import Counter
 from collections.abc import Callable
-from contextlib import suppress
+from contextlib import ExitStack, suppress
 from functools import partial
 
 from firmd_disks import (
@@ -68,6 +69,7 @@ from harness.small_streams import random_stream
 from hostile import MEANWHILE_SECONDS, patch, status_of
 
 
+STOPPING = b"? stopping: no further lines are taken\n"
 HELD_SECONDS = 5.0  # below which nobody was held up; one that is waits for as long as the other does not read
 # A firmd that gives its clients more time to read what they were answered, at its end: they may be slow on a busy host.
 PATIENT = """\
@@ -212,7 +214,7 @@ def dying_firm(setup: Setup) -> None:
             for line in ROWS:
                 require(client.ask(line).endswith(b" ok"), line)
             os.kill(daemon.firm_process(), signal.SIGKILL)
-            require(client.rest() == b"? stopping: no further lines are taken\n", client.received)
+            require(client.rest() == STOPPING, client.received)
         require(daemon.status() == 6 and b"firm ended with signal 9" in daemon.said(), daemon.said())
         right = daemon.firm
         daemon.firm = str(daemon.folder / "none")
@@ -232,6 +234,25 @@ def dying_firm(setup: Setup) -> None:
         with daemon.client() as client:
             require(client.ask(b"alpha show").endswith(SHOWN % 0), "the rows")
         daemon.stop()
+
+
+def unanswered_lines(setup: Setup) -> None:
+    """A line that stands in the journal gets its own reply or none: firmd never says that it was not taken."""
+    with setup.daemon() as daemon, ExitStack() as held:
+        daemon.start()
+        clients = [held.enter_context(daemon.client()) for _ in range(30)]
+        idle, firm = held.enter_context(daemon.client()), daemon.firm_process()
+        require(all(client.ask(b"alpha show").startswith(b"alpha ") for client in [*clients, idle]), "replies")
+        os.kill(firm, signal.SIGSTOP)
+        before = daemon.journal().count(b"\n")
+        for client in clients:
+            client.send(b"beta show\n")
+        wait_for(lambda: daemon.journal().count(b"\n") == before + len(clients), "the lines stand in the journal")
+        os.kill(firm, signal.SIGKILL)
+        told = Counter(client.rest() for client in clients)
+        require(told == {b"": len(clients)}, told)
+        require(idle.rest() == STOPPING, idle.received)
+        require(daemon.status() == 6, daemon.said())
 
 
 def who_may_speak(setup: Setup) -> None:
@@ -432,7 +453,7 @@ def stops(setup: Setup) -> None:
                 require(client.reply().startswith(b"alpha 1 ok"), "a reply")
                 daemon.running().send_signal(number)
                 *replies, last = client.rest().splitlines()
-                require(last == idle.rest().rstrip() == b"? stopping: no further lines are taken", last)
+                require(last + b"\n" == idle.rest() == STOPPING, last)
                 require(daemon.journal().count(b"\n") == len(replies) + 1, "each line that was taken is answered")
                 require(daemon.status() == 0, daemon.said())
             daemon.start()
@@ -654,6 +675,7 @@ SHORT = [
     syncs_of_starts,
     books_at_once,
     dying_firm,
+    unanswered_lines,
     who_may_speak,
 ]
 SHORT += [

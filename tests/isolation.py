@@ -11,7 +11,9 @@ from __future__ import annotations
 import argparse
 import os
 import random
+import selectors
 import signal
+import socket
 import subprocess
 import sys
 import tempfile
@@ -33,22 +35,24 @@ from harness.deployed import Books, Shown, Status, budgets, lanes
 from harness.program import ROOT
 from harness.small_streams import random_stream, roster_of
 from hostile import PATIENT, patch, with_http
+from firm_service.fair_selector import ALONE, BESIDE, FairSelector
 
 STAND_IN = str(ROOT / "tests" / "stand_in_firm.py")
-SHOW = b"beta show"
+SHOW, SHOWS = b"beta show", "alpha show\\n"
 # What another tenant's slowest request in a hundred may take beside a hog: twice what it takes alone, and this for a
 # host that does other work too, whose own pauses are longer than any of firmd's.
-SLACK_SECONDS, TRIES = 0.05, 8
+SLACK_SECONDS, FEW_SECONDS, TRIES = 0.05, 0.01, 8
 MEMORY = "/dev/shm"
 SOON_SECONDS = 0.3
 TURNS_SECONDS = 0.7  # for which the longest turn of a loop is looked for
 LONGEST_SECONDS, ALL_SECONDS = 60, 300  # for one request, and for all that are measured together
 HANGING_SECONDS = 5  # of a firm, after which it is killed
 
-# Sends one text again and again over some connections, and reads all replies; says how many it has.
+# Sends one text again and again over some connections, this number of bytes at a time, and reads all replies.
 HOG = """\
 import selectors, socket, sys
 path, text, count = sys.argv[1], sys.argv[2].encode().decode("unicode_escape").encode("latin-1"), int(sys.argv[3])
+size = int(sys.argv[4])
 poll = selectors.DefaultSelector()
 block = text * max(1, 60000 // len(text))
 for _ in range(count):
@@ -62,7 +66,21 @@ while True:
         if events & selectors.EVENT_READ and not key.fileobj.recv(1 << 20):
             sys.exit("closed")
         if events & selectors.EVENT_WRITE:
-            key.data[0] = (key.data[0] + key.fileobj.send(block[key.data[0]:])) % len(block)
+            key.data[0] = (key.data[0] + key.fileobj.send(block[key.data[0]:][:size])) % len(block)
+"""
+# Connects, asks and leaves again and again, in this number of processes.
+CHURN = """\
+import os, socket, sys
+path, text, count = sys.argv[1], sys.argv[2].encode().decode("unicode_escape").encode("latin-1"), int(sys.argv[3])
+print("ready", flush=True)
+for _ in range(count - 1):
+    if not os.fork():
+        break
+while True:
+    with socket.socket(socket.AF_UNIX) as client:
+        client.connect(path)
+        client.sendall(text)
+        client.recv(1 << 16)
 """
 
 
@@ -86,20 +104,22 @@ class Hog:
     path: Path
     text: str  # as Python writes it
     connections: int
+    size: int = 1 << 16  # bytes that are sent at a time
+    script: str = HOG
 
 
 @contextmanager
 def running(hog: Hog) -> Iterator[None]:
     """Has another process send a text without end."""
-    words = [sys.executable, "-c", HOG, str(hog.path), hog.text, str(hog.connections)]
-    with subprocess.Popen(words, stdout=subprocess.PIPE, stderr=subprocess.DEVNULL) as process:
+    words = [sys.executable, "-c", hog.script, str(hog.path), hog.text, str(hog.connections), str(hog.size)]
+    with subprocess.Popen(words, stdout=subprocess.PIPE, stderr=subprocess.DEVNULL, start_new_session=True) as process:
         try:
             require(process.stdout and process.stdout.readline() == b"ready\n", "the hog has its connections")
             time.sleep(SOON_SECONDS)
             yield
             require(process.poll() is None, "the hog was closed")
         finally:
-            process.kill()
+            os.killpg(process.pid, signal.SIGKILL)
 
 
 def slowest(client: Client, count: int) -> float:
@@ -117,23 +137,29 @@ def slowest(client: Client, count: int) -> float:
     return sorted(seconds)[count * 99 // 100 - 1]
 
 
-def is_undisturbed(before: float, client: Client, count: int) -> bool:
+def is_undisturbed(before: float, client: Client, count: int, slack: float = SLACK_SECONDS) -> bool:
     """Whether another's requests take about as long as before."""
     meanwhile = slowest(client, count)
     print(
         f"    another's slowest request in a hundred: {1e3 * meanwhile:.1f} ms instead of {1e3 * before:.1f}",
         flush=True,
     )
-    return meanwhile <= 2 * before + SLACK_SECONDS
+    return meanwhile <= 2 * before + slack
 
 
-def compare(client: Client, count: int, disturbing: Callable[[], AbstractContextManager[object]], more: float) -> None:
+def compare(
+    client: Client,
+    count: int,
+    disturbing: Callable[[], AbstractContextManager[object]],
+    more: float,
+    slack: float = SLACK_SECONDS,
+) -> None:
     """Asks that another's requests take about as long, or some seconds more, while somebody disturbs as right before
     that; measures both again where the host did other work meanwhile."""
     for _ in range(TRIES):
         before = slowest(client, count) + more
         with disturbing():
-            if is_undisturbed(before, client, count):
+            if is_undisturbed(before, client, count, slack):
                 return
     require(False, f"another's slowest request in a hundred took more than it may, {TRIES} times")
 
@@ -242,6 +268,59 @@ def pipelined_questions(setup: Setup) -> None:
         daemon.stop()
 
 
+def small_reads(setup: Setup) -> None:
+    """Clients that send a byte at a time, or connect for each line, delay another's by a few of theirs at most."""
+    with load(setup) as daemon, Client(daemon.folder / "beta") as other:
+        slowest(other, 100)
+        for hog in (
+            Hog(daemon.folder / "alpha", "alpha show\\n", 500, size=1),
+            Hog(daemon.folder / "alpha", "alpha show\\n", 2, script=CHURN),
+            Hog(daemon.folder / "alpha", "alpha show\\n", 8, script=CHURN),
+        ):
+            compare(other, 200 if setup.is_quick else 2_000, partial(running, hog), 0.0, FEW_SECONDS)
+        daemon.stop()
+
+
+def fair_turns(setup: Setup) -> None:
+    """However many descriptors of a group are ready, each look has one of another, and all come in turn."""
+    del setup
+    selector = FairSelector()
+    with ExitStack() as held:
+        pairs = [held.enter_context(pair()) for _ in range(200)]
+        held.callback(selector.close)
+        for number, (near, far) in enumerate(pairs):
+            selector.join(near.fileno(), b"alpha" if number else b"beta")
+            selector.register(near, selectors.EVENT_READ, number)
+            if number:
+                far.send(b"x")
+        alone = [key.data for key, _ in selector.select(0)]
+        require(len(alone) == ALONE, f"{len(alone)} of the one group that is ready")
+        pairs[0][1].send(b"x")
+        seen: list[int] = []
+        for _ in range(2 * len(pairs)):
+            found = [key.data for key, _ in selector.select(0)]
+            require(0 in found and len(found) <= 1 + BESIDE, found)
+            seen += found
+        require(set(seen) == set(range(len(pairs))), f"{len(set(seen))} of {len(pairs)}")
+        selector.modify(pairs[0][0], selectors.EVENT_WRITE, "changed")
+        require((selector.get_key(pairs[0][0]).data, True) in changed(selector), "what was changed")
+        for near, _ in pairs:
+            selector.unregister(near)
+            selector.leave(near.fileno())
+        require(selector.select(0) == [] and not selector.get_map(), "nothing is left")
+
+
+def changed(selector: FairSelector) -> list[tuple[object, bool]]:
+    return [(key.data, events == selectors.EVENT_WRITE) for key, events in selector.select(0)]
+
+
+@contextmanager
+def pair() -> Iterator[tuple[socket.socket, socket.socket]]:
+    near, far = socket.socketpair()
+    with near, far:
+        yield near, far
+
+
 def lines_of_nobody(setup: Setup) -> None:
     """Lines that no tenant could mean, comments and endless lines keep nobody waiting, and are not kept."""
     floods = ["#\\n", "nobody show\\n", "\\n", "alpha " + "x" * 300 + "\\n", "+ admit\\n", "x" * 1_000]
@@ -254,9 +333,10 @@ def lines_of_nobody(setup: Setup) -> None:
 
 # Writes how much of the processor the longest turn of its loop has taken since SIGUSR1, in seconds.
 TURNS = """\
-import selectors, signal, time
+import signal, time
+from firm_service.fair_selector import FairSelector
 at, longest = [0.0], [1e9]
-def select(self, timeout=None, original=selectors.EpollSelector.select):
+def select(self, timeout=None, original=FairSelector.select):
     turn = time.thread_time() - at[0]
     if turn > longest[0]:
         longest[0] = turn
@@ -265,22 +345,28 @@ def select(self, timeout=None, original=selectors.EpollSelector.select):
     found = original(self, timeout)
     at[0] = time.thread_time()
     return found
-selectors.EpollSelector.select = select
+FairSelector.select = select
 signal.signal(signal.SIGUSR1, lambda *_: longest.__setitem__(0, 0.0))
 """
 MOST_TURN_SECONDS = 0.010  # some times a turn's, for a slow host
 
 
 def longest_turns(setup: Setup) -> None:
-    """Lines that take long behind some that take nearly no time make no turn of firmd's loop long."""
+    """Neither many small reads nor lines that take long, after quick ones, make a turn of firmd's loop long."""
     texts = ["#\\n" * 8_192 + "alpha\\nx\\n" * 2_048, "#\\n" * 8_192 + "a\\nb\\n" * 4_096]
     with setup.daemon(*PATIENT, firm=STAND_IN) as daemon:
         path = daemon.folder / "longest"
         patch(daemon, TURNS.format(path=str(path)))
         daemon.start()
-        for text, connections in ((texts[0], 1), (texts[1], 1), (texts[1], 50)):
+        whole = 1 << 16
+        for text, connections, size in (
+            (texts[0], 1, whole),
+            (texts[1], 1, whole),
+            (texts[1], 50, whole),
+            (SHOWS, 900, 1),
+        ):
             daemon.running().send_signal(signal.SIGUSR1)
-            with running(Hog(daemon.any, text, connections)):
+            with running(Hog(daemon.any, text, connections, size)):
                 time.sleep(TURNS_SECONDS)
             seconds = float(path.read_text() or 0.0)
             print(f"    the longest turn: {1e3 * seconds:.1f} ms", flush=True)
@@ -363,7 +449,6 @@ def filled_journal(setup: Setup) -> None:
             require(len(daemon.journal()) <= 10_000, f"{len(daemon.journal())} bytes of the journal")
             for number in range(1, 51):
                 require(other.ask(SHOW) == b"beta %d " % number + SHOWN, "another's reply")
-            require(client.ask(b"alpha show").startswith(b"alpha "), "a shorter line has room")
         daemon.stop()
     bucket = budgets.Bucket(rate=2.0, most=1_000.0, now=0.0)
     bucket.left -= 1_000
@@ -382,6 +467,17 @@ def socket_budget(setup: Setup) -> None:
         with Client(daemon.folder / "beta") as other:
             require(other.ask(SHOW).startswith(b"beta "), "the tenant's own socket")
         daemon.stop()
+
+
+def disk_budget(setup: Setup) -> None:
+    """A day's budget is that of the disk: lines that come one by one have headings, which it counts."""
+    for of in ("tenant", "socket"):
+        with load(setup, f"--bytes-a-day-of-{of}", "20000") as daemon, Client(daemon.folder / "alpha") as client:
+            replies = [client.ask(b"alpha show") for _ in range(2_000)]
+            require(replies[-1].startswith(b"? %b-journal-full: " % of.encode()), replies[-1])
+            size = sum(path.stat().st_size for path in daemon.segments())
+            require(18_000 < size < 20_500, f"{size} bytes on the disk")
+            daemon.stop()
 
 
 def own_replies(setup: Setup) -> None:
@@ -586,6 +682,7 @@ MEASURED = [
     idle_connections,
     pipelined_rounds,
     pipelined_questions,
+    small_reads,
     lines_of_nobody,
     longest_turns,
     bytes_a_second,
@@ -595,10 +692,12 @@ OTHERS = [
     hung_firm,
     rounds_of_all,
     lanes_of_nobody,
+    fair_turns,
     asked_once,
     bounded_stop,
     filled_journal,
     socket_budget,
+    disk_budget,
     worn_tenants,
     order_of_lines,
     measured,

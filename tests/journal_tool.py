@@ -16,7 +16,7 @@ from firmd_kit import JOURNAL_TOOL, Setup
 from harness.checks import require
 from harness.deployed import SERVICE, found_now, kept_lines
 from harness.program import opened
-from journal_kit import OLD, ROUNDS, answered, ask_all, serves, tool, write_old
+from journal_kit import OLD, QUESTIONS, ROUNDS, answered, ask_all, serves, tool, write_old
 
 
 def cut_rewrites(setup: Setup) -> None:
@@ -60,6 +60,35 @@ def cut_renewals(setup: Setup) -> None:
             daemon.kill()
             path.write_bytes(before)
             daemon.refuses(5, str(path))
+
+
+def mended_extents(setup: Setup) -> None:
+    """A damaged or missing extent is written anew by the segments, and all lines are served; nothing else is mended."""
+    with setup.daemon("--segment-bytes", "4000") as daemon:
+        said = answered(daemon, is_killed=True)
+        path, first = daemon.state / "journal" / "extent", daemon.segments()[0]
+        whole, text = path.read_bytes(), first.read_bytes()
+        for damage in (whole[:-20] + b"X" + whole[-19:], b"", None):
+            path.unlink() if damage is None else path.write_bytes(damage)
+            daemon.refuses(5, str(path))
+            place = len(text) // 2
+            first.write_bytes(text[:place] + b"\0" + text[place + 1 :])
+            mends(daemon, 5, f"{first}, at byte ")
+            require((path.read_bytes() if path.exists() else None) == damage, "the extent is as it was")
+            first.write_bytes(text)
+            mends(daemon, 0, f"{path}: it reaches to line {len(said):,}. If lines behind may be lost, run")
+            serves(daemon, said, setup)
+            daemon.kill()
+            mends(daemon, 2, f"{path} is whole")
+            said += QUESTIONS
+
+
+def mends(daemon: firmd_kit.Daemon, status: int, words: str) -> None:
+    """Asks that a try to write the extent anew ends so."""
+    command = [*JOURNAL_TOOL, "rewrite", "--extent", str(daemon.state)]
+    done = subprocess.run(command, capture_output=True, text=True)
+    told = (done.stdout + done.stderr).removeprefix("firm-journal: ")
+    require(done.returncode == status and told.startswith(words), f"status {done.returncode}: {told}")
 
 
 def new_ids(setup: Setup) -> None:
@@ -198,4 +227,13 @@ def ended_states(setup: Setup) -> None:
             require((opened(printing.stderr).read(), printing.wait()) == (b"", -signal.SIGPIPE), printing)
 
 
-SHORT = [cut_rewrites, cut_renewals, new_ids, printed_damage, printed_meanwhile, shown_on_terminals, ended_states]
+SHORT = [
+    cut_rewrites,
+    cut_renewals,
+    mended_extents,
+    new_ids,
+    printed_damage,
+    printed_meanwhile,
+    shown_on_terminals,
+    ended_states,
+]

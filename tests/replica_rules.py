@@ -15,16 +15,18 @@ import time
 from collections.abc import Callable, Iterator
 from contextlib import contextmanager
 from pathlib import Path
+from unittest.mock import patch
 
 from etcd_kit import memory, until
 from harness.checks import require
 from stand_in_etcd import Connection, Memory
 
+from firm_service import logs
 from firm_service.faults import Exit, Fault
 from firm_service.journal import Journal, Room
 from firm_service.records import Base, Batch
 from firm_service.replicated import journal as replicated_journal
-from firm_service.replicated.beginning import agree
+from firm_service.replicated.beginning import Length, agree, compare_lengths
 from firm_service.replicated.digests import EVERY_LINES, Chain, Digest, Digests
 from firm_service.replicated.entries import Agreed, Entry, Keys, cut_off, parts_of
 from firm_service.replicated.etcd import Access, Change, Denied, Etcd, Full, Member, Put, Size, Unfit, Unsure
@@ -387,7 +389,7 @@ def order() -> None:
     memory.set(Put(KEYS.kept + b"b", Kept("x", 450, time.time() - 100).text()))
     leader.keep()
     require(offsets()[0] == 400, "one that is away for a while is waited for")
-    leader.told.etcd_bytes, leader.told.quota_bytes = 6, 10
+    memory.size = Size(6, 10)
     for count in range(3):  # it lives: its host's clock is slow
         memory.set(Put(KEYS.kept + b"b", Kept("x", 450, time.time() - 100 + count).text()))
         leader.keep()
@@ -457,17 +459,95 @@ def names() -> None:
 
 
 def warnings() -> None:
-    """What etcd uses of its quota is told."""
-    memory = Memory(size=Size(600, 1000))
+    """The use of etcd's quota is reported, with a warning past half of it once a minute at most."""
+    memory = Memory(size=Size(400, 1000))
     housekeeper = housekeeper_of(memory, "a", 10, 1)
-    housekeeper._look_at_quota()
-    require(
-        (housekeeper.told.etcd_bytes, housekeeper.told.quota_bytes, housekeeper._is_warned) == (600, 1000, True),
-        housekeeper.told,
-    )
-    memory.size = Size(400, 1000)
-    housekeeper._look_at_quota()
-    require(not housekeeper._is_warned, "it is well again")
+    with said() as found:
+        for used in (400, 600, 601, 400, 602):
+            memory.size = Size(used, 1000)
+            housekeeper._look_at_quota()
+            require(housekeeper.told.etcd_bytes == used and housekeeper.told.quota_bytes == 1000, housekeeper.told)
+    require(found == ["warning: etcd uses 600 of the 1,000 bytes of its quota; at the end firmd can't append"], found)
+
+
+def troubles() -> None:
+    """A follower that can't lead, as where etcd is full, tells each trouble once a minute at most."""
+    with case() as here, said() as found:
+        journal, _ = here.open("a")
+        pieces = journal.pieces()
+        here.memory.is_full = True
+        tries = [0]
+
+        def wait(seconds: float) -> bool:
+            tries[0] += 1
+            return tries[0] > 20
+
+        setattr(journal._is_stopping, "wait", wait)
+        setattr(journal._is_stopping, "is_set", lambda: tries[0] > 20)
+        require(list(pieces) == [], "nothing comes")
+    told = [text for text in found if "does not serve" in text]
+    require(len(told) == 1 and "etcd is full" in told[0] and tries[0] > 20, f"{tries[0]} tries: {found}")
+
+
+@contextmanager
+def said() -> Iterator[list[str]]:
+    """Collect the messages to the operator."""
+    found: list[str] = []
+    with patch.object(logs, "tell", lambda level, text, *_, **__: found.append(text)):
+        yield found
+
+
+def filled_store() -> None:
+    """Past its share of the quota fewer lines stay in etcd, whatever `--etcd-retain` says; the last entry stays."""
+    memory = Memory()
+    memory.set(Put(KEYS.leader, b"a"))
+    leader = housekeeper_of(memory, "a", 1000, memory.rows[KEYS.leader][0].made)
+
+    def kept(used: int) -> list[int]:
+        memory.size = Size(used, 1000)
+        leader.keep()
+        return [KEYS.offset(key) for key in sorted(memory.rows) if key.startswith(KEYS.lines)]
+
+    for offset in range(0, 1000, 100):
+        memory.set(Put(KEYS.entry(offset), b""))
+    memory.set(Put(KEYS.snapshot, Offer("-", 700, "none").text()))
+    require(kept(250) == list(range(0, 1000, 100)), "a quarter is not too much")
+    require(kept(500) == list(range(500, 1000, 100)), "half of them go, where it is twice as much")
+    require(kept(500) == [700, 800, 900], "those after the snapshot there stay")
+    require(kept(501) == [800, 900], "not where etcd gets full")
+    require(kept(900) == [900], "the last one stays")
+
+
+def full_store() -> None:
+    """Each replica removes from a full etcd the lines that all have: so there is room once it is defragmented."""
+    memory = Memory()
+    for offset in range(0, 1000, 100):
+        memory.set(Put(KEYS.entry(offset), b""))
+    replicas = [housekeeper_of(memory, name, size, 0) for name, size in (("a", 1000), ("b", 450), ("c", 100))]
+    for replica in replicas:
+        replica.keep()
+    memory.set(Put(KEYS.kept + b"c", Kept("x", 100, time.time() - 100).text()))
+    memory.size, memory.is_full = Size(1000, 1000), True
+    for replica in replicas[:2]:
+        replica._put, replica.quiet = 0.0, 0.0  # its own key is old
+        for _ in range(5):
+            replica.keep()
+    offsets = [KEYS.offset(key) for key in sorted(memory.rows) if key.startswith(KEYS.lines)]
+    require(offsets == list(range(400, 1000, 100)), offsets)
+    names = sorted(key for key in memory.rows if key.startswith(KEYS.kept))
+    require(names == [KEYS.kept + b"a", KEYS.kept + b"b"], f"no other is away: {names}")
+
+
+def longest() -> None:
+    """Each replica that finds no state in etcd has its length there, until one is set."""
+    memory = Memory()
+    lengths = {"a": Length(9, 99), "b": Length(10, 110), "c": Length(2, 30)}
+    for name, length in lengths.items():
+        found = compare_lengths(Connection(memory), KEYS, name, length)
+    require(list(found.items()) == [("b", lengths["b"]), ("a", lengths["a"]), ("c", lengths["c"])], found)
+    agree(Connection(memory), KEYS, Agreed(ID, ROSTER, Position()))
+    require(not [key for key in memory.rows if key.startswith(KEYS.found)], "they are of no more use")
+    require(list(compare_lengths(Connection(memory), KEYS, "a", lengths["a"])) == ["a"], "nor set again")
 
 
 # What a test leaves behind.
@@ -612,4 +692,5 @@ def cut_answers() -> None:
 
 RULES: list[Callable[[], None]] = [entries, cuts, histories, agreements, one_leader, lost_answers, random_leaders]
 RULES += [full_and_away, old_changes, digests, points, order, early_names, names, secrets, warnings]
+RULES += [troubles, filled_store, full_store, longest]
 RULES += [versions, refusals, cut_answers, killed_test]

@@ -20,7 +20,7 @@ from firm_service.replicated import renewal
 from firm_service.replicated.beginning import agree, beginning_of
 from firm_service.replicated.chunks import CHUNK_BYTES, chunk_key, put_chunks
 from firm_service.replicated.entries import Agreed
-from firm_service.replicated.etcd import Condition, Put, Unsure
+from firm_service.replicated.etcd import Condition, Put, Size, Unsure
 from firm_service.replicated.faults import Anew, NotLeading
 from firm_service.replicated.journal import ReplicatedJournal
 from firm_service.replicated.offers import Offer, fetch, offer_of, packed
@@ -149,7 +149,7 @@ def kept_beginnings() -> None:
             shared.commit()
         journal.append([batch(b"alpha show")])
         require(first_entry() == 33, "lines behind the offer")
-        journal.housekeeper.told.etcd_bytes, journal.housekeeper.told.quota_bytes = 6, 10
+        here.memory.size = Size(6, 10)
         require(first_entry() == 55, "where there is no room")
 
 

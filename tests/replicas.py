@@ -29,6 +29,7 @@ from pathlib import Path
 import replica_chaos
 import replica_rules
 import replica_states
+import replica_stores
 from etcd_kit import (
     NAMES,
     Authority,
@@ -48,8 +49,8 @@ from harness.checks import Check, Skipped, Suite, print_skipped, require, run_sc
 from harness.guard import guard
 from harness.program import ROOT, Roster, add_program, run_words
 from firm_service.programs import program_of
-from firm_service.replicated.entries import Keys
-from firm_service.replicated.etcd import Access, Etcd, Member, after
+from firm_service.replicated.entries import MOST_BYTES, Keys
+from firm_service.replicated.etcd import Access, Etcd, Member, Put, after
 from firm_service.replicated.offers import offer_of
 from firm_service.states import Opening, fold
 from replica_chaos import KILLED, KINDS, ROSTER, STOPPED, Chaos, latencies
@@ -570,7 +571,7 @@ def histories(setup: Setup) -> None:
         for number in range(3):
             shutil.rmtree(members.folder / f"m{number}")
         members.start_all()
-        replicas.refuses("a", 5, "lines, and etcd none of them: --etcd-begin")
+        replicas.refuses("a", 5, "lines, and etcd none of them: start each replica once")
         replicas.spawn("a", "--etcd-begin")
         fill(replicas, 3)
         replicas.start("b")
@@ -650,42 +651,29 @@ def add_user(members: Members, authority: Authority, client: Path) -> None:
         require(done.returncode == 0 or "already exists" in done.stderr, f"{words}: {done.stderr}")
 
 
-def full_etcd(setup: Setup) -> None:
-    """Where etcd is full, firmd ends with a status and words for it, and nothing is lost; followers wait."""
-    with setup.cluster("--etcd-retain", str(2**32), members=("--quota-backend-bytes", str(8 << 20))) as (_, replicas):
-        replicas.start("a", "b")
-        leader = replicas.leads()
-        line = b"t0 where " + b"x" * 200
-        answered = 0
-        with Client(replicas.socket(leader)) as client:
-            with suppress(Gone):
-                while not replicas.has_ended(leader):
-                    client.send(b"".join([line + b"\n"] * 500))
-                    for _ in range(500):
-                        answered += client.reply().startswith(b"t0 ")
-        require(replicas.processes[leader].wait(20) == 4, replicas.said(leader))
-        require("etcd is full: raise its quota" in replicas.said(leader), replicas.said(leader))
-        other = "b" if leader == "a" else "a"
-        until(lambda: "etcd is full" in replicas.said(other), "the other one says so too")
-        require(not replicas.has_ended(other), "it waits until there is room")
-        count = replicas.journal(leader).count(b"\n")
-        require(replicas.journal(leader) == replicas.journal(other) and count >= answered, (count, answered))
+def fill_with_others(members: Members, size: int) -> None:
+    """Has another service use this many bytes of etcd."""
+    etcd = Etcd(Access((Member.read(members.url(0)),)))
+    for number in range(size // MOST_BYTES + 1):
+        etcd.transact([], [Put(b"/others/%d" % number, bytes(MOST_BYTES))])
+    etcd.close()
 
 
 def half_full(setup: Setup) -> None:
     """Once etcd uses half of its quota, firmd warns; firmctl and the metrics show how much it is, and who is behind."""
     quota = 24 << 20
-    options, (port,) = ["--etcd-retain", str(2**32)], free_ports(1)
+    options, (port,) = list[str](), free_ports(1)
     has_http = not missing_of(["aiohttp", "prometheus_client"])
     if has_http:
         options += ["--http", str(port)]
-    with setup.cluster(*options, members=("--quota-backend-bytes", str(quota))) as (_, replicas):
+    with setup.cluster(*options, members=("--quota-backend-bytes", str(quota))) as (members, replicas):
         replicas.start("a")
         with Client(replicas.socket("a")) as client:
-            for _ in range(120):
+            for _ in range(10):
                 client.send((b"t0 where " + b"x" * 200 + b"\n") * 600)
                 for _ in range(600):
                     client.reply()
+        fill_with_others(members, quota // 2)
         until(lambda: "of its quota; at the end firmd can't append" in replicas.said("a"), "it warns")
         words = [sys.executable, str(ROOT / "service" / "firmctl"), "--state", str(replicas.folder / "a"), "status"]
         shown = subprocess.run(words, capture_output=True, text=True).stdout
@@ -757,7 +745,7 @@ def unreachable(setup: Setup) -> None:
 RULES = [*replica_rules.RULES, *replica_states.RULES]
 CHECKS: list[Callable[[Setup], None]] = [chaos, control, cut_connections, dropped_packets]
 CHECKS += [late_replica, snapshots, restored, other_firm, sleeping_leader, from_one_host, histories, one_name]
-CHECKS += [hung_disk, unread_replies, certificates, full_etcd, half_full, wiped_member, unreachable]
+CHECKS += [hung_disk, unread_replies, certificates, half_full, wiped_member, unreachable]
 
 
 def main() -> int:
@@ -775,6 +763,7 @@ def main() -> int:
     if not options.quick:
         alone[name_of(silence)] = partial(silence, setup)
         beside = {name_of(check): partial(check, setup) for check in CHECKS}
+        beside |= {name_of(check): partial(check, setup.program) for check in replica_stores.CHECKS}
     alone = {name: check for name, check in alone.items() if options.only in name}
     chosen = {name: check for name, check in beside.items() if options.only in name}
     return run_suites(Suite(alone), Suite(chosen, CHECKS_AT_A_TIME))

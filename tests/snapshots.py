@@ -30,6 +30,7 @@ from firmd_kit import ROSTER, Client, Daemon, Gone, Setup, Tenant, in_threads, r
 from harness import program
 from harness.checks import Check, Suite, require, run_script, run_suites
 from harness.deployed import Limits, archive, extent, kept_books, records, service_states, snapshots
+from hostile import patch
 from journal_kit import QUESTIONS, ROUNDS, ask_all, tool
 from snapshot_kit import (
     LINES,
@@ -344,6 +345,30 @@ def clocks_jump(setup: Options) -> None:
             (journal / "extent").write_bytes(extent.Extent(b"state", 1, len(times), 0, 0).text())
             count = archive.clear(journal, archive.Keeping(days=1.0), len(times) - 1)
             require(count == taken == len(times) - len(list(journal.glob("*.lines"))), f"{times}: {count} are taken")
+    clock_is_ahead()
+
+
+def clock_is_ahead() -> None:
+    """While a clock is ahead for some seconds, no segment is taken away that is seconds old; a lasting one counts."""
+    day, ahead, steady = 86_400.0, [0.0], [0.0]
+    clock = archive.Clock(lambda: 1e9 + steady[0] + ahead[0], lambda: steady[0])
+    keeping = archive.Keeping(days=1.0, clock=clock)
+    with tempfile.TemporaryDirectory(prefix="firm-") as name:
+        journal, ten_years = Path(name), 3_650 * day
+        for number, begun in enumerate((-2.0 * day, -1.0, ten_years, ten_years), 1):
+            header = records.Header("state", number, 0, 0, 0, 0, int((1e9 + begun) * 1_000))
+            (journal / f"{number:08}.lines").write_bytes(header.text())
+        (journal / "extent").write_bytes(extent.Extent(b"state", 1, 4, 0, 0).text())
+        for at, is_ahead, taken in (
+            (1.0, True, 0),
+            (6.0, True, 0),
+            (7.0, False, 0),
+            (8.0, True, 0),
+            (4_000.0, True, 1),
+        ):
+            steady[0], ahead[0] = at, ten_years if is_ahead else 0.0
+            count = archive.clear(journal, keeping, 3)
+            require(count == taken, f"{count} are taken after {at:g} s, with a clock {ahead[0] / day:g} days ahead")
 
 
 def archive_away(setup: Options) -> None:
@@ -459,6 +484,24 @@ def seals_once(setup: Options) -> None:
             wait_for(lambda: failures(daemon) >= count, f"{count} failures: {daemon.said().decode()}", PATIENT)
             goes_on(setup, daemon, said)
         require(len(daemon.segments()) == 2, f"{len(daemon.segments())} segments")
+        daemon.stop()
+
+
+LARGE = firmd_kit.HEADING + b"alpha,4096,65536,1000000000,1,500\n"
+HASTY = "from firm_service import snapshotting\nsnapshotting.WORK_SECONDS = 0.02\n"
+
+
+def costly_lines(setup: Options) -> None:
+    """A few lines for which firm has worked long, as rounds of many tasks, get a snapshot: so a start needs no more."""
+    with setup.daemon(roster=LARGE) as daemon:
+        patch(daemon, HASTY)
+        daemon.start()
+        lines = [b"alpha machine m%d 4" % number for number in range(100)] + [b"alpha job j 10"]
+        lines += [line for number in range(600) for line in (b"alpha task j t%d" % number, b"alpha round")]
+        with daemon.client() as client:
+            client.send(b"".join(line + b"\n" for line in lines))
+            require(all(client.reply().startswith(b"alpha ") for _ in lines), "replies")
+        wait_for(lambda: len(named(daemon)) > 0, f"a snapshot: {daemon.said().decode()}", PATIENT)
         daemon.stop()
 
 
@@ -690,6 +733,7 @@ SHORT = [
     leaves_nothing,
     fails,
     seals_once,
+    costly_lines,
     full_disk,
     gives_way,
     changes_over,

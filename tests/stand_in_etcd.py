@@ -19,6 +19,7 @@ class Memory:
     revision: int = 1
     compacted: int = 0
     size: Size = Size(0, 1 << 30)
+    is_full: bool = False  # it takes no key and no lease, but has some removed
     lock: RLock = field(default_factory=RLock)
 
     def set(self, put: Put) -> None:
@@ -68,7 +69,7 @@ class Connection:
             fault = self.faults.pop(0) if self.faults else ""
             if fault == "lost":
                 raise Unsure("the request was lost")
-            if fault == "full":
+            if fault == "full" or self.memory.is_full and puts:
                 raise Full("database space exceeded")
             holds = all(map(self._holds, conditions))
             if holds:
@@ -100,6 +101,8 @@ class Connection:
 
     def grant(self, seconds: int) -> int:
         with self.memory.lock:
+            if self.memory.is_full:
+                raise Full("database space exceeded")
             self.memory.revision += 1
             self.memory.leases.add(self.memory.revision)
             return self.memory.revision

@@ -219,6 +219,18 @@ def starts_elsewhere(built: str, draw: random.Random) -> None:
     require(tenant.round_with("start x m", wanted + 1) == wanted, f"{tenant}: not in round {wanted}")
 
 
+def never_elsewhere(built: str, draw: random.Random) -> None:
+    """Remote above weight + patience keeps a task from other machines for good, else for remote - weight rounds."""
+    weight, patience, remote = draw.randint(1, 9), draw.randint(0, 6), draw.choice([9, 10, 1_000_000])
+    if remote == 1_000_000:
+        weight, patience = remote - weight, draw.choice([patience, roster.LONGEST_PATIENCE])
+    tenant = Tenant(built, 0, 9, remote, patience)
+    tenant.say("machine full 1", "machine m 1", f"job j {HEAVY}", f"job light {weight}", "task j f full")
+    tenant.say("task light x full")
+    wanted = first_wait(remote - weight) if remote <= weight + patience else 0
+    require(tenant.round_with("start x m", 20) == wanted, f"{tenant}: not in round {wanted}")
+
+
 def preempts_its_equal(built: str, draw: random.Random) -> None:
     """One submitted later, of the same weight, does after churn + 1 rounds, and never with patience <= churn."""
     weight, churn = draw.randint(1, 9), draw.randint(0, 6)
@@ -257,6 +269,7 @@ INEQUALITIES = {
     "a task preempts a later one": preempts_first,
     "a task preempts its equal": preempts_its_equal,
     "a task starts elsewhere": starts_elsewhere,
+    "a task never starts elsewhere": never_elsewhere,
     "a task waits longest": waits_longest,
     "a task waits past its patience": waits_past_its_patience,
 }

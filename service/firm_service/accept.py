@@ -9,7 +9,7 @@ from collections.abc import Callable
 from .faults import Fault, Faults, Reader
 from .relief import SHORTAGES, Relief
 
-AT_ONCE = 4  # connections of a socket in a turn of the loop
+AT_ONCE = 1  # connection of a socket in a turn of the loop, as one costs more than some reads
 RETRY_SECONDS = 0.01  # until one that was closed has given its descriptor back
 
 

@@ -4,7 +4,8 @@ from __future__ import annotations
 
 import shutil
 import time
-from dataclasses import dataclass
+from collections.abc import Callable
+from dataclasses import dataclass, field
 from pathlib import Path
 from queue import Empty, SimpleQueue
 from threading import Thread
@@ -15,7 +16,32 @@ from .files import PRIVATE, make_folder, replace_synced, sync_folder
 from .recovery import extent_path, numbers_of, read_file, read_header, segment_path
 
 DAY_SECONDS = 86_400
+SET_SECONDS = 60.0  # by which a clock changes that is set
+SETTLED_SECONDS = 3_600.0  # after which it is believed
 LATE_SECONDS = 60.0  # for which segments may be on their way before that is told
+
+
+def boot_time() -> float:
+    """Seconds since the host's start, by a clock that nobody sets."""
+    return time.clock_gettime(time.CLOCK_BOOTTIME)
+
+
+class Clock:
+    """The Unix time. Where the host's clock is set while firmd runs, it counts once it has stood so for an hour."""
+
+    def __init__(self, wall: Callable[[], float] = time.time, steady: Callable[[], float] = boot_time) -> None:
+        self._wall, self._steady = wall, steady
+        self._since = steady()
+        self._offset = self._seen = wall() - self._since
+
+    def now(self) -> float:
+        steady = self._steady()
+        offset = self._wall() - steady
+        if abs(offset - self._seen) > SET_SECONDS:
+            self._seen, self._since = offset, steady
+        if steady - self._since >= SETTLED_SECONDS:
+            self._offset = self._seen
+        return steady + self._offset
 
 
 @dataclass(frozen=True, slots=True)
@@ -24,6 +50,7 @@ class Keeping:
 
     days: float | None = None  # None: all are kept
     archive: Path | None = None  # None: they are deleted
+    clock: Clock = field(default_factory=Clock)
 
 
 class Removal:
@@ -63,7 +90,7 @@ def clear(journal: Path, keeping: Keeping, needless: int) -> int:
     if keeping.days is None or extent is None or extent.since != 1:  # those of an older firmd are not cut
         return 0
     numbers, count = numbers_of(journal), 0
-    ends = ends_of(journal, numbers)
+    ends = ends_of(journal, numbers, keeping.clock.now())
     oldest = max(ends.values(), default=0.0) - keeping.days * DAY_SECONDS
     for number in numbers:
         if number > needless or ends[number] > oldest:
@@ -73,12 +100,12 @@ def clear(journal: Path, keeping: Keeping, needless: int) -> int:
     return count
 
 
-def ends_of(journal: Path, numbers: list[int]) -> dict[int, float]:
+def ends_of(journal: Path, numbers: list[int], now: float) -> dict[int, float]:
     """When the segments but the last ended, by the Unix clock: at the latest when any later one was begun.
 
-    So a clock that is ahead for a while keeps no segment for long, nor takes one away before it has begun another.
+    So a clock that was ahead for a while keeps no segment for long.
     """
-    found, end = dict[int, float](), time.time()
+    found, end = dict[int, float](), now
     for number in reversed(numbers[1:]):
         end = min(end, read_header(segment_path(journal, number)).time / 1_000)
         found[number - 1] = end

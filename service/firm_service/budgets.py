@@ -1,4 +1,4 @@
-"""What the lines of a tenant, and those of a socket, may take of the service: bytes a second, and of the journal.
+"""The share of a tenant's lines, and of a socket's, in the service: bytes a second, and of the disk a day.
 
 Lines past the bytes a second wait, since that soon ends; those past the bytes a day are refused. The budget refills
 evenly, so a tenant past it can still send a little.
@@ -32,7 +32,7 @@ class Rates:
     """Bytes of lines, of a tenant or of a socket."""
 
     second: int  # that are taken
-    day: int  # that go into the journal
+    day: int  # that go into the journal, with its headings: some 50 bytes each time that lines are written
 
 
 @dataclass(frozen=True, slots=True)
@@ -130,6 +130,13 @@ class Accounts:
             self.register.operate(share.count)
         self.status.journal_bytes += len(share.text)
         return GO
+
+    def count_heading(self, share: Share) -> None:
+        """Takes out of the day's budgets what a client's lines took of the disk beside their text."""
+        socket = share.owner.socket if share.owner is not None else None
+        if socket is not None and share.heading:
+            self.tenant(share.lane).day.left -= share.heading
+            self.socket(socket).day.left -= share.heading
 
     def _debit(self, share: Share, socket: bytes, now: float) -> Verdict | None:
         """Takes a client's lines out of the budgets; None where these have them."""

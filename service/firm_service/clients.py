@@ -20,6 +20,7 @@ from . import lines
 from .bounds import NOTE_BYTES, SHARE_BYTES, UNREAD_PIECE
 from .bounds import Account, Backlog, Bounds, Unread
 from .budgets import Accounts
+from .fair_selector import FairSelector
 from .faults import Faults, say
 from .lanes import Lanes, Share
 from .relief import Held
@@ -77,8 +78,10 @@ class Note:
 class Clients:
     """All that are connected."""
 
-    def __init__(self, taker: Taker, limits: Limits, accounts: Accounts, faults: Faults) -> None:
-        self.taker, self.limits, self.faults = taker, limits, faults
+    def __init__(
+        self, taker: Taker, limits: Limits, accounts: Accounts, faults: Faults, selector: FairSelector
+    ) -> None:
+        self.taker, self.limits, self.faults, self.selector = taker, limits, faults, selector
         self.connected: dict[Client, None] = {}  # the newest last
         self.buffer = memoryview(bytearray(MOST_BYTES))  # of all clients: nothing stays in it
         self.is_held = False  # none is read
@@ -140,9 +143,9 @@ class Clients:
             client.stop_reading()
 
     async def close(self) -> None:
-        """Lets each read what it was answered, for some seconds."""
+        """Closes all, and gives each some seconds to read its replies."""
         for client in list(self.connected):
-            client.close_with(STOPPING)
+            client.close_with(STOPPING if client.is_answered else b"")  # the journal may have an unanswered line
         ends = asyncio.get_running_loop().time() + STOP_SECONDS
         while self.connected and asyncio.get_running_loop().time() < ends:
             await asyncio.sleep(0.01)
@@ -160,6 +163,7 @@ class Client(asyncio.BufferedProtocol):
         self.sender = self.socket  # and its user, once it is connected
         self._of_socket = clients.turns.socket(self.socket)
         self.expected = 0
+        self._file = -1
         self._half = b""  # of a line
         self._rest = b""  # lines that were read, and are to be taken in further turns
         self._lane = b""  # that has the lines that were taken last
@@ -185,6 +189,8 @@ class Client(asyncio.BufferedProtocol):
             transport.abort()
 
     def _begin(self) -> None:
+        self._file = self.transport.get_extra_info("socket").fileno()
+        self._clients.selector.join(self._file, self.socket)
         self.transport.set_write_buffer_limits(high=0)  # what it can't write at once is kept here, and counted
         self.sender = b"%b:%d" % (self.socket, user_of(self.transport))
         self._is_reading = True
@@ -199,6 +205,7 @@ class Client(asyncio.BufferedProtocol):
 
     def connection_lost(self, error: Exception | None) -> None:
         self._has_ended = True
+        self._clients.selector.leave(self._file)
         if self._lingering is not None:  # it would keep the connection in memory
             self._lingering.cancel()
         if self._waits_turn:  # so would its turn, which may be long in coming
@@ -328,7 +335,7 @@ class Client(asyncio.BufferedProtocol):
             self._clients.taker.take(line)
 
     def _note(self, text: bytes) -> None:
-        if self._asked == self._answered:
+        if self.is_answered:
             self._write(text)
         else:
             self._notes.append(Note(self._asked, text))
@@ -404,8 +411,13 @@ class Client(asyncio.BufferedProtocol):
         self._unread.clear()
         self.count_unread()
 
+    @property
+    def is_answered(self) -> bool:
+        """Whether all lines that firm was given have their replies."""
+        return self._asked == self._answered
+
     def close_with(self, text: bytes) -> None:
-        """Says why, and closes once that is read, or after some seconds."""
+        """Sends a last text, and closes once that is read, or after some seconds."""
         if self.transport.is_closing():
             return
         self._has_ended = True
@@ -434,8 +446,8 @@ class Client(asyncio.BufferedProtocol):
             self.transport.write(self._unread.take())
 
     def _close_at_end(self) -> None:
-        is_answered = self._asked == self._answered and not (self._waiting or self._later or self._rest)
-        if self._has_ended and is_answered:
+        is_idle = self.is_answered and not (self._waiting or self._later or self._rest)
+        if self._has_ended and is_idle:
             self._close()
 
     def _close(self) -> None:

@@ -29,6 +29,7 @@ from .books import Books
 from .bounds import MEBIBYTE, Bounds
 from .clients import Client, Clients, Limits, Listener
 from .daemons import allow_files, duration, notify, number, timeout
+from .fair_selector import FairSelector
 from .faults import Exit, Fault, Faults, reason, say
 from .feeder import Feeder, Told
 from .firm_process import Firm
@@ -91,8 +92,8 @@ exit statuses, each but 0 with the reason on standard error:
 class Daemon:
     """One service, from its start to its end."""
 
-    def __init__(self, options: argparse.Namespace) -> None:
-        self._options = options
+    def __init__(self, options: argparse.Namespace, selector: FairSelector) -> None:
+        self._options, self._selector = options, selector
         self._state = State(options.state)
         self._replica = replica_of(options)
         self._program = [options.firm, *(["--workers", str(options.workers)] if options.workers is not None else [])]
@@ -203,7 +204,7 @@ class Daemon:
         together = Bounds(self._options.most_unread_of_socket, self._options.most_unread_in_all)
         unanswered = Bounds(self._options.most_unanswered_of_socket, self._options.most_unanswered_in_all)
         limits = Limits(self._options.most_clients, self._options.most_unread, together, unanswered)
-        clients = Clients(self._stream, limits, self._accounts, self._faults)
+        clients = Clients(self._stream, limits, self._accounts, self._faults, self._selector)
         self._relief.look_at(clients.of_sockets)
         self._relief.on_memory = clients.hold
         rounds = Rounds(self._books, self._stream, Times(self._options.every, self._options.after), self._faults)
@@ -276,8 +277,9 @@ class Daemon:
         for listener in self._options.listeners:
             listening = self._names.listen(listener.path, self._options.socket_mode)
             client = partial(Client, clients, listener.rights)
-            name = listener.rights.socket.decode()
-            servers.append(Acceptor(listening, name, client, self._relief, self._faults))
+            name = listener.rights.socket
+            self._selector.join(listening.fileno(), name)
+            servers.append(Acceptor(listening, name.decode(), client, self._relief, self._faults))
         return servers
 
     def _served(self) -> Serving:
@@ -535,8 +537,10 @@ def main() -> int:
     logs.begin("firmd", options.log_format)
     sys.setswitchinterval(SWITCH_SECONDS)
     allow_files(options.most_clients * len({listener.rights.socket for listener in options.listeners}))
+    selector = FairSelector()
     try:
-        asyncio.run(Daemon(options).run())
+        with asyncio.Runner(loop_factory=partial(asyncio.SelectorEventLoop, selector)) as runner:
+            runner.run(Daemon(options, selector).run())
     except Anew as anew:
         say(str(anew), logs.INFO)
         os.execv(sys.executable, [sys.executable, *sys.orig_argv[1:]])

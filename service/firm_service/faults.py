@@ -2,6 +2,7 @@
 
 from __future__ import annotations
 
+import time
 import traceback
 from collections import Counter
 from collections.abc import Callable
@@ -11,6 +12,7 @@ from . import logs
 
 MOST_KINDS = 100  # of faults, that are told
 RESTORE = "restore the state from a copy"  # where a part of it is missing or changed
+REPEAT_SECONDS = 60.0  # before the operator is told again of what goes on
 MOST_IN_A_ROW = 8  # faults of a reader: the loop calls it again at once, so further ones would be a busy loop
 
 
@@ -78,6 +80,21 @@ class Reader:
                 self._faults.note(self._part, error)
             else:
                 self._give_up(Fault(Exit.INTERNAL, f"a reader of {self._part} fails each time: {error!r}"))
+
+
+class Repeated:
+    """Tells the operator what goes on for long: each kind once a minute."""
+
+    def __init__(self) -> None:
+        self._at: dict[str, float] = {}  # when each kind was told
+
+    def say(self, text: str, level: int = logs.WARNING, kind: str = "") -> None:
+        """Without a kind, the text is one."""
+        now = time.monotonic()
+        self._at = {kind: at for kind, at in self._at.items() if now - at < REPEAT_SECONDS}
+        if (kind or text) not in self._at:
+            self._at[kind or text] = now
+            say(text, level)
 
 
 def reason(error: OSError) -> str:

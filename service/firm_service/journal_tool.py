@@ -9,8 +9,9 @@ import time
 from pathlib import Path
 
 from .command_line import in_pipe
+from .extent import Extent
 from .faults import Exit, Fault, say
-from .files import sync_folder
+from .files import replace_synced, sync_folder
 from .journal import SEGMENT_BYTES, Journal, Room
 from .kept import Kept, first_base, found_now, kept_lines
 from .lines import first_word
@@ -18,7 +19,7 @@ from .logs import ERROR, add_form, begin
 from .pieces import pieces_of
 from .programs import NotBuilt
 from .records import BEGINNING, Batch
-from .recovery import Found
+from .recovery import Found, extent_path, reach_of
 from .snapshots import Snapshot, last, opening_of, remove_all, segments_of, usable
 from .state import NEW_JOURNAL, OLD_JOURNAL, State, StateFolder
 from .states import Part, Refused, StateError, fold
@@ -79,8 +80,35 @@ def described(kept: Kept, refused: dict[int, int]) -> list[bytes]:
     ]
 
 
+def make_extent(options: argparse.Namespace) -> None:
+    """Writes a missing or damaged extent anew, by the segments; these are compared with one another as at a start."""
+    state = existing(options.state)
+    state.read_opening()
+    path = extent_path(state.journal_path)
+    try:
+        is_whole = Extent.read(path) is not None
+    except Fault:
+        is_whole = False
+    if is_whole:
+        raise Fault(Exit.WORDS, f"{path} is whole")
+    before = path.read_bytes() if path.exists() else None
+    replace_synced(path, reach_of(state.journal_path).text())
+    try:
+        journal = Journal(state, Room(SEGMENT_BYTES), first_base(options.state))
+    except Fault:
+        if before is None:
+            path.unlink()
+        else:
+            replace_synced(path, before)
+        raise
+    journal.close()
+    print(f"{path}: it reaches to line {journal.found.lines:,}. If lines behind may be lost, run `firm-journal new-id`")
+
+
 def rewrite(options: argparse.Namespace) -> None:
     """Writes all segments anew in today's form, beside the old ones, and then puts them in their place."""
+    if options.extent:
+        return make_extent(options)
     state, source = opened(options.state)
     if source.is_of_today and not options.forget_replies and not options.obey:
         print(f"{source.folder}: all segments have today's form already")
@@ -184,6 +212,10 @@ def parser() -> argparse.ArgumentParser:
         if name == "rewrite":
             told = "leave out the digests of replies, for a firm that replies otherwise"
             command.add_argument("--forget-replies", action="store_true", help=told)
+            told = (
+                "write a damaged or missing extent anew, and nothing else: a loss at the journal's very end is missed"
+            )
+            command.add_argument("--extent", action="store_true", help=told)
             told = "have a line obeyed that an older firmd took for one that memory was refused to; may be given again"
             command.add_argument("--obey", type=int, action="append", default=[], metavar="NUMBER", help=told)
     return found

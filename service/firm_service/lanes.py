@@ -65,6 +65,7 @@ class Share:
     lane: bytes = b""  # the tenant's name
     is_round: bool = False
     cost: int = 0  # what its owner counts for it, in bytes
+    heading: int = 0  # bytes of the journal's heading, of the first of those that stand below one
     answered: int = 0
     taken: float = 0.0  # when it was put into its lane, by the monotonic clock
     sent: float | None = None  # to firm, by the same clock; None in a replay

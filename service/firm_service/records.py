@@ -26,6 +26,7 @@ VERSION = 2  # the first had lines alone, with digests in files beside them
 HEADER, LINES, REPLIES, REFUSED = b"firm-journal %d" % VERSION, b"lines", b"replies", b"refused"
 HEADER_BEGINS = b"#firm-journal "
 DIGEST_BYTES = 16
+HEADING_BYTES = len(b"#lines 00000000 100 1000000 0 1000000000000 \n")  # beside its sender
 UNKNOWN = b"?"  # the sender of a line that an older firmd kept
 
 _HEADING = re.compile(rb"#(firm-[a-z]+ [0-9]+|lines|replies|refused) ([0-9a-f]{8}) ([^\n]*)\n")
@@ -163,6 +164,11 @@ class Batch(NamedTuple):
     sender: bytes
     text: bytes
     lines: int
+
+    @property
+    def heading_bytes(self) -> int:
+        """Bytes of its heading on the disk, by numbers of usual length."""
+        return HEADING_BYTES + len(self.sender)
 
     def record(self, number: int, back: int, time: int) -> bytes:
         return sealed(LINES, b"%d %d %d %d %b" % (len(self.text), number, back, time, self.sender), self.text)

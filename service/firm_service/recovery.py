@@ -255,6 +255,23 @@ def end_of(path: Path, data: bytes, found: Found, extent: Extent) -> int:
     return end
 
 
+def reach_of(folder: Path) -> Extent:
+    """The extent of the segments that are there, as far as the last one's records are whole: for one that was lost."""
+    numbers = numbers_of(folder)
+    if numbers and is_newborn(segment_path(folder, numbers[-1])):
+        numbers.pop()
+    today = [number for number in numbers if read_file(segment_path(folder, number)).startswith(HEADER_BEGINS)]
+    if not today or today[-1] != numbers[-1]:
+        damaged(f"{folder} has no segment of today's form")
+    path = segment_path(folder, today[-1])
+    data, header = read_file(path), read_header(path)
+    end, _ = whole_records(data, len(header.text()), header.lines + 1)
+    if is_synced_past(data, end):
+        name_damage(path, data, header.lines)
+    since = today[0] if numbers[0] == 1 else 1  # those of an older firmd are not archived
+    return Extent(header.state.encode(), since, header.number, end, crc32(data[:end], header.chain))
+
+
 def take_segment(found: Found, path: Path, extent: Extent, following: Header | None) -> None:
     """Compares a segment with what was kept of it, by the header of the next one or by the extent."""
     data = read_file(path)

@@ -43,6 +43,7 @@ if TYPE_CHECKING:
 PROGRAM = str(Path(__file__).resolve().parents[1] / "firm-snapshot")  # stands there where the package is not installed
 LOOK_SECONDS = 0.2
 SEAL_SECONDS, SEALED_SECONDS = 30.0, 0.005  # for the begin of a segment, and between two looks at that
+WORK_SECONDS = 5.0  # of processor time of firm since a snapshot, after which the next is made: a start needs as long
 SHORTEST_PAUSE, LONGEST_PAUSE = 1.0, 600.0  # before something that failed is tried again
 FULL_SHARE = 2  # of what firm reads: past a half of it a fresh one is to go on
 PASSES, FEW_LINES = 40, 256  # over the tail at most, before the writer waits for a fresh firm; that may be left then
@@ -73,6 +74,20 @@ class Change(NamedTuple):
     on_switch: Callable[[], None] = lambda: None  # called by the loop, before the fresh firm is heard
 
 
+class Work(NamedTuple):
+    process: int
+    seconds: float  # of processor time, of all its threads
+
+
+def work_of(process: int) -> Work:
+    """Return the processor time of a process, 0 once it has ended."""
+    try:
+        fields = Path(f"/proc/{process}/stat").read_text().rpartition(")")[2].split()
+    except OSError:
+        return Work(process, 0.0)
+    return Work(process, (int(fields[11]) + int(fields[12])) / os.sysconf("SC_CLK_TCK"))
+
+
 class Retry:
     """When something that failed may be tried again."""
 
@@ -101,6 +116,7 @@ class Snapshots:
         self._last = self._state.base  # what the last snapshot stands for
         self._given = journal.found.base  # from where on the running firm was given lines
         self._made = time.monotonic()  # when the last one was made, or firmd began
+        self._worked = Work(0, 0.0)  # of firm, when the last one was begun
         self._sealed: int | None = None  # the last segment when a seal was asked for
         self._is_to_clear = False  # what is older than the last snapshots, once one was made
         self._removal: Removal | None = None  # of segments, that is under way
@@ -162,14 +178,20 @@ class Snapshots:
             return
         sealed, status = self._journal.sealed(), self._status
         is_due = sealed.lines - self._last.lines >= self._settings.lines
-        if not is_due and status.lines > self._last.lines and (self._is_late() or self._is_needed()):
-            is_due = self._is_sealed(sealed)
+        if not is_due and status.lines > self._last.lines:
+            is_due = (self._is_late() or self._is_costly() or self._is_needed()) and self._is_sealed(sealed)
         if is_due and sealed.lines <= status.lines and sealed.segment > self._last.segment:
             self._make(sealed)
             self._sealed = None  # not before: one that fails is tried again without a further segment
 
     def _is_late(self) -> bool:
         return time.monotonic() - self._made >= self._settings.seconds
+
+    def _is_costly(self) -> bool:
+        """Whether firm has worked for long on the lines since the last snapshot, as on rounds: so would a start."""
+        work = work_of(self._status.firm_process)
+        before = self._worked.seconds if self._worked.process == work.process else 0.0
+        return work.seconds - before >= WORK_SECONDS
 
     def _is_needed(self) -> bool:
         """Whether a fresh firm is to go on, and the last snapshot would leave much for it to read."""
@@ -225,6 +247,7 @@ class Snapshots:
         return sealed
 
     def _make(self, sealed: Base) -> None:
+        work = work_of(self._status.firm_process)
         words = [sys.executable, *maker_words(), str(os.getpid()), self._settings.log_format]
         words += [str(self._state.folder), str(sealed.segment), *self._settings.firm]
         null = subprocess.DEVNULL
@@ -235,7 +258,7 @@ class Snapshots:
         self._take(of_journal(self._state, sealed.segment))
         self._stream.tell_loop(self._status.count, "snapshots")
         self._making.done()
-        self._made = time.monotonic()
+        self._made, self._worked = time.monotonic(), work
 
     def _take(self, snapshot: Snapshot) -> None:
         self._last, self._is_to_clear, self._is_to_offer = snapshot.base, True, True

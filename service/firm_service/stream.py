@@ -106,7 +106,7 @@ class Stream:
     """Gives lines to firm and replies to their owners. All but what other threads do runs on the loop's thread."""
 
     def __init__(self, firm: Firm, journal: Journal, accounts: Accounts, faults: Faults, options: Options) -> None:
-        self.status, self._faults, self._options = accounts.status, faults, options
+        self.status, self._accounts, self._faults, self._options = accounts.status, accounts, faults, options
         self._observers: list[Observer] = []
         self.on_stop: Callable[[], None] = lambda: None  # called once, before the last lines are handed over
         self.on_late: Callable[[], None] = lambda: None  # called at each look at a journal that isn't written for long
@@ -549,6 +549,7 @@ class Stream:
     def _leave(self, share: Share) -> None:
         """Has the share's lane give what waited for its replies."""
         self._under_way.popleft()
+        self._accounts.count_heading(share)
         self.lanes.answered(share)
         if self.lanes.has_ready:
             self._hand_over_soon()
@@ -717,6 +718,7 @@ def batches_of(shares: list[Share]) -> list[Batch]:
         held = list(group)
         text = held[0].text if len(held) == 1 else b"".join([share.text for share in held])
         found.append(Batch(sender, text, sum([share.count for share in held])))
+        held[0].heading = found[-1].heading_bytes
     return found
 
 

@@ -4,7 +4,8 @@ In each turn of the loop a socket's clients are read up to some bytes, comments 
 take about a fifth of a millisecond. What more they have sent waits in the system, and further turns go round among
 those that were not read to their end. A turn is a time, not a size: comments and lines of nobody cost more for a byte
 than commands do. As nobody knows that before, lines of several tenants, and of nobody, are taken some at a time: where
-those that were read take longer than a turn, the rest waits for a further one.
+those that were read take longer than a turn, the rest waits for a further one. How many clients have a read in a turn,
+whatever it brings, is fair_selector.py's.
 """
 
 from __future__ import annotations

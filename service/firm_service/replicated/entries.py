@@ -7,6 +7,7 @@
     leader          the leader's name, bound to a lease; the revision that made this key is the epoch
     lines/OFFSET    an entry: EPOCH CHAIN, and below it records of lines as the journal has them, with one time
     replies         LINES DIGEST: of the leader's replies to the first LINES lines, see digests.py
+    found/NAME      LINES BYTES: of the replica NAME's own journal, as long as there is no state
     kept/NAME       TOKEN BYTES TIME: how far the disk of the replica NAME has the lines, and since when
     moving          of the tenant that is held, as it moves (moves.py); empty where none is
     snapshot        MOVE BYTES DIGEST: from where a late replica goes on, see offers.py
@@ -39,7 +40,7 @@ class Keys:
             self.all + name for name in (b"state", b"roster", b"leader", b"replies", b"moving", b"snapshot")
         ]
         self.lines, self.kept, self.chunks = self.all + b"lines/", self.all + b"kept/", self.all + b"chunks/"
-        self.restored = self.all + b"restored/"
+        self.restored, self.found = self.all + b"restored/", self.all + b"found/"
 
     def entry(self, offset: int) -> bytes:
         return self.lines + b"%016x" % offset

@@ -20,6 +20,7 @@ LEAST_VERSION = (3, 4)
 RESOURCE_EXHAUSTED, PERMISSION_DENIED, UNAUTHENTICATED = 8, 7, 16  # codes of gRPC
 OUT_OF_RANGE = 11
 TRANSIENT = {408, 429, 500, 502, 503, 504}
+DEFAULT_QUOTA = 2 << 30  # etcd's own
 QUOTA = re.compile(r"^etcd_server_quota_backend_bytes (\S+)$", re.M)
 
 Json = dict[str, Any]
@@ -165,6 +166,7 @@ class Etcd:
         self._connection: http.client.HTTPConnection | None = None
         self._watching: http.client.HTTPConnection | None = None
         self._token: str | None = None
+        self._quota: int | None = None  # of the member that is connected
 
     @property
     def member(self) -> Member:
@@ -174,7 +176,7 @@ class Etcd:
     def close(self) -> None:
         if self._connection is not None:
             self._connection.close()
-        self._connection = None
+        self._connection = self._quota = None
 
     # What is asked.
 
@@ -220,11 +222,12 @@ class Etcd:
         self._ask("lease/revoke", {"ID": str(lease)}, is_harmless=True)
 
     def size(self) -> Size:
-        """What the member's store uses of its quota."""
+        """The bytes that the member's store uses, without the free pages of its file, and its quota."""
         status = self._ask("maintenance/status", {})
-        text = self._get("/metrics").decode(errors="replace")
-        quota = QUOTA.search(text)
-        return Size(int(status.get("dbSizeInUse", status["dbSize"])), int(float(quota[1])) if quota else 2 << 30)
+        if self._quota is None:
+            quota = QUOTA.search(self._get("/metrics").decode(errors="replace"))
+            self._quota = int(float(quota[1])) if quota else DEFAULT_QUOTA
+        return Size(int(status.get("dbSizeInUse", status["dbSize"])), self._quota)
 
     def require_version(self) -> None:
         """Raises Unfit where what answers is no etcd, or too old."""

@@ -11,10 +11,10 @@ from threading import Event, Lock, Thread
 from typing import NamedTuple
 
 from .. import logs
-from ..faults import Exit, Fault, say
+from ..faults import Exit, Fault, Repeated, say
 from .digests import Digest, Digests
 from .entries import Keys
-from .etcd import Condition, EtcdError, Put, after
+from .etcd import Condition, EtcdError, Full, Put, after
 from .offers import offer_of
 from .options import RETAINED
 from .store import Store
@@ -26,7 +26,10 @@ AWAY_SECONDS = 86_400.0  # that etcd keeps lines for a replica that is away, and
 AWAY_SECONDS_HALF_FULL = 60.0
 QUIET_SECONDS = 10.0  # without a change of its key that the leader saw, since clocks of hosts may differ
 COMPACT_SECONDS = 30.0
-LOOK_SECONDS = 10.0  # between looks at the quota
+LOOK_SECONDS = 10.0  # between a follower's looks at the quota; the leader looks each second
+# Of the quota, what may be used before fewer lines stay: all keys of all services there, with what etcd keeps beside
+# them, from 2 to 10 times the bytes of the lines. Its file has free pages too, and must not reach the quota.
+USED_SHARE = 4
 
 
 class Kept(NamedTuple):
@@ -86,7 +89,9 @@ class Housekeeper:
         self._put = 0.0
         self._cleared = b""  # entries before this key are removed
         self._digest: Digest | None = None
-        self._is_warned = self._has_name = False
+        self._has_name = False
+        self._is_full = False  # etcd: it takes no further key, so no replica changes its own any more
+        self._warnings = Repeated()
         self._is_over = Event()
         self._thread = Thread(target=self._run, daemon=True)
 
@@ -123,13 +128,20 @@ class Housekeeper:
     def keep(self) -> None:
         size = self._journal.size()
         self._journal.sync()
-        self._tell_kept(size)
-        if self._journal.epoch():
-            self._tell_digest()
+        try:
+            self._tell_kept(size)
+            if self._journal.epoch():
+                self._tell_digest()
+            self._is_full = False
+        except Full:
+            self._is_full = True
+        # A full etcd lets nobody lead, so each replica removes there what all have.
+        is_to_tidy = self._journal.epoch() > 0 or self._is_full
+        if is_to_tidy or time.monotonic() - self._looked > LOOK_SECONDS:
+            self._look_at_quota()
+        if is_to_tidy:
             with self._lock:
                 self._tidy()
-        if time.monotonic() - self._looked > LOOK_SECONDS:
-            self._look_at_quota()
 
     def _tell_kept(self, size: int) -> None:
         """Sets the own key, which changes often while this replica lives: another's change is a replica of its name."""
@@ -166,15 +178,26 @@ class Housekeeper:
         has a copied journal, needs them."""
         kept = self._present()
         self.told.kept = {name: one.size for name, one in kept.items()}
-        least = min([self._journal.size() - self.retained, *self.told.kept.values(), *self._beginnings()])
+        size = self._journal.size()
+        least = min([size - self._room(size), *self.told.kept.values(), *self._beginnings()])
         # The entry in which the slowest is, and all behind it, stay: so it is known where the lines end.
         last = self._store.last_key(self._keys.lines, self._keys.entry(max(least, 0)) + b"\0")
         if last is not None and last > self._cleared:
             self._store.compact(self._store.delete(self._keys.lines, last))
             self._cleared, self._compacted = last, time.monotonic()
+            if self._is_full:
+                say(f"etcd is full: its lines before byte {self._keys.offset(last):,} were removed", logs.INFO)
         elif time.monotonic() - self._compacted > COMPACT_SECONDS:
             self._store.compact(self._store.range(self._key).revision)
             self._compacted = time.monotonic()
+
+    def _room(self, size: int) -> int:
+        """Bytes of the last lines that stay in etcd: past its share, a part of those that stand there."""
+        if not self.is_filled:
+            return self.retained
+        first = self._store.range(self._keys.lines, after(self._keys.lines), limit=1).found
+        held = size - self._keys.offset(first[0].key) if first else 0
+        return min(self.retained, held * self.told.quota_bytes // (USED_SHARE * self.told.etcd_bytes))
 
     def _beginnings(self) -> Iterator[int]:
         """From where on a replica may need all lines, as far as there is room for them."""
@@ -185,20 +208,26 @@ class Housekeeper:
             yield offer.size
 
     @property
+    def is_filled(self) -> bool:
+        """Whether etcd has used the share of its quota past which fewer lines stay there."""
+        return self.told.etcd_bytes > self.told.quota_bytes // USED_SHARE
+
+    @property
     def _is_half_full(self) -> bool:
         return self.told.etcd_bytes > self.told.quota_bytes / 2
 
     def _present(self) -> dict[str, Kept]:
         """All replicas but those that are away for too long."""
         patience = AWAY_SECONDS_HALF_FULL if self._is_half_full else AWAY_SECONDS
-        found: dict[str, Kept] = {}
-        for row in self._store.range(self._keys.kept, after(self._keys.kept)).found:
-            name, kept = row.key[len(self._keys.kept) :].decode(), Kept.read(row.value)
-            if self._is_quiet(name, row.value) and time.time() - kept.time > patience:
+        rows = self._store.range(self._keys.kept, after(self._keys.kept)).found
+        found = {row.key[len(self._keys.kept) :].decode(): Kept.read(row.value) for row in rows}
+        # The last change counts as now where etcd lets none change its key.
+        now = max((kept.time for kept in found.values()), default=0.0) if self._is_full else time.time()
+        for row, (name, kept) in zip(rows, list(found.items())):
+            if self._is_quiet(name, row.value) and now - kept.time > patience:
                 say(f"the replica {name} is away for {patience:g} s: etcd keeps no lines for it any more")
                 self._store.delete(row.key, row.key + b"\0")
-            else:
-                found[name] = kept
+                del found[name]
         return found
 
     def _is_quiet(self, name: str, value: bytes) -> bool:
@@ -213,8 +242,9 @@ class Housekeeper:
         try:
             used, quota = self._store.size()
         except EtcdError as error:
-            return say(f"what etcd uses of its quota is not known: {error}", logs.INFO)
+            why = f"what etcd uses of its quota is not known: {error}"
+            return self._warnings.say(why, logs.INFO, kind="unknown")
         self.told.etcd_bytes, self.told.quota_bytes = used, quota
-        if used > quota / 2 and not self._is_warned:
-            say(f"warning: etcd uses {used:,} of the {quota:,} bytes of its quota; at the end firmd can't append")
-        self._is_warned = used > quota / 2
+        if self._is_half_full:
+            why = f"warning: etcd uses {used:,} of the {quota:,} bytes of its quota; at the end firmd can't append"
+            self._warnings.say(why, kind="quota")

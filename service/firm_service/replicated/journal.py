@@ -15,7 +15,7 @@ from threading import Event
 from zlib import crc32
 
 from .. import logs
-from ..faults import Exit, Fault, say
+from ..faults import Exit, Fault, Repeated, say
 from ..journal import Journal, milliseconds
 from ..pieces import Piece, Place
 from ..records import Base, Batch, Block
@@ -36,7 +36,10 @@ PATIENCE = 10.0  # seconds that a leader asks again where no member answers
 PAUSE = 0.05  # between two tries
 SILENT_SECONDS = 3.0  # without a change, as the leader makes one each second; then another member is asked
 ENTRIES = 8  # that are read at a time
-FULL = "etcd is full: raise its quota, or compact and defragment it, then `etcdctl alarm disarm`"
+FULL = (
+    "etcd is full: replicas that run remove old lines; then `etcdctl defrag` each member, or raise its quota, and"
+    " `etcdctl alarm disarm`"
+)
 
 
 @dataclass(frozen=True)
@@ -69,7 +72,7 @@ class ReplicatedJournal:
         self._position = begin.position  # of its own files
         self._revision = 0  # of etcd, up to which changes are known
         self._is_stopping = Event()
-        self._told: str | None = None  # the last trouble
+        self._troubles = Repeated()
         self.digests = Digests(self._fail, begin.chain)
         kept = KeptJournal(lambda: own.found.size, own.sync, lambda: self._epoch)
         self.housekeeper = Housekeeper(link.connect(), link.keys, link.name, kept, self.digests)
@@ -140,7 +143,7 @@ class ReplicatedJournal:
             self.digests.compare(Digest.read(row.value))
         if not self._revision:
             self.on_following()
-        self._revision, self._told = rows.revision, None
+        self._revision = rows.revision
 
     def _require_begin(self) -> None:
         """Asks of a journal before which etcd has no entry that it ends where the entries began, or lacks lines."""
@@ -214,9 +217,8 @@ class ReplicatedJournal:
     def _trouble(self, error: EtcdError) -> None:
         """A follower waits until etcd is well again."""
         text = FULL if isinstance(error, Full) else str(error)
-        if text != self._told and not self._is_stopping.is_set() and not is_idle(error):
-            say(f"etcd does not serve this replica: {text}")
-            self._told = text
+        if not self._is_stopping.is_set() and not is_idle(error):
+            self._troubles.say(f"etcd does not serve this replica: {text}")
         self._is_stopping.wait(PAUSE)
 
     # As the leader.

@@ -58,9 +58,10 @@ def add_options(found: argparse._ArgumentGroup) -> None:
     told = "after which another one leads where the leader is gone (default: %(default)s)"
     lease = partial(whole, 1, LONGEST_LEASE)
     add("--etcd-lease", type=lease, default=LEASE_SECONDS, metavar="SECONDS", help=told)
-    told = "let etcd go on from this state's lines, where it has none"
+    told = "let etcd go on from this state's lines, where it has none, and no other replica has more"
     add("--etcd-begin", action="store_true", help=told)
-    told = "of lines that stay in etcd for replicas that come late (default: %(default)s)"
+    told = "of lines that stay in etcd for replicas that come late; fewer once it has used a quarter of its quota"
+    told += " (default: %(default)s)"
     add("--etcd-retain", type=partial(whole, 0, 2**32), default=RETAINED, metavar="BYTES", help=told)
 
 

@@ -9,12 +9,13 @@ import time
 from collections.abc import Iterator, Sequence
 from functools import partial
 
+from .. import logs
 from ..faults import Exit, Fault, reason, say
 from ..files import is_open
 from ..journal import Journal
 from ..state import ID_BYTES, REPLICA, State, kind_of, read
 from ..states import Opening
-from .beginning import agree, agreed_of, beginning_of
+from .beginning import Length, agree, agreed_of, beginning_of, compare_lengths
 from .entries import Agreed, Keys, another_history
 from .etcd import Access, Denied, Etcd, EtcdError, Full, Unfit
 from .journal import FULL, Link, ReplicatedJournal, position_of
@@ -92,10 +93,9 @@ class Replica:
         """The replicated journal over the own files, which begin there; etcd goes on from these, where it has nothing
         yet."""
         if self._agreed is None:
-            if own.found.lines and not self._options.etcd_begin:
-                lines = f"{own.found.lines:,} lines, and etcd none of them"
-                raise Fault(Exit.JOURNAL, f"{own.state.folder} has {lines}: --etcd-begin has etcd go on from them")
             try:
+                if own.found.lines:
+                    self._require_longest(Length(own.found.lines, own.found.size))
                 self._agreed = self._agree(own.state, own.state.id or "", position_of(own, begin.position))
             except EtcdError as error:
                 raise fault_of(error) from error
@@ -108,6 +108,22 @@ class Replica:
         journal = ReplicatedJournal(own, self._link, self._agreed, begin)
         journal.housekeeper.retained = self._options.etcd_retain
         return journal
+
+    def _require_longest(self, own: Length) -> None:
+        """Has etcd, where it has no lines, go on from the replica's that has most."""
+        name = self._options.name
+        found = compare_lengths(self._etcd, self._keys, name, own)
+        told = ", ".join(f"{other} {length.lines:,}" for other, length in found.items())
+        if not self._options.etcd_begin:
+            what = f"the replica {name} has {own.lines:,} lines, and etcd none of them"
+            how = f"start each replica once, then the longest with --etcd-begin; lines so far: {told}"
+            raise Fault(Exit.JOURNAL, f"{what}: {how}")
+        longest, length = next(iter(found.items()))
+        if length.size > own.size:
+            key = (self._keys.found + longest.encode()).decode()
+            how = f"start that one with --etcd-begin, or `etcdctl del {key}` if it is lost"
+            raise Fault(Exit.JOURNAL, f"the replica {longest} has more lines ({told}): {how}")
+        say(f"etcd goes on from the lines of {name}; lines of each replica: {told}", logs.INFO)
 
     def _agree(self, state: State, name: str, begin: Position) -> Agreed:
         text = read(state.first)

@@ -84,7 +84,7 @@ class Shared:
         with self._lock:
             offer = self._patiently(lambda: offer_of(self._store, self._keys))
         before = offer.size if offer is not None else 0
-        return size > before and size - before >= self._housekeeper.retained
+        return size > before and (size - before >= self._housekeeper.retained or self._housekeeper.is_filled)
 
     def _condition(self) -> Condition:
         return Condition(self._keys.leader, made=self._epoch())
