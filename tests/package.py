@@ -19,6 +19,7 @@ import tempfile
 import tomllib
 from functools import partial
 from pathlib import Path
+from typing import Any
 
 import firmd_kit
 from front_kit import front, http_ask, missing_of
@@ -31,14 +32,17 @@ from harness.program import ROOT
 NEEDED = "import ensurepip, setuptools, venv, wheel"
 PIP = ["install", "--quiet", "--no-index", "--no-build-isolation", "--no-deps", "--disable-pip-version-check"]
 SECONDS = 600
-HELP_ASKED = {"firm-snapshot": 2, "firm-viewer": 2}  # the status of a program that takes no --help
 DASHBOARD = SERVICE / "firm_service" / "grafana.json"
+
+
+def project() -> dict[str, Any]:
+    found: dict[str, Any] = tomllib.loads((ROOT / "pyproject.toml").read_text())["project"]
+    return found
 
 
 def scripts() -> dict[str, str]:
     """The programs of the package, each with the function that it calls."""
-    project = tomllib.loads((ROOT / "pyproject.toml").read_text())["project"]
-    found: dict[str, str] = project["scripts"]
+    found: dict[str, str] = project()["scripts"]
     return found
 
 
@@ -74,9 +78,12 @@ def installed(built: str) -> None:
     with tempfile.TemporaryDirectory(prefix="firm-") as name:
         programs = install(Path(name))
         for script in scripts():
-            words = [str(programs / script), *([] if script in HELP_ASKED else ["--help"])]
-            told = said(words, HELP_ASKED.get(script, 0))
-            require(script in HELP_ASKED or f"usage: {script} " in told, told)
+            told = said([str(programs / script), "--help"])
+            require(f"usage: {script} " in told, told)
+            told = said([str(programs / script), "--version"])
+            require(told == f"{script} {project()['version']}\n", told)
+        for script in ("firm-snapshot", "firm-viewer"):  # which only firmd starts
+            said([str(programs / script), "x"], 2)
         require(said([str(programs / "firmctl"), "dashboard"]) == DASHBOARD.read_text(), "the dashboard")
         package = "import firm_service; print(firm_service.__path__[0])"
         folder = Path(said([str(programs / "python3"), "-c", package]).strip())

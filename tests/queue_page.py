@@ -73,6 +73,14 @@ PAGE = """\
   });
 })()"""
 
+# Whether an output and the row of its task are in the window, the row above the output.
+SEEN = """\
+(() => {
+  const rect = id => document.querySelector(id).getBoundingClientRect();
+  const output = rect("#output"), row = rect("[data-task='NAME']");
+  return row.top >= 0 && row.bottom <= output.top && output.bottom <= innerHeight && output.height > 50;
+})()"""
+
 
 @contextmanager
 def with_page(setup: Setup, *options: str) -> Iterator[Case]:
@@ -459,7 +467,9 @@ async def look_at(case: Case) -> None:
                 differing = {name: (found[name], expected[name]) for name in expected if found[name] != expected[name]}
                 require(not differing, f"{scheme}, {width}: shown and expected: {differing}")
                 require(found["width"] <= width, f"{scheme}: {found['width']} pixels wide, not {width}")
-                require(re.search(r"used over the last day: [1-9]", found["day"]), found["day"])
+                require("used over the last day: 4 at most, 2 now;" in found["day"], found["day"])
+                shown = [state for state, *_ in found["tasks"].values()]
+                require(shown.index("failed") == len(shown) - 1, f"what failed stands before what runs: {shown}")
                 grounds.add(found["ground"])
         require(len(grounds) == 2, f"one ground for light and dark: {grounds}")
         told = "document.querySelector('#submissions').textContent.includes('<img src=x') && !document.images.length"
@@ -471,6 +481,9 @@ async def look_at(case: Case) -> None:
         )
         head = await page.value("document.querySelector('#output-head').textContent")
         require(head == f"Output of {name}, 9,013 bytes, the end", head)
+        await page.until(SEEN.replace("NAME", name), "the output and its task are not seen at once")
+        await page.value("document.querySelector('#close').click()")
+        require(await page.value("document.querySelector('#output').hidden"), "it is closed")
 
 
 def main() -> int:

@@ -5,10 +5,12 @@ from __future__ import annotations
 import asyncio
 import time
 from collections.abc import Callable
+from math import inf
 from typing import Any
 
 from harness.checks import require
-from harness.deployed import Attempt, Book, Name, Spec, Submission, Task, backlog, books, roster, rows, shares, states
+from harness.deployed import Attempt, Book, Name, Spec, Submission, Task, array_limits, backlog, books, estimates
+from harness.deployed import roster, rows, shares, states
 
 Facts, End, Past, Needed = states.Facts, states.End, states.Past, states.Needed
 STATES: list[tuple[str, bool, dict[str, Any]]] = [  # the state, whether firm should have the task, and the facts
@@ -262,6 +264,50 @@ def what_is_kept() -> None:
     require(kept.bytes < 2_500 and kept.live == 1, kept.bytes)
 
 
+def starts() -> None:
+    """Estimated starts: slots are taken as they get free, and an array with a limit waits for its own tasks too."""
+    limited = Submission(1, 0, "j", 1, Spec(("x",), "/", at_once=2), 1, 4, 0.0)
+    other = Submission(2, 0, "k", 1, Spec(("x",), "/", time=5.0), None, None, 0.0)
+    for one in (limited, other):
+        one.add_tasks(False)
+    slots = estimates.Slots([(10.0, limited.tasks[1]), (30.0, None), (0.0, None), (0.0, None)])
+    found = [slots.take(limited.tasks[index], 20.0) for index in (2, 3, 4)]
+    require(found == [0.0, 10.0, 20.0], found)
+    durations = estimates.Durations()
+    require(durations.of(other.tasks[rows.SINGLE]) == 5.0, "its limit")
+    require(durations.of(limited.tasks[1]) == inf, "neither a limit nor a task that is done")
+    limited.tasks[1].outcome, limited.tasks[1].attempt = "done", Attempt(
+        Name(1, 1), 1, "", "", "", 1, "", 0.0, seconds=7
+    )
+    durations.add(limited)
+    require(durations.of(limited.tasks[2]) == 7.0, "as long as the one that is done")
+    require(slots.take(other.tasks[rows.SINGLE], inf) == 20.0, "a slot that is not free again")
+    require([slots.take(other.tasks[rows.SINGLE], inf) for _ in range(4)][-1] == inf, "no slot")
+
+
+def limits_of_arrays() -> None:
+    """No more tasks of an array are admitted than may be, those with the lowest indexes first; others follow."""
+    array = Submission(1, 0, "j", 1, Spec(("x",), "/", at_once=2), 1, 5, 0.0)
+    array.add_tasks(False)
+    limits = array_limits.ArrayLimits()
+
+    def admitted() -> list[int]:
+        return [task.index for task in limits.next()]
+
+    require(not any(limits.admits(array.tasks[index]) for index in (5, 2, 4, 1, 3)), "all wait for `next`")
+    require(admitted() == [1, 2] and limits.admits(array.tasks[2]) and not limits.admits(array.tasks[3]), "the first")
+    require("at most 2 of" in array.tasks[3].told and not array.tasks[1].told, "why it waits")
+    limits.leave(array.tasks[3])  # as it is held
+    limits.leave(array.tasks[1])
+    require(admitted() == [4] and not admitted(), "the next one that is not held")
+    limits.admit(array.tasks[5])  # as somebody else has told firm of it
+    limits.leave(array.tasks[2])
+    require(not limits.admits(array.tasks[3]) and not admitted(), "two are in firm")
+    for index in (4, 5):
+        limits.leave(array.tasks[index])
+    require(admitted() == [3] and not admitted(), "the last one")
+
+
 def rests() -> None:
     """A user rests after a turn that took a processor for long, not after one in which others had the processors."""
     waits, uses = asyncio.run(pauses(lambda: time.sleep(0.05))), asyncio.run(pauses(use_processor))
@@ -294,6 +340,8 @@ CHECKS: dict[str, Callable[[], None]] = {
     "table of ends": table_of_ends,
     "table of names": table_of_names,
     "what is kept": what_is_kept,
+    "starts": starts,
+    "limits of arrays": limits_of_arrays,
     "rests": rests,
     "plans in order": plans_in_order,
     "plans in room": plans_in_room,

@@ -9,6 +9,7 @@ from __future__ import annotations
 
 import argparse
 import gzip
+import importlib
 import importlib.machinery
 import importlib.util
 import os
@@ -25,12 +26,30 @@ import launcher
 from harness import sessions
 from harness.checks import Check, Skipped, Suite, require, run_script, run_suites
 from harness.program import ROOT, built
+from tools import parsers
 
 TOOL = ROOT / "tools" / "release.py"
 NEEDED = ("dpkg-deb", "dpkg", "help2man")
 SECONDS = 600
 EXAMPLES = ROOT / "examples"
 TUTORIAL = ROOT / "docs" / "TUTORIAL.md"
+# Completes each line of words, with tabs between them, as bash does the last one when TAB is pressed.
+COMPLETE = r"""
+source "$1"
+[[ $(complete -p "$2") =~ -F\ ([^ ]+) ]]
+function=${BASH_REMATCH[1]}
+complete -p "$2"
+while IFS= read -r line; do
+    mapfile -t -d $'\t' COMP_WORDS < <(printf %s "$line")
+    [[ $line == *$'\t' ]] && COMP_WORDS+=('')
+    COMP_CWORD=$((${#COMP_WORDS[@]} - 1)) COMPREPLY=()
+    "$function"
+    echo "${COMPREPLY[*]}"
+done
+"""
+NAME = "0.1.0+git20260102.0123456789"
+DIST = "usr/lib/python3/dist-packages"
+UNITS = ["firm-agent@.service", "firm-queue-agent@.service", "firm-queue@.service", "firm.service"]
 PROOFS = "firm_rules\tsum\tlogic=proved\n"
 
 
@@ -68,12 +87,12 @@ def installed() -> None:
         raise Skipped(f"not built: ./build.py {' '.join(missing)}")
     with tempfile.TemporaryDirectory(prefix="firm-") as name:
         folder = Path(name)
-        version = release.Version("0.1.0+git20260102.0123456789", "0" * 40, 1767312000, "One <one@example.org>")
+        version = release.Version(NAME, "0" * 40, 1767312000, "One <one@example.org>")
         release.lay_out(folder / "usr", programs, version, PROOFS)
         packs_alike(release, folder, version)
         root = unpack(folder / "firm.deb", folder)
         files_are_there(release, root)
-        programs_answer(root)
+        programs_answer(release, root)
         serves(root)
         if os.geteuid() == 0:  # as which the tutorial is written
             plays_tutorial(root)
@@ -86,7 +105,7 @@ def packs_alike(release: ModuleType, folder: Path, version: object) -> None:
             make(folder / "usr", version, file)
         require((folder / name).read_bytes() == (folder / f"again-{name}").read_bytes(), name)
     packed = said(["tar", "-tzf", folder / "firm.tar.gz"], PATH=os.environ["PATH"]).decode()
-    require("firm-0.1.0+git20260102.0123456789/bin/firmd\n" in packed, packed)
+    require(f"firm-{NAME}/bin/firmd\n" in packed, packed)
 
 
 def unpack(package: Path, folder: Path) -> Path:
@@ -105,15 +124,73 @@ def files_are_there(release: ModuleType, root: Path) -> None:
     for program in release.PROGRAMS | release.SERVICES:
         page = gzip.decompress((share / f"man/man1/{program}.1.gz").read_bytes()).decode()
         require(page.startswith('.\\" DO NOT MODIFY') and ".SH NAME" in page and "0.1.0+git" in page, page[:200])
-        said(["bash", "-n", share / f"bash-completion/completions/{program}"], PATH=os.environ["PATH"])
+        if program in release.SERVICES:
+            completes(release, program, share / f"bash-completion/completions/{program}")
+            for verb, one in parsers.verbs_of(parser_of(release, program)).items():
+                require(f".SS {verb}\n".replace("-", "\\-") in page.replace('"', ""), f"{program} {verb}: {page}")
+                lacking = [word for word in parsers.options_of(one) if shown_in(page, word) is None]
+                require(not lacking, f"{program} {verb}: its page lacks {lacking}")
         require((share / f"zsh/vendor-completions/_{program}").read_text().startswith("#compdef "), program)
     require((share / "doc/firm/proved.tsv").read_text() == PROOFS, "what was proved")
     units = sorted((root / "usr/lib/systemd/system").iterdir())
-    require([unit.name for unit in units] == ["firm-agent@.service", "firm.service"], units)
+    require([unit.name for unit in units] == UNITS, units)
+    for folder in ("sysusers.d", "tmpfiles.d"):
+        require((root / f"usr/lib/{folder}/firm.conf").exists(), folder)
     unit = (root / "usr/lib/systemd/system/firm.service").read_text()
     require("\nRuntimeDirectoryPreserve=yes\n" in unit, "an end of firmd takes away the sockets of others")
     if shutil.which("systemd-analyze"):
         takes_units(root, [unit.name.replace("@.", "@alpha.") for unit in units])
+
+
+def parser_of(release: ModuleType, program: str) -> argparse.ArgumentParser:
+    found: argparse.ArgumentParser = importlib.import_module(release.PARSERS[program]).parser()
+    return found
+
+
+def shown_in(page: str, action: argparse.Action) -> str | None:
+    """Return the option's last form if a page shows it."""
+    form = action.option_strings[-1]
+    return form if form.replace("-", "\\-") in page else None
+
+
+def completes(release: ModuleType, program: str, file: Path) -> None:
+    """bash completes each verb, option and choice of a program, and file names where there are none of these."""
+    parser, expected = parser_of(release, program), list[tuple[tuple[str, ...], set[str]]]()
+    verbs = parsers.verbs_of(parser)
+    for word in ("", *(verb[:2] for verb in verbs)):
+        expected.append(((program, word), {verb for verb in verbs if verb.startswith(word)}))
+    for begin, one in [((program,), parser), *(((program, verb), one) for verb, one in verbs.items())]:
+        options = {word for action in parsers.options_of(one) for word in action.option_strings}
+        for word in ("-", "--", *options):
+            expected.append(((*begin, word), {option for option in options if option.startswith(word)}))
+        for action in parsers.options_of(one):
+            if action.nargs != 0:
+                choices = set(map(str, action.choices or ()))
+                expected.append(((*begin, action.option_strings[-1], ""), choices))
+    lines = "".join("\t".join(words) + "\n" for words, _ in expected)
+    found = subprocess.run(["bash", "-c", COMPLETE, "-", file, program], input=lines, capture_output=True, text=True)
+    require(found.returncode == 0 and not found.stderr, found)
+    first, *answers = found.stdout.splitlines()
+    require(" -o default " in first and len(answers) == len(expected), found.stdout)
+    for (words, wanted), answer in zip(expected, answers):
+        require(set(answer.split()) == wanted, f"{' '.join(words)}<TAB>: {answer!r}, not {' '.join(sorted(wanted))!r}")
+
+
+def completions() -> None:
+    """Completions that are made of the tree's own parsers complete in bash."""
+    release = tool()
+    with tempfile.TemporaryDirectory(prefix="firm-") as name:
+        for program in release.PARSERS:
+            file = Path(name) / program
+            file.write_text(parsers.bash(parser_of(release, program)))
+            completes(release, program, file)
+        file = Path(name) / "firmctl"
+        words = "firmctl\t--queue\tq\tcancel\t--j\nfirmctl\tsubmit\t--job\tweb\t--\tbas\nfirmctl\tsubmit\t--\tls\t--j\n"
+        found = subprocess.run(
+            ["bash", "-c", COMPLETE, "-", file, "firmctl"], input=words, capture_output=True, text=True
+        )
+        _, option, command, word = found.stdout.split("\n")[:4]
+        require((option, word) == ("--json --job", "") and "bash" in command.split(), found)
 
 
 def takes_units(root: Path, units: list[str]) -> None:
@@ -125,14 +202,25 @@ def takes_units(root: Path, units: list[str]) -> None:
     require(not [line for line in lines if "firm" in line], done.stderr)
 
 
-def programs_answer(root: Path) -> None:
+def programs_answer(release: ModuleType, root: Path) -> None:
     """firm answers the examples, firm_explain and firm_state too, where nothing but the root is on the path."""
     path = f"{root}/usr/bin"
     opened = ["--roster", str(EXAMPLES / "roster.csv")]
     commands = (EXAMPLES / "commands.txt").read_bytes()
     system = f"{path}:/usr/bin:/bin"
-    told = f"firm 0.1.0+git20260102.0123456789, commit {'0' * 40}, proved\n".encode()
+    told = f"firm {NAME}, commit {'0' * 40}, proved\n".encode()
     require(said([f"{path}/firm", "--version"], PATH=system) == told, "its release")
+    for program in release.PROGRAMS:
+        require(
+            said([f"{path}/{program}", "--version"], PATH=system) == told.replace(b"firm", program.encode(), 1), program
+        )
+    for program in release.SERVICES:
+        require(said([f"{path}/{program}", "--version"], PATH=system) == f"{program} {NAME}\n".encode(), program)
+    imported = "from firm_service.queue.client import Queue; import firm_service; print(firm_service.__file__)"
+    place = said(
+        [release.PYTHON, "-E", "-c", f"import sys; sys.path.append(sys.argv[1]); {imported}", root / DIST], PATH=system
+    )
+    require(place.decode().startswith(f"{root}/usr/lib/"), place)
     require(said(["firm", "--help", "--version"], PATH=system).startswith(b"Decides where"), "the program's own words")
     output = said([f"{path}/firm", *opened], commands, PATH=system)
     require(output == (EXAMPLES / "expected.txt").read_bytes(), output)
@@ -200,6 +288,7 @@ def main() -> int:
     os.environ.pop("PYTHONPATH", None)  # what is installed must find its own package
     checks: dict[str, Check] = {
         "refused": partial(launcher.run_in_place, refused),
+        "completions": completions,
         "installed": installed,
     }
     return run_suites(Suite(checks))

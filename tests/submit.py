@@ -25,10 +25,11 @@ from functools import partial
 from pathlib import Path
 
 from harness import program
-from harness.checks import Check, Suite, require, run_script, run_suites
+from harness.checks import Check, Skipped, Suite, require, run_script, run_suites
 from harness.deployed import SERVICE, async_client, client, forms
 from harness.program import ROOT
 from harness.sessions import blocks_of
+from queue_kit import ANN, as_user_does
 from submit_kit import Cluster, cluster
 
 CHECKS_AT_A_TIME = 4
@@ -53,7 +54,10 @@ def forms_are_read() -> None:
     sizes = {"2G": 2 << 30, "512M": 512 << 20, "1.5k": 1_536, "10": 10, "1TiB": 1 << 40, "3GB": 3 << 30}
     for text, size in sizes.items():
         require(forms.bytes_of(text) == size, f"{text}: {forms.bytes_of(text)}")
-    require(forms.array_of("1-500") == (1, 500) and forms.array_of("7") == (7, 7), "arrays")
+    arrays = {"1-500": (1, 500), "7": (7, 7), "3,1,2": (1, 3), "1,3,5": "1,3,5", " 1-40%10": "1-40%10"}
+    for text, array in arrays.items():
+        require(forms.array_of(text) == array, f"{text}: {forms.array_of(text)}")
+    require(forms.indexes_of("0-20:5,7%4") == ([0, 5, 7, 10, 15, 20], 4), "a list, in steps, with a limit")
     now = forms.instant_of("2026-11-26T12:00")
     instants = {"2h": now - 2 * hour, "1d": now - day, "09:30": now - 2.5 * hour, "2026-11-26": now - 12 * hour}
     for text, instant in instants.items():
@@ -62,7 +66,10 @@ def forms_are_read() -> None:
         forms.seconds_of: ",x,-1,1:60,1h2,1-2-3,inf,1e3",
         forms.bytes_of: ",2X,-1",
     }
-    faulty |= {forms.array_of: ",5-1,1-,a,1-2-3,12345678", forms.instant_of: ",26.11.,25:00,soon,7"}
+    faulty |= {
+        forms.array_of: ",5-1,1-,a,1-2-3,12345678,1%0,1%,%3,1-5:0,1-5:",
+        forms.instant_of: ",26.11.,25:00,soon,7",
+    }
     for read, texts in faulty.items():
         for text in texts.split(","):
             with suppress(ValueError):
@@ -108,6 +115,42 @@ def arrays(found: Cluster) -> None:
     require(names == [f"{number}_[1-6]", f"{number}_[8-2000]"], names)
     require(len(found.json("ps", "--job", "arrayed")["tasks"]) == 1_999, "JSON has each task")
     require(len(found.firmctl("cancel", number).split()) == 1_999, "cancelled")
+
+
+def listed_arrays(built: str) -> None:
+    """An array of listed indexes has these alone, and with % no more of its tasks run at a time, over a restart too."""
+    with cluster(built, m1=8) as found:
+        limit_an_array(found)
+
+
+def limit_an_array(found: Cluster) -> None:
+    script = "echo + >> limited; until [ -e go ]; do sleep 0.05; done; touch limited-$FIRM_INDEX; echo - >> limited"
+    number = found.submit("--job", "limited", "--array", "2,5-9%2", "--", "sh", "-c", script)
+    wait_until(lambda: is_written(found.folder / "limited", "+\n+\n"), "two begin")
+    queued = {row["task"]: row["reason"] for row in found.json("ps", "--states", "queued")["tasks"]}
+    require(queued == {f"{number}_{index}": "at most 2 of the array at a time" for index in (6, 7, 8, 9)}, queued)
+    require(found.firmctl("cancel", f"{number}_8") == f"{number}_8\n", "one that waits outside firm")
+    found.kill_queue()
+    found.start_queue()
+    (found.folder / "go").touch()
+    require(found.run("firmctl", "wait", number).status == 125, "one was cancelled")
+    running = [0]
+    for line in (found.folder / "limited").read_text().split():
+        running.append(running[-1] + (1 if line == "+" else -1))
+    require(max(running) == 2 and running[-1] == 0, running)
+    written = sorted(path.name for path in found.folder.glob("limited-*"))
+    require(written == [f"limited-{index}" for index in (2, 5, 6, 7, 9)], written)
+    with Queue(found.socket) as queue:
+        submitted = queue.submit(Submission(command=("true",), dir="/", job="listed", array="1,3,5", hold=True))
+        require((submitted.count, submitted.array) == (3, "1,3,5"), submitted)
+        require(list(submitted.tasks) == [f"{submitted.id}_{index}" for index in (1, 3, 5)], list(submitted.tasks))
+        require(sorted(task.task for task in queue.tasks(job="listed")) == list(submitted.tasks), "its tasks")
+        require(queue.task(f"{submitted.id}_3").spec["array"] == "1,3,5", "its specification")
+        queue.cancel(jobs=["listed"])
+
+
+def is_written(path: Path, text: str) -> bool:
+    return path.exists() and path.read_text() == text
 
 
 FILE = """\
@@ -166,6 +209,13 @@ def words_are_judged(found: Cluster) -> None:
         (["--env", "NOT_THERE", "--", "true"], 2, "not in the environment"),
         (["--job", "Web", "--", "true"], 1, "bad-field"),
         (["--after", "99999", "--", "true"], 1, "no-such-task"),
+        (["--near", "m1,nosuch", "--", "true"], 1, "near: no such machine: nosuch (no-such-machine)"),
+        (["--array", "0-99,1-9999999", "--", "true"], 2, "lists more than 1,000,000 indexes"),
+        (
+            ["echo", "a", "-b"],
+            2,
+            "unrecognized arguments: -b; write -- before the command: firm-submit .. -- echo a -b",
+        ),
         ([], 2, "name a command"),
         (["--file", "/nonexistent"], 2, "cannot read /nonexistent"),
         (["--file", "-", "--", "true"], 2, "has its commands itself"),
@@ -218,6 +268,13 @@ def changes(found: Cluster) -> None:
     require(found.run("firmctl", "wait", one, other).status == 125, "they have ended")
     require(found.run("firmctl", "cancel", one).status == 1, "it has ended")
     require(found.run("firmctl", "cancel", "--job", "nojob").status == 1, "no such job")
+    number = found.submit("--job", "left", "--", "sleep", "1000")
+    done = found.run("firmctl", "cancel", "render", "left", "99999")
+    told = [b"firmctl: render: no such job with tasks that have not ended", b"firmctl: 99999: no such task"]
+    require(done.output == f"{number}\n".encode() and all(line in done.faults for line in told), done)
+    require(done.status == 1 and b"not changed: 99999, render\n" in done.faults, done)
+    done = found.run("firmctl", "submit", "echo", "a", "-b")
+    require(done.status == 2 and b"write -- before the command: firmctl .. -- echo a -b" in done.faults, done)
     require(found.firmctl("cordon", "spare") == "spare\n" and found.machine("spare").state == "cordoned", "cordon")
     require(found.firmctl("uncordon", "spare") == "spare\n", "uncordon")
     wait_until(lambda: found.machine("spare").state == "up", "the machine is not back")
@@ -263,6 +320,75 @@ def tables(found: Cluster) -> None:
     require(found.firmctl("machines", "--state", state).startswith("TENANT "), "firmd's machines")
     require("firmd has run for" in found.firmctl("status", "--state", state), "firmd's status")
     found.firmctl("cancel", "shown")
+
+
+def reasons(built: str) -> None:
+    """`why` tells each user, under the queue's names, what a held, blocked, queued, waiting or running task waits for,
+    and names no other's task; `ps` has a reason, `--start` an estimate, and `show` all of a task."""
+    if not program.built("firm_explain").exists():
+        raise Skipped("firm_explain is not built: ./build.py firm_explain")
+    with cluster(built, m1=1) as found:
+        job = ("--job", "known", "--time", "1h")
+        found.run("firmctl", "wait", found.submit("--job", "known", "--", "sleep", "1"))
+        first = found.submit(*job, "--", "sleep", "1000")
+        wait_until(lambda: found.task(first).state == "running", "it does not run")
+        number = found.submit(*job, "--array", "1-2", "--env", "A=b c", "--output", "%t.out", "--", "true")
+        held, blocked = found.submit("--hold", "--", "true"), found.submit("--after", first, "--", "true")
+        wait_until(lambda: found.task(f"{number}_1").reason == "no free slot", "why it waits")
+        told = {name: found.firmctl("why", name) for name in (held, blocked, first)}
+        require(f"is held\nit does not start before `firmctl release {held}`\n" in told[held], told)
+        require(told[blocked].endswith(f" is blocked: waits for {first}\n"), told)
+        require(told[first].startswith(f"{first} (job known, weight 10) is running on m1 for "), told)
+        told[first] = found.firmctl("why", f"{number}_1")
+        require(f"{number}_1 (job known, weight 10) is waiting: no free slot\n" in told[first], told)
+        require("a round now would cost " in told[first] and " by an estimate\n" in told[first], told)
+        heads, *lines = found.firmctl("ps", "--start").splitlines()
+        started = {line.split()[0]: heads.index("START") < len(line) and line[heads.index("START") :] for line in lines}
+        require(re.match(r"\d\d-\d\d \d\d:\d\d:\d\d +no free slot", str(started[f"{number}_[1-2]"])), started)
+        rows = {row["task"]: row["start"] for row in found.json("ps", "--start")["tasks"]}
+        require(
+            abs(rows[f"{number}_1"] - time.time()) < LIMIT_SECONDS, f"at once, as what runs is late already: {rows}"
+        )
+        require(1 <= rows[f"{number}_2"] - rows[f"{number}_1"] < LIMIT_SECONDS, f"a run of the job later: {rows}")
+        require((rows[first], rows[held], rows[blocked]) == (None, None, None), rows)
+        shown = found.firmctl("show", f"{number}_1")
+        for line in (
+            f"task: {number}_1\n",
+            "array: 1-2\n",
+            "env: 'A=b c'\n",
+            "time: 1:00:00\n",
+            f"output: {found.folder}/%t.out\n",
+        ):
+            require(line in shown, f"{line} is not in {shown}")
+        require(
+            "ATTEMPT" in found.firmctl("show", first) and found.json("show", first)["attempts"][0]["attempt"] == 1,
+            "attempts",
+        )
+        for verb in ("why", "show"):
+            require(found.run("firmctl", verb, "99999").status == 1, f"{verb} of no task")
+        if os.geteuid() == 0:
+            as_another_user(found, first)
+
+
+def as_another_user(found: Cluster, other: str) -> None:
+    """A user's `why` names no task of another, and refuses such a task."""
+    for path in (found.folder, found.socket):
+        path.chmod(0o777)
+    lines, refusal = as_user_does(ANN, partial(why_of_user, found.socket, other))
+    told = " ".join(lines)
+    require("would run on m1; a task of another user would wait" in told, told)
+    require(not re.search(rf"\b{other}\b", told) and refusal == "no-such-task", f"{told}; {refusal}")
+
+
+def why_of_user(path: Path, other: str) -> list[object]:
+    """What the user's own waiting task is told, and another's."""
+    with Queue(path) as queue:
+        number = queue.submit(Submission(command=("true",), dir="/")).id
+        wait_until(lambda: queue.task(number).task.reason == "no free slot", "it does not wait")
+        try:
+            return [queue.why(number), queue.why(other)]
+        except client.Refused as refusal:
+            return [queue.why(number), refusal.name]
 
 
 def quick_ps(found: Cluster) -> None:
@@ -458,6 +584,7 @@ def checks(built: str, found: Cluster, is_quick: bool) -> dict[str, Check]:
     """The slow ones first, as several are done at a time."""
     count = 2 if is_quick else 20
     own: dict[str, Check] = {f"{count} kills of the queue": partial(kills, built, count)}
+    own |= {"listed arrays": partial(listed_arrays, built), "reasons": partial(reasons, built)}
     own |= {check.__name__.replace("_", " "): partial(check, found) for check in SHARED}
     return own | {"forms": forms_are_read, "help": help_names_the_statuses}
 

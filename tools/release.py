@@ -45,27 +45,35 @@ SERVICES = {
     "firm-slurm": "has Slurm run what firm decides",
     "firm-door": "writes the configuration of one door to many firmd",
 }
-PARSERS = {  # of the programs with verbs or many options; the others' completions go by their help
+PARSERS = {  # modules with the parsers of command lines; the others' completions go by their help
     "firmd": "firm_service.daemon",
     "firmctl": "firm_service.firmctl",
+    "firm-agent": "firm_service.agent",
     "firm-journal": "firm_service.journal_tool",
     "firm-queue": "firm_service.queue.daemon",
     "firm-submit": "firm_service.queue.submitting",
     "firm-slurm": "firm_service.slurm.daemon",
+    "firm-door": "firm_service.door.writing",
 }
-SYSTEMD = {".service": "lib/systemd/system", ".conf": "lib/sysusers.d"}
+SYSTEMD = {".service": "lib/systemd/system", ".conf": "lib/sysusers.d", ".tmpfiles": "lib/tmpfiles.d"}
+DERIVE = ROOT / "tools" / "parsers.py"
 SHTAB = """
 import importlib, shtab, sys
-print(shtab.complete(importlib.import_module(sys.argv[1]).parser(), sys.argv[2]))
+print(shtab.complete(importlib.import_module(sys.argv[1]).parser(), "zsh"))
 """
-# The program in lib/firm is what was proved, byte for byte, so it can't name its commit.
+# Programs in lib/firm are what was proved, byte for byte, so they can't name their commit.
 WRAPPER = """#!/bin/sh
 case $* in
-    --version | -V) echo "firm {release}, commit {commit}, proved" ;;
-    *) exec "$(dirname "$(readlink -f "$0")")/../lib/firm/firm" "$@" ;;
+    --version | -V)
+        echo "{program} {release}, commit {commit}, proved"
+        exit
+        ;;
 esac
+file=$(PATH=$PATH:/usr/bin:/bin readlink -f "$0")
+exec "${{file%/bin/*}}/lib/firm/{program}" "$@"
 """
 PYTHON = "/usr/bin/python3"  # Debian's, which has its packages
+PACKAGES = "lib/python3/dist-packages"  # where it finds them
 NOTHING_STATUS = 3
 LAST_COMMIT = ("git", "log", "-1", "--date=format:%Y%m%d", "--format=%H %ct %cd %an <%ae>")
 
@@ -138,19 +146,24 @@ def write(to: Path, text: str) -> None:
 
 def add_programs(top: Path, programs: Mapping[str, Path], release: Version) -> None:
     for name, file in programs.items():
-        copy(file, top / ("lib/firm" if name == "firm" else "bin") / name, 0o755)
-    write(top / "bin/firm", WRAPPER.format(release=release.name, commit=release.commit))
-    (top / "bin/firm").chmod(0o755)
+        copy(file, top / "lib/firm" / name, 0o755)
+        write(top / "bin" / name, WRAPPER.format(program=name, release=release.name, commit=release.commit))
+        (top / "bin" / name).chmod(0o755)
 
 
-def add_service(top: Path) -> None:
-    """The service, with a link to each program that users call; Python finds the package beside the program."""
+def add_service(top: Path, release: Version) -> None:
+    """Add the service, with a link to each program that users call, and one for Python programs that import it."""
     for name in said("git", "ls-files", "-z", "service").split("\0")[:-1]:
         source, within = ROOT / name, Path(name).relative_to("service")
-        to = top / SYSTEMD[within.suffix] / within.name if within.parts[0] == "systemd" else top / "lib/firm" / within
+        to = top / "lib/firm" / within
+        if within.parts[0] == "systemd":
+            to = top / SYSTEMD[within.suffix] / within.name.replace(".tmpfiles", ".conf")
         copy(source, to, 0o755 if os.access(source, os.X_OK) else 0o644)
     for name in SERVICES:
         (top / "bin" / name).symlink_to(f"../lib/firm/{name}")
+    write(top / "lib/firm/firm_service/RELEASE", f"{release.name}\n")
+    (top / PACKAGES).mkdir(parents=True)
+    (top / PACKAGES / "firm_service").symlink_to("../../firm/firm_service")
 
 
 def add_pages(top: Path) -> None:
@@ -160,13 +173,22 @@ def add_pages(top: Path) -> None:
         copy(ROOT / name, top / "share/doc/firm" / name, mode)
 
 
+def derived(top: Path, form: str, program: str) -> Path:
+    """Return a file beside the release of what its installed parser gives, in one of the forms of tools/parsers.py."""
+    path = top.with_name(f"{program}.{form}")
+    path.write_text(said(PYTHON, DERIVE, form, PARSERS[program], PYTHONPATH=str(top / "lib/firm")))
+    return path
+
+
 def add_manual(top: Path, release: Version) -> None:
-    """Man pages, of what each program says of itself, where it does."""
+    """Add man pages: what each program says of itself, and the options of its verbs."""
     pages = top / "share/man/man1"
     pages.mkdir(parents=True, exist_ok=True)
     for program, purpose in (PROGRAMS | SERVICES).items():
         words = ["--no-info", "--section", "1", "--source", f"firm {release.name}", "--name", purpose]
         words += ["--version-string", release.name]
+        if program in PARSERS and (verbs := derived(top, "man", program)).stat().st_size:
+            words.append(f"--include={verbs}")
         path, epoch = f"{top}/bin:{os.environ['PATH']}", str(release.date)
         text = said("help2man", *words, top / "bin" / program, PATH=path, SOURCE_DATE_EPOCH=epoch)
         (pages / f"{program}.1.gz").write_bytes(gzip.compress(text.encode(), mtime=0))
@@ -178,8 +200,8 @@ def add_completions(top: Path) -> None:
     for program in PROGRAMS | SERVICES:
         if program in PARSERS:
             found = [
-                said(PYTHON, "-c", SHTAB, PARSERS[program], shell, PYTHONPATH=str(top / "lib/firm"))
-                for shell in ("bash", "zsh")
+                derived(top, "bash", program).read_text(),
+                said(PYTHON, "-c", SHTAB, PARSERS[program], PYTHONPATH=str(top / "lib/firm")),
             ]
         else:
             found = [f"complete -F _longopt {program}\n", f"#compdef {program}\n_gnu_generic\n"]
@@ -190,7 +212,7 @@ def add_completions(top: Path) -> None:
 def lay_out(top: Path, programs: Mapping[str, Path], release: Version, proofs: str) -> None:
     """All files of the release, below a folder that stands for /usr, with these files as the programs."""
     add_programs(top, programs, release)
-    add_service(top)
+    add_service(top, release)
     add_pages(top)
     add_manual(top, release)
     add_completions(top)

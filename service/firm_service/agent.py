@@ -28,6 +28,7 @@ from .books import Book, Books, Task
 from .lines import is_name
 from .logs import ERROR, INFO, WARNING, add_form, begin, tell
 from .supervisor import RUN_FIRST_LINE, group_trouble
+from .version import add_version
 from .viewed import books_of, state_of, understood
 
 SUPERVISOR = Path(__file__).with_name("supervisor.py")
@@ -470,25 +471,31 @@ def add_run(commands: argparse._SubParsersAction[argparse.ArgumentParser]) -> ar
     return one
 
 
-def main() -> int:
-    parser = argparse.ArgumentParser(prog="firm-agent", description=(__doc__ or "").splitlines()[0])
-    commands = parser.add_subparsers(dest="verb", required=True)
+def parser() -> argparse.ArgumentParser:
+    found = argparse.ArgumentParser(prog="firm-agent", description=(__doc__ or "").splitlines()[0])
+    add_version(found)
+    commands = found.add_subparsers(dest="verb", required=True)
     one = add_run(commands)
+    one.set_defaults(fail=one.error)
     two = commands.add_parser("timeline", help="write what ran where and when, as SVG, to standard output")
     two.add_argument("state", type=Path, metavar="DIR", help="an agent's state folder")
     for command in (one, two):
         add_form(command)
-    given = parser.parse_args()
+    return found
+
+
+def main() -> int:
+    given = parser().parse_args()
     begin("firm-agent", given.log_format)
     if given.verb == "timeline":
         return timeline.main(given.state)
     options = Options(given.view, given.state, given.until_empty)
     if given.table is not None:
         if given.socket is None or given.name is not None or given.machines is not None:
-            one.error("--table needs --socket, and takes neither --name nor --machines")
+            given.fail("--table needs --socket, and takes neither --name nor --machines")
         return run_by_table(options, given.table, given.socket)
     if given.name is None or given.machines is None or given.socket is not None:
-        one.error("--queue needs --name and --machines, and takes no --socket")
+        given.fail("--queue needs --name and --machines, and takes no --socket")
     if not is_name(given.name.encode()):
-        one.error(f"--name {given.name!r} is not a name; names have 1 to 16 of a to z, 0 to 9 and -")
+        given.fail(f"--name {given.name!r} is not a name; names have 1 to 16 of a to z, 0 to 9 and -")
     return run_by_queue(options, given.queue, given.name, given.machines)

@@ -81,6 +81,16 @@ def in_pipe(work: Callable[[], int]) -> int:
         raise
 
 
+def parsed(parser: argparse.ArgumentParser) -> argparse.Namespace:
+    """Return the options of the command line; one that belongs to a submitted command gets a hint."""
+    options, unknown = parser.parse_known_args()
+    if unknown:
+        command = getattr(options, "command", None)
+        hint = f"; write -- before the command: {parser.prog} .. -- {' '.join([*command, *unknown])}" if command else ""
+        parser.error(f"unrecognized arguments: {' '.join(unknown)}{hint}")
+    return options
+
+
 def show(options: argparse.Namespace, answer: Row, plain: Callable[[Row], str]) -> None:
     """Prints an answer, as JSON where that is asked for."""
     sys.stdout.write(json.dumps(answer, indent=2) + "\n" if options.json else plain(answer))

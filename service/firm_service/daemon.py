@@ -57,6 +57,7 @@ from .sockets import Names
 from .state import JOURNAL, State
 from .states import Opening
 from .stream import Options, Stream
+from .version import add_version
 
 if TYPE_CHECKING:
     from .replicated.journal import ReplicatedJournal
@@ -476,6 +477,7 @@ def parser() -> argparse.ArgumentParser:
         epilog=EXITS,
         formatter_class=argparse.RawDescriptionHelpFormatter,
     )
+    add_version(found)
     add = found.add_argument
     told = "the folder of the roster, the journal and the view's socket"
     add("--state", type=Path, required=True, metavar="DIR", help=told)

@@ -14,16 +14,17 @@ from pathlib import Path
 from typing import Any
 
 from . import tables
-from .command_line import NOT_THERE, USAGE, Failure, Verb, Verbs, add_queue, in_pipe, show, whole
+from .command_line import NOT_THERE, USAGE, Failure, Verb, Verbs, add_queue, in_pipe, parsed, show, whole
 from .lines import is_name
 from .observers import WARNED_SHARE
-from .questions import add_questions
+from .questions import add_questions, why
 from .tables import Column, Row, names, number, text
+from .version import add_version
 from .view_client import Service, service_of
 
 # Verbs that are asked for often: the parsers of all others are not made for them.
 OF_FIRMD = frozenset("tasks machines jobs status why what-if plan".split())
-NAMES = OF_FIRMD | frozenset("ps submit logs wait top history agents cancel".split())
+NAMES = OF_FIRMD | frozenset("ps show submit logs wait top history agents cancel".split())
 WITH_PATH = ("--state", "--queue")
 EXITS = """\
 exit statuses:
@@ -173,10 +174,14 @@ def add_make_roster(verbs: Verbs) -> None:
 
 
 def either(name: str, verb: Verb) -> Verb:
-    """A verb of firmd's, or where a queue rather than a state folder or a tenant is named, the queue's."""
+    """A verb of firmd's; the queue's if a queue, but nothing that only firmd knows, is named."""
 
     def run(options: argparse.Namespace) -> None:
-        is_of_firmd = options.state or getattr(options, "tenant", None)
+        is_of_firmd = options.state or any(getattr(options, name, None) for name in ("tenant", "round", "reasons"))
+        if not is_of_firmd and name == "why":
+            from .queue.forms import is_task  # here, as below
+
+            is_of_firmd = not is_task(options.task)
         if not options.queue and ("FIRM_QUEUE" not in os.environ or is_of_firmd):
             return verb(options)
         from .queue.verbs import of_queue  # here, as this takes a third of the start of any other command
@@ -217,6 +222,7 @@ def parser(only: str | None = None) -> argparse.ArgumentParser:
         formatter_class=argparse.RawDescriptionHelpFormatter,
         parents=[common(None, False)],
     )
+    add_version(found)
     behind = common(argparse.SUPPRESS, argparse.SUPPRESS)
     verbs = Verbs(found.add_subparsers(metavar="COMMAND", required=True), behind, only)
     add = verbs.add
@@ -230,7 +236,7 @@ def parser(only: str | None = None) -> argparse.ArgumentParser:
         add(name, run, explained).add_argument(
             "tenant", nargs="?", metavar="TENANT", help="of all, where none is named"
         )
-    add_questions(verbs)
+    add_questions(verbs, either("why", why))
     add("lines", lines, "the lines that give a new tenant the same rows").add_argument("tenant", metavar="TENANT")
     add("check-roster", check_roster, "every fault of a roster; asks no service").add_argument("file", metavar="FILE")
     add_make_roster(verbs)
@@ -253,7 +259,7 @@ def main() -> int:
 
 
 def run() -> int:
-    options = parser(named_verb(sys.argv[1:])).parse_args()
+    options = parsed(parser(named_verb(sys.argv[1:])))
     try:
         options.run(options)
     except Failure as failure:
@@ -262,3 +268,7 @@ def run() -> int:
     except KeyboardInterrupt:
         return 128 + signal.SIGINT
     return 0
+
+
+if __name__ == "__main__":
+    sys.exit(main())

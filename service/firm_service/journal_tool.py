@@ -24,6 +24,7 @@ from .snapshots import Snapshot, last, opening_of, remove_all, segments_of, usab
 from .state import NEW_JOURNAL, OLD_JOURNAL, State, StateFolder
 from .states import Part, Refused, StateError, fold
 from .tables import printable
+from .version import add_version
 
 COPIED_LINES = 4_096  # at a time, of an older segment
 EXITS = """\
@@ -189,6 +190,7 @@ def renew_id(options: argparse.Namespace) -> None:
 def parser() -> argparse.ArgumentParser:
     raw = argparse.RawDescriptionHelpFormatter
     found = argparse.ArgumentParser(prog="firm-journal", description=__doc__, epilog=EXITS, formatter_class=raw)
+    add_version(found)
     commands = found.add_subparsers(metavar="COMMAND", required=True)
     for name, run, explained in [
         ("print", print_lines, "the lines, as firm gets them in a replay; firmd may run"),

@@ -15,7 +15,7 @@ from time import localtime, strftime
 from typing import TYPE_CHECKING, TypeVar
 
 from . import tables
-from .command_line import NOT_BUILT, NOT_THERE, USAGE, Failure, Verbs, show, whole
+from .command_line import NOT_BUILT, NOT_THERE, USAGE, Failure, Verb, Verbs, show, whole
 from .roster import RANGES
 from .tables import Row, text
 from .view_client import Service, service_of
@@ -23,15 +23,19 @@ from .view_client import Service, service_of
 if TYPE_CHECKING:  # these take a quarter of the start of any other command
     from .books import Book
 
+WHY_NOTE = """\
+The queue answers for its own names, as 12 and 12_4, if FIRM_QUEUE or --queue names it; firmd's view answers for other
+names, and with --state, TENANT, --round or --reasons."""
 MOST_LINES_BYTES = 4 * 2**20
 CHANGES = [text("TASK", "task"), text("JOB", "job"), text("CHANGE", "change"), text("FROM", "before")]
 CHANGES.append(text("TO", "after"))
 Answer = TypeVar("Answer")
 
 
-def add_questions(verbs: Verbs) -> None:
-    command = verbs.add("why", why, "why a task is where it is, and what it would take to run it")
-    command.add_argument("task", metavar="TASK")
+def add_questions(verbs: Verbs, why_of_either: Verb) -> None:
+    told = "why a task is where it is, and what it would take to run it: of the queue, or of firmd"
+    command = verbs.add("why", why_of_either, told, WHY_NOTE)
+    command.add_argument("task", metavar="TASK", help="as 12_4 in the queue, 12-4 in firm")
     command.add_argument("tenant", nargs="?", metavar="TENANT", help="where several have a task of that name")
     told = "in a past round, by the number of its reply; otherwise in a round now"
     command.add_argument("--round", type=whole(1, RANGES["life"][1]), metavar="N", help=told)

@@ -6,6 +6,7 @@ makes the books; firm_state makes the state. Both must agree, and the replies wi
 
 from __future__ import annotations
 
+import argparse
 import sys
 from collections.abc import Iterator, Sequence
 from contextlib import contextmanager
@@ -29,6 +30,7 @@ from .replicated.point import Point, has_point, opening_point, point_of
 from .snapshots import Snapshot, last, opening_of, write
 from .state import REPLICA, StateFolder
 from .states import Opening, StateError, fold, state_file
+from .version import add_version
 
 NICENESS = 5
 OUT_OF_MEMORY_SCORE = 800  # of 1,000: it ends before the viewer, firmd and firm
@@ -122,15 +124,23 @@ def run(folder: Path, segment: int, firm: Sequence[str]) -> int:
     return Exit.SERVED
 
 
+def parser() -> argparse.ArgumentParser:
+    found = argparse.ArgumentParser(prog="firm-snapshot", description="Make a snapshot; only firmd starts it.")
+    add_version(found)
+    found.add_argument("parent", type=int, metavar="PID", help="firmd's process")
+    found.add_argument("log_format", metavar="FORM", help="of lines on standard error")
+    found.add_argument("state", type=Path, metavar="DIR", help="firmd's state folder")
+    found.add_argument("segment", type=int, metavar="NUMBER", help="of the journal, up to which lines are read")
+    found.add_argument("firm", nargs=argparse.REMAINDER, metavar="FIRM ..", help="firm's program, with its words")
+    return found
+
+
 def main() -> int:
-    if len(sys.argv) < 6:
-        print("firm-snapshot: firmd starts this program, for snapshots of its state", file=sys.stderr)
-        return Exit.WORDS
-    parent, log_format, folder, segment, *firm = sys.argv[1:]
-    logs.begin("firm-snapshot", log_format)
-    end_with(int(parent))
+    given = parser().parse_args()
+    logs.begin("firm-snapshot", given.log_format)
+    end_with(given.parent)
     give_way(NICENESS, OUT_OF_MEMORY_SCORE)
-    return run(Path(folder), int(segment), firm)
+    return run(given.state, given.segment, given.firm)
 
 
 if __name__ == "__main__":

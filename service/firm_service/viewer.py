@@ -5,6 +5,7 @@ It has the view, the page and the metrics, at a low priority. It ends with firmd
 
 from __future__ import annotations
 
+import argparse
 import asyncio
 import resource
 import signal
@@ -20,6 +21,7 @@ from .follower import Follower
 from .observers import Status
 from .serving import Serving
 from .shown import Shown
+from .version import add_version
 from .view import MOST_CLIENTS, serve_view
 
 NICENESS = 5
@@ -135,15 +137,27 @@ def allow_files() -> None:
         resource.setrlimit(resource.RLIMIT_NOFILE, (wanted, most))
 
 
+def serving_of(words: str) -> tuple[socket.socket, Serving]:
+    """Return the feed and what is served, as firmd names them."""
+    try:
+        return Serving.read(words)
+    except (LookupError, TypeError, ValueError, OSError) as error:
+        raise argparse.ArgumentTypeError("not the words of a firmd, which alone starts this program") from error
+
+
+def parser() -> argparse.ArgumentParser:
+    found = argparse.ArgumentParser(prog="firm-viewer", description="Answer firmd's readers; only firmd starts it.")
+    add_version(found)
+    found.add_argument("serving", metavar="JSON", type=serving_of, help="sockets to serve, as firmd names them")
+    return found
+
+
 def main() -> int:
-    if len(sys.argv) != 2:
-        print("firm-viewer: firmd starts this program, and tells it what it shows", file=sys.stderr)
-        return 2
+    feed, serving = parser().parse_args().serving
     # SIGTERM and SIGINT may be a stop of the whole service: the feed ends once all is told. What it says on a terminal
     # must not stop it.
     for number in (signal.SIGTERM, signal.SIGINT, signal.SIGTTOU):
         signal.signal(number, signal.SIG_IGN)
-    feed, serving = Serving.read(sys.argv[1])
     logs.begin("firm-viewer", serving.log_format)
     end_with(serving.parent)
     give_way(NICENESS, OUT_OF_MEMORY_SCORE)

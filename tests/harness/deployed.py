@@ -26,7 +26,8 @@ from firm_service.follower import Follower
 from firm_service.kept import found_now, kept_lines
 from firm_service.lines import gets_reply
 from firm_service.observers import Status
-from firm_service.queue import async_client, backlog, client, columns, forms, reports, rows, shares, states, submitting
+from firm_service.queue import array_limits, async_client, backlog, client, columns, estimates, forms, reports, rows
+from firm_service.queue import shares, states, submitting
 from firm_service.queue.fields import Refused as QueueRefused
 from firm_service.queue.firm import Doors, Firm
 from firm_service.refused import Refused
@@ -77,6 +78,7 @@ __all__ = [
     "agent_machines",
     "agent_queue",
     "archive",
+    "array_limits",
     "async_client",
     "backlog",
     "book_of",
@@ -85,6 +87,7 @@ __all__ = [
     "budgets",
     "client",
     "columns",
+    "estimates",
     "extent",
     "feed",
     "feeder",

@@ -10,6 +10,7 @@ from collections.abc import Iterator
 from pathlib import Path
 
 from ..files import is_open, replace_synced
+from ..version import add_version
 from .table import NOWHERE, Shard, Table, TableError
 
 CHECKED, FAULTY, USAGE = 0, 1, 2
@@ -174,13 +175,18 @@ def name_fault(certificate: str) -> str:
     return f"{certificate}: its CN is not {DOOR_NAME}, so the hosts of shards refuse the door"
 
 
-def main() -> int:
-    parser = argparse.ArgumentParser(prog="firm-door", description=__doc__, epilog="docs/CLUSTER.md has a table")
-    parser.add_argument("table", type=Path, metavar="TABLE")
-    parser.add_argument(
+def parser() -> argparse.ArgumentParser:
+    found = argparse.ArgumentParser(prog="firm-door", description=__doc__, epilog="docs/CLUSTER.md has a table")
+    add_version(found)
+    found.add_argument("table", type=Path, metavar="TABLE", help="of the shards")
+    found.add_argument(
         "folder", type=Path, metavar="FOLDER", help="in which door.cfg, SHARD-REPLICA.cfg .. are written"
     )
-    options = parser.parse_args()
+    return found
+
+
+def main() -> int:
+    options = parser().parse_args()
     try:
         table = Table.read(options.table)
         for path in write(table, options.folder):

@@ -135,11 +135,15 @@ class AsyncQueue:
         job: str | None = None,
         states: Sequence[str] | None = None,
         names: Sequence[str] | None = None,
+        start: bool = False,
     ) -> Rows[Task]:
-        return await self._ask(calls.tasks(user, job, states, names))
+        return await self._ask(calls.tasks(user, job, states, names, start))
 
     async def task(self, name: str) -> Detail:
         return await self._ask(calls.task(name))
+
+    async def why(self, name: str) -> list[str]:
+        return await self._ask(calls.why(name))
 
     async def cancel(self, names: Sequence[str] = (), jobs: Sequence[str] = ()) -> Change:
         return await self._ask(calls.change("cancel", names, jobs))

@@ -153,11 +153,15 @@ def submit_all(submissions: Iterable[Submission], key: str | None) -> Call[Rows[
 
 
 def tasks(
-    user: str | None, job: str | None, states: Sequence[str] | None, names: Sequence[str] | None
+    user: str | None, job: str | None, states: Sequence[str] | None, names: Sequence[str] | None, start: bool
 ) -> Call[Rows[Task]]:
-    request: Json = {"ask": "tasks", "user": user, "job": job, "limit": MOST_ROWS}
+    request: Json = {"ask": "tasks", "user": user, "job": job, "limit": MOST_ROWS, "start": start}
     request |= {"states": None if states is None else list(states), "tasks": None if names is None else list(names)}
     return Call(request, rows(Task, "tasks"))
+
+
+def why(name: str) -> Call[list[str]]:
+    return Call({"ask": "why", "task": name}, lambda answer: list(answer["why"]["text"]), is_long=True)
 
 
 def task(name: str) -> Call[Detail]:

@@ -117,12 +117,17 @@ class Queue:
         job: str | None = None,
         states: Sequence[str] | None = None,
         names: Sequence[str] | None = None,
+        start: bool = False,
     ) -> Rows[Task]:
-        """Tasks that have not ended, or those in the states that are named."""
-        return self._ask(calls.tasks(user, job, states, names))
+        """Tasks that have not ended, or those in the states that are named; with estimates of their starts."""
+        return self._ask(calls.tasks(user, job, states, names, start))
 
     def task(self, name: str) -> Detail:
         return self._ask(calls.task(name))
+
+    def why(self, name: str) -> list[str]:
+        """Return lines on why a task is where it is."""
+        return self._ask(calls.why(name))
 
     def cancel(self, names: Sequence[str] = (), jobs: Sequence[str] = ()) -> Change:
         return self._ask(calls.change("cancel", names, jobs))

@@ -4,6 +4,7 @@ from __future__ import annotations
 
 from collections.abc import Iterable, Iterator, Sequence
 from functools import lru_cache
+from time import localtime, strftime
 from typing import NamedTuple
 
 from .. import tables
@@ -44,6 +45,11 @@ COMMAND = Column("COMMAND", lambda row: command_cell(row["command"]))
 TASKS = [escaped("TASK", "task"), escaped("USER", "user"), escaped("JOB", "job"), escaped("STATE", "state")]
 TASKS += [escaped("MACHINE", "machine"), TIME, COMMAND, escaped("REASON", "reason")]
 STATE, REASON = 3, 7  # their places among these
+
+
+def moment(time: float | None) -> str:
+    """A time of the Unix clock, here."""
+    return "-" if time is None else strftime("%m-%d %H:%M:%S", localtime(time))
 
 
 class Line(NamedTuple):
@@ -93,3 +99,13 @@ def text_of(lines: Iterable[Line]) -> str:
 
 def table(tasks: Iterable[Row]) -> str:
     return text_of(map(line_of, tasks))
+
+
+def table_with_starts(tasks: Iterable[Row]) -> str:
+    """The same, with the estimated start of each task, or of the first of an array's that wait side by side."""
+    lines = ((line_of(row), moment(row["start"])) for row in tasks)
+    cells = collapsed(Line(line.number, line.at, (*line.cells, start)) for line, start in lines)
+    start = Column("START", lambda row: row["start"])
+    return tables.aligned(
+        [*TASKS[:REASON], start, TASKS[REASON]], ((*line[:REASON], line[-1], line[REASON]) for line in cells)
+    )

@@ -14,6 +14,7 @@ from dataclasses import dataclass
 from types import MappingProxyType
 
 from . import queries, states
+from .array_limits import ArrayLimits
 from .backlog import Backlog
 from .fields import MOST_WEIGHT, Json, Refused, Submit
 from .firm import Firm, Heard
@@ -65,6 +66,7 @@ class Core:
         self.store, self.firm, self.bounds = store, firm, bounds
         self.rows = Rows()
         self.backlog = Backlog()
+        self.array_limits = ArrayLimits()
         self.unwanted: set[str] = set()  # rows of firm's that are to go
         self.leaving: set[str] = set()  # rows that firm was told to drop: none of them is begun meanwhile
         self.own_jobs: set[str] = set()  # of the queue's making, in firm
@@ -213,7 +215,7 @@ class Core:
             told = f"the job {name} with the weight {job.weight:,}; a job of yours may have {self.bounds.weight:,}"
             raise Refused("weight-too-large", told)
         jobs[name] = job
-        first, last = one.array if one.array is not None else (None, None)
+        first, last = (one.indexes[0], one.indexes[-1]) if one.indexes is not None else (None, None)
         needs = [self._need(text, True, named) for text in one.after]
         needs += [self._need(text, False, named) for text in one.after_any]
         place = (name, job.weight, one.spec, first, last)
@@ -373,7 +375,7 @@ class Core:
         self.firm.changed.set()
 
     def look_at_all(self) -> None:
-        self.backlog, self.strangers = Backlog(), set()
+        self.backlog, self.array_limits, self.strangers = Backlog(), ArrayLimits(), set()
         self.unwanted.clear()
         self._dirty = {task.name for task in self.rows.live_tasks()}
         for row in self.firm.rows.tasks if self.firm.rows is not None else ():
@@ -414,16 +416,20 @@ class Core:
             is_ours = row is not None and row.job == task.submission.job
             if states.is_wanted(self.facts(task)) and (row is None or is_ours):
                 self.unwanted.discard(name.firm)
-                if row is None:
-                    self.backlog.put(task)
-                else:
+                if row is not None:
+                    self.array_limits.admit(task)
                     self.backlog.drop(task)
+                elif self.array_limits.admits(task):
+                    self.backlog.put(task)
                 continue
+            self.array_limits.leave(task)
             self.backlog.drop(task)
             if row is not None:
                 self.unwanted.add(name.firm)
             else:
                 self.unwanted.discard(name.firm)
+        for task in self.array_limits.next():
+            self.backlog.put(task)
 
     def _skip(self, name: Name) -> None:
         """Gives no name that firm has from others, as from a queue whose database was lost."""

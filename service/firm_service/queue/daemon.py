@@ -22,6 +22,7 @@ from ..lines import is_name
 from ..lock import lock_alone
 from ..relief import Relief
 from ..sockets import Names
+from ..version import add_version
 from .agents import Agents, Terms
 from .core import Bounds, Core
 from .fields import MOST_WEIGHT
@@ -208,6 +209,7 @@ def tenant(text: str) -> str:
 
 def parser() -> argparse.ArgumentParser:
     found = argparse.ArgumentParser(prog="firm-queue", description=(__doc__ or "").splitlines()[0])
+    add_version(found)
     commands = found.add_subparsers(dest="verb", required=True)
     raw = argparse.RawDescriptionHelpFormatter
     run = commands.add_parser("run", help="serve a tenant's queue", epilog=EXITS, formatter_class=raw)

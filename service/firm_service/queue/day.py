@@ -3,6 +3,7 @@
 from __future__ import annotations
 
 import sqlite3
+from collections.abc import Iterable
 from dataclasses import dataclass, field
 
 from .queries import fetched
@@ -14,29 +15,41 @@ DAY_SECONDS, STEPS = 86_400.0, 96
 class Day:
     since: float
     step: float
-    slots: list[float] = field(default_factory=lambda: [0.0] * STEPS)  # in use, by the mean of each step
+    slots: list[int]  # in use: the most at a time in each step
+    now: int = 0  # in use
     outcomes: dict[str, int] = field(default_factory=dict)  # of attempts that ended in it
     seconds: float = 0.0  # that attempts which ended in it took
 
-    def add(self, began: float, ended: float) -> None:
-        """Takes in that a slot was used for a time."""
-        first, last = max(began, self.since), min(ended, self.since + DAY_SECONDS)
-        place = int((first - self.since) // self.step)
-        while first < last and place < STEPS:
-            border = min(last, self.since + (place + 1) * self.step)
-            self.slots[place] += (border - first) / self.step
-            first, place = border, place + 1
+
+def peaks(changes: Iterable[tuple[float, int]], step: float) -> list[int]:
+    """Return the most slots in use in each step, by the seconds at which their number changed, and by how many."""
+    found, place, used = [0] * STEPS, 0, 0
+    for seconds, change in [*sorted(changes), (DAY_SECONDS, 0)]:
+        reached = min(int(seconds // step), STEPS - 1)
+        while place < reached:
+            place += 1
+            found[place] = used
+        used += change
+        found[place] = max(found[place], used)
+    return found
 
 
 def day_of(connection: sqlite3.Connection, now: float, user: int | None) -> Day:
     """The day until now, of a user, or of all."""
-    found = Day(now - DAY_SECONDS, DAY_SECONDS / STEPS)
-    words = "SELECT a.began, a.ended, a.seconds, a.outcome FROM attempt a JOIN submission s ON s.number = a.number"
+    found, changes = Day(now - DAY_SECONDS, DAY_SECONDS / STEPS, []), list[tuple[float, int]]()
+    words = "SELECT a.claimed, a.began, a.ended, a.seconds, a.outcome FROM attempt a"
+    words += " JOIN submission s ON s.number = a.number"
     words += " WHERE (a.outcome IS NULL OR a.ended >= ?) AND (? IS NULL OR s.user = ?)"
-    for began, ended, seconds, outcome in fetched(connection, words, (found.since, user, user)):
-        if began is not None:
-            found.add(began, now if ended is None else ended)
-        if outcome is not None:
+    for claimed, began, ended, seconds, outcome in fetched(connection, words, (found.since, user, user)):
+        if outcome is None:  # it has a slot, whether its process is there yet or not
+            found.now += 1
+            began = claimed if began is None else began
+        else:
             found.outcomes[outcome] = found.outcomes.get(outcome, 0) + 1
             found.seconds += seconds or 0.0
+        if began is not None:
+            changes.append((min(max(began - found.since, 0.0), DAY_SECONDS), 1))
+            if outcome is not None:
+                changes.append((min(max(ended, began) - found.since, DAY_SECONDS), -1))
+    found.slots = peaks(changes, found.step)
     return found

@@ -3,10 +3,13 @@
 from __future__ import annotations
 
 import re
+from collections import Counter
 from collections.abc import Mapping, Sequence
-from dataclasses import dataclass
+from dataclasses import dataclass, replace
+from graphlib import CycleError, TopologicalSorter
 from typing import Any
 
+from .forms import indexes_of
 from .rows import DEFAULT_GRACE, MOST_INDEX, Spec
 
 MOST_WORDS, MOST_LETTERS, MOST_NAMES, MOST_PATH = 10_000, 128 * 1024, 1_000, 4_096
@@ -39,7 +42,7 @@ class Submit:
 
     job: str | None
     weight: int | None
-    array: tuple[int, int] | None
+    indexes: Sequence[int] | None  # of an array, in order
     after: tuple[str, ...]
     after_any: tuple[str, ...]
     is_held: bool
@@ -48,7 +51,7 @@ class Submit:
 
     @property
     def count(self) -> int:
-        return 1 if self.array is None else self.array[1] - self.array[0] + 1
+        return 1 if self.indexes is None else len(self.indexes)
 
 
 class Fields:
@@ -141,22 +144,29 @@ def submit_of(given: Mapping[str, Any], *others: str) -> Submit:
     fields = Fields(given, [*SUBMIT_FIELDS, *others])
     after, after_any = (fields.texts(field, MOST_NEEDS, MOST_LABEL + 1) for field in ("after", "after_any"))
     label = fields.text("label", MOST_LABEL) if "label" in others else None
-    weight = fields.whole("weight", 1, MOST_WEIGHT)
-    return Submit(
-        fields.name("job"), weight, array_of(fields), after, after_any, fields.flag("hold"), label, spec_of(fields)
-    )
+    weight, (indexes, at_once) = fields.whole("weight", 1, MOST_WEIGHT), array_of(fields)
+    has_gaps = indexes is not None and indexes[-1] - indexes[0] != len(indexes) - 1
+    listed = fields.get("array").partition("%")[0].strip() if has_gaps else None
+    spec = replace(spec_of(fields), indexes=listed, at_once=at_once)
+    return Submit(fields.name("job"), weight, indexes, after, after_any, fields.flag("hold"), label, spec)
 
 
-def array_of(fields: Fields) -> tuple[int, int] | None:
+def array_of(fields: Fields) -> tuple[Sequence[int] | None, int | None]:
+    """Return the indexes of an array, and how many of its tasks may be in firm at a time."""
     value = fields.get("array")
     if value is None:
-        return None
+        return None, None
+    if isinstance(value, str):
+        try:
+            return indexes_of(checked_text("array", value, MOST_PATH))
+        except ValueError as error:
+            raise bad("array", str(error)) from None
     if not isinstance(value, list) or len(value) != 2 or any(type(one) is not int for one in value):
-        raise bad("array", "[FIRST, LAST]")
+        raise bad("array", "[FIRST, LAST], or a text as 1,3,5 or 1-40%10")
     first, last = value
     if not 0 <= first <= last <= MOST_INDEX:
         raise bad("array", f"0 <= FIRST <= LAST <= {MOST_INDEX:,}")
-    return first, last
+    return range(first, last + 1), None
 
 
 def spec_of(fields: Fields) -> Spec:
@@ -200,3 +210,20 @@ def environment_of(fields: Fields) -> dict[str, str]:
     if sum(len(name) + len(text) for name, text in value.items()) > MOST_LETTERS:
         raise bad("env", f"more than {MOST_LETTERS:,} letters")
     return dict(value)
+
+
+def require_acyclic(asked: list[Submit]) -> None:
+    """Refuses labels that are there twice, and submissions that wait for themselves."""
+    counts = Counter(one.label for one in asked if one.label is not None)
+    for label, count in counts.items():
+        if count > 1:
+            raise Refused("label-twice", f"{label}: {count} submissions have this label")
+    graph = {
+        one.label: {text[1:] for text in (*one.after, *one.after_any) if text.startswith("@")}
+        for one in asked
+        if one.label is not None
+    }
+    try:
+        TopologicalSorter(graph).prepare()
+    except CycleError as error:
+        raise Refused("dependency-cycle", " waits for ".join(reversed(error.args[1]))) from error

@@ -4,6 +4,7 @@ from __future__ import annotations
 
 import re
 import time
+from collections.abc import Sequence
 
 SECONDS = {"": 1, "s": 1, "m": 60, "h": 3_600, "d": 86_400}
 UNITS = {"": 0, "K": 1, "M": 2, "G": 3, "T": 4}
@@ -11,7 +12,8 @@ _CLOCK = re.compile(r"(?:(\d+)-)?(\d+)(?::(\d{1,2}))?(?::(\d{1,2}))?")
 _PARTS = re.compile(r"(?:\d+(?:\.\d+)?[smhd])+")
 _PART = re.compile(r"(\d+(?:\.\d+)?)([smhd])")
 _SIZE = re.compile(r"(\d+(?:\.\d+)?)([KMGT]?)(?:i?B)?", re.IGNORECASE)
-_ARRAY = re.compile(r"(\d{1,7})(?:-(\d{1,7}))?")
+_RANGE = re.compile(r"(\d{1,7})(?:-(\d{1,7})(?::(\d{1,7}))?)?")
+MAX_INDEXES = 1_000_000  # of an array that is written as a list
 _TASK = re.compile(r"[1-9]\d*(?:_\d+)?")
 FORMS = ("%Y-%m-%d", "%Y-%m-%dT%H:%M", "%Y-%m-%d %H:%M", "%Y-%m-%dT%H:%M:%S", "%Y-%m-%d %H:%M:%S")
 
@@ -55,15 +57,35 @@ def bytes_of(text: str) -> int:
     return int(float(size[1]) * 1_024 ** UNITS[size[2].upper()])
 
 
-def array_of(text: str) -> tuple[int, int]:
-    """1-500, or a single index."""
-    array = _ARRAY.fullmatch(text.strip())
-    if array is None:
-        raise ValueError(f"{text!r} is not an array; write 1-500")
-    first, last = int(array[1]), int(array[2] or array[1])
-    if last < first:
-        raise ValueError(f"{text!r} ends before it begins")
-    return first, last
+def array_of(text: str) -> tuple[int, int] | str:
+    """Return the first and last index of a plain array, or the checked text of another one."""
+    indexes, at_once = indexes_of(text)
+    is_plain = at_once is None and indexes[-1] - indexes[0] == len(indexes) - 1
+    return (indexes[0], indexes[-1]) if is_plain else text.strip()
+
+
+def indexes_of(text: str) -> tuple[Sequence[int], int | None]:
+    """Return the indexes of an array in order, and the most tasks of it at a time, written as for sbatch: 1-500; 1,3,5;
+    0-20:5 in steps; 1-40%10 with at most 10 at a time."""
+    words, percent, most = text.strip().partition("%")
+    ranges = [range_of(word, text) for word in words.split(",")]
+    if percent and not re.fullmatch(r"[1-9]\d{0,6}", most, re.ASCII):
+        raise ValueError(f"{text!r}: a number above 0 follows %")
+    if len(ranges) == 1:
+        return ranges[0], int(most) if percent else None
+    if sum(map(len, ranges)) > MAX_INDEXES:
+        raise ValueError(f"{text!r} lists more than {MAX_INDEXES:,} indexes")
+    return sorted({index for one in ranges for index in one}), int(most) if percent else None
+
+
+def range_of(word: str, text: str) -> range:
+    found = _RANGE.fullmatch(word)
+    if found is None:
+        raise ValueError(f"{text!r} is not an array; write 1-500, 1,3,5, 0-20:5 or 1-40%10")
+    first, last, step = int(found[1]), int(found[2] or found[1]), int(found[3] or 1)
+    if last < first or not step:
+        raise ValueError(f"{text!r} {'ends before it begins' if step else 'has steps of 0'}")
+    return range(first, last + 1, step)
 
 
 def instant_of(text: str, now: float | None = None) -> float:

@@ -32,7 +32,8 @@ REFUSAL_SECONDS = 1.0  # for the rest of a request that is too long
 PATIENCE_SECONDS = 30.0  # for a client to read
 MOST_TOLD = 4 * 2**20  # bytes that an agent may leave unread
 ROWS_AT_ONCE = 500  # of an answer, that are written as JSON in a turn of the loop
-# Their answers may be large. As `wait` and `log` each is begun once the answers before it are read: it changes nothing.
+# Their answers may be large. As `wait`, `why` and `log` each is begun once the answers before it are read, since it
+# changes nothing.
 LISTS = {"tasks", "ps", "task", "history", "machines", "agents", "jobs", "status"}
 TOO_MANY = Refused("too-many-clients", "close a connection first")
 CROWDED = "users have left too much unread, or unsent: the connection of the fullest that has most is closed"
@@ -278,7 +279,7 @@ class Connection:
         ask = given.get("ask")
         if ask == "log":
             return partial(self._logged, line)
-        if ask == "wait":
+        if ask in ("wait", "why"):
             return partial(self._waited, line)
         if isinstance(ask, str) and ask in LISTS:
             return partial(self._listed, line)

@@ -9,6 +9,7 @@ from dataclasses import asdict
 from itertools import groupby, islice
 from typing import Any
 
+from ..books import Book
 from ..tables import duration
 from . import states
 from .agents import Agents
@@ -29,6 +30,7 @@ class Lists:
 
     def __init__(self, core: Core, agents: Agents) -> None:
         self._core, self._agents = core, agents
+        self._counted: tuple[Book, bytes, int] | None = None  # firm's rows, at a command, with their slots
 
     def state_of(self, task: Task) -> State:
         return states.state_of(self._core.facts(task))
@@ -90,7 +92,22 @@ class Lists:
             return trouble
         if state == State.ENDING and not task.is_cancelled:
             return "firm has taken its place"
-        return task.told if state in (State.QUEUED, State.WAITING) else ""
+        if state in (State.QUEUED, State.WAITING):
+            return task.told or self._why_without_slot(task)
+        return ""
+
+    def _why_without_slot(self, task: Task) -> str:
+        """Why a task has no slot, at a glance; `why` tells more."""
+        rows = self._core.firm.rows
+        row = rows.tasks.get(task.firm) if rows is not None else None
+        if rows is None or row is None:
+            return "no room in firm yet"
+        if self._counted is None or self._counted[0] is not rows or self._counted[1] != rows.number:
+            self._counted = rows, rows.number, rows.slots  # once for many rows of a list
+        slots = self._counted[2]
+        if rows.running >= slots:
+            return "no free slot" if slots else "no machine"
+        return "a free slot costs more than to wait" if rows.waited(row) else "before its first round"
 
     def _waited_for(self, submission: Submission) -> str:
         """The first needs that have not ended, and how many there are besides."""
@@ -102,6 +119,18 @@ class Lists:
         shown = list(map(str, islice(live, MOST_SHOWN)))
         more = submission.open_needs - len(shown)
         return ", ".join(shown) + (f" and {more:,} more" if more > 0 else "")
+
+    def summary(self, task: Task) -> Iterator[str]:
+        """Lines on a task and its state."""
+        submission, (state, machine, reason) = task.submission, self._seen(task)
+        place = f" on {machine}" if machine is not None else ""
+        since = f" for {duration(seconds_of(task.attempt))}" if state is State.RUNNING else ""
+        told = f": {reason}" if reason else ""
+        yield f"{task.shown} (job {submission.job}, weight {submission.weight}) is {state}{place}{since}{told}"
+        if state is State.HELD:
+            yield f"it does not start before `firmctl release {task.shown}`"
+        if state is State.QUEUED and not reason.startswith("no room"):
+            yield "it is not in firm yet"
 
     def foreign(self) -> Iterable[Json]:
         """Tasks in firm that the queue has not submitted."""
@@ -116,7 +145,8 @@ class Lists:
     def detail(self, task: Task, attempts: list[Attempt]) -> Json:
         submission = task.submission
         spec = asdict(submission.spec)
-        spec["array"] = None if submission.first is None else [submission.first, submission.last]
+        plain = None if submission.first is None else [submission.first, submission.last]
+        spec["array"] = spec.pop("indexes") or plain
         spec["after"] = [str(need) for need in submission.needs if need.is_ok]
         spec["after_any"] = [str(need) for need in submission.needs if not need.is_ok]
         return {**self.row(task), "spec": spec, "attempts": [attempt_row(attempt) for attempt in attempts]}

@@ -12,6 +12,7 @@ from typing import Protocol
 
 from ..faults import reason
 from .fields import Refused
+from .rows import Attempt, Task
 
 PIECE_BYTES = 48 * 1024
 LOOK_SECONDS = 0.1  # between two looks at a file that is followed
@@ -97,3 +98,15 @@ async def pieces(output: Output, start: int, reading: Reading) -> AsyncIterator[
             return
         else:
             await asyncio.sleep(LOOK_SECONDS)
+
+
+def output_of(task: Task, attempt: Attempt) -> Output:
+    """The output of an attempt; of an older queue's nobody knows whose process it was, but the agent chose the path."""
+    if attempt.host is not None:
+        raise Refused("elsewhere", f"{attempt.host}:{attempt.output}", host=attempt.host, path=attempt.output)
+    if attempt.output is None:
+        raise Refused("no-output", f"attempt {attempt.number} of {task.name} has no output")
+    is_chosen = task.submission.spec.output is not None
+    runs_as = attempt.runs_as if attempt.runs_as is not None or is_chosen else os.geteuid()
+    owners = {task.submission.user} if runs_as is None else {task.submission.user, runs_as}
+    return Output(attempt.output, frozenset(owners), is_chosen)

@@ -2,8 +2,8 @@
 
 A request is a JSON object on a line of at most 8 MiB, UTF-8; its answer is one too, and answers come in the order of
 the requests. Many requests may be sent before the first answer is read (the writes of all share a sync of the disk).
-`wait`, `log`, lists and `status` are begun once all answers before theirs are read; what changes something is done at
-once, and answered in its turn. What rests on another request, send after its answer.
+`wait`, `why`, `log`, lists and `status` are begun once all answers before theirs are read; what changes something is
+done at once, and answered in its turn. What rests on another request, send after its answer.
 
     > {"ask": "submit", "command": ["./train.sh", "7"], "dir": "/home/ann", "job": "web"}
     < {"submit": {"number": 12, "first": null, "last": null, "count": 1, "job": "web"}}
@@ -34,21 +34,23 @@ submit: {"ask": "submit", "command": [WORD, ..], "dir": "/abs"} and, with their 
     "job": null         a name (1 to 16 of a-z, 0-9, -); null: the user's login name, or uN by the number N
     "weight": null      1 to 1,000,000 of the job; null: the job's, for a new one 10, or --most-weight if less. A
                         job is there, and is its user's, while it has tasks that have not ended
-    "array": null       [FIRST, LAST], 0 <= FIRST <= LAST <= 9,999,999
+    "array": null       [FIRST, LAST], 0 <= FIRST <= LAST <= 9,999,999, or a text: "1,3,5", "0-20:5", "1-40%10" (with at
+                        most 10 tasks in firm at a time)
     "after": []         tasks or submissions that must end with `done` before: "12", "12_4"
     "after_any": []     that must end, however
     "time": null        seconds that an attempt may run
-    "near": []          at most 4 machines that are preferred, as far as they are there then
+    "near": []          at most 4 machines that are preferred, as far as firm has them later
     "env": {}           names and values
     "output": null      "/abs" file to which the output is appended; %A is the number, %a the index, %t the task
     "retries": 0        0 to 100 further attempts after failures
     "grace": 5          seconds from SIGTERM to SIGKILL, 0 to 3,600
     "memory": null      bytes; "processors": null, a number above 0: limits by cgroup where there is one
     "hold": false       begin as `held`
-  -> {"submit": {"number": 12, "first": 1|null, "last": 3|null, "count": 3, "job": "web"}}
-  Errors: `bad-field` (with "field"), `array-too-large`, `weight-too-large` (of a user's job, past --most-weight),
-  `no-such-task` (of `after`), `not-yours` (another's job), `job-has-weight`, `quota`, `queue-full`, `budget` (what the
-  user's submissions take of the disk; with "seconds" until there is room).
+  -> {"submit": {"number": 12, "first": 1|null, "last": 3|null, "count": 3, "job": "web"}},
+   and "array": TEXT if indexes are left out
+  Errors: `bad-field` (with "field"), `no-such-machine` (of `near`), `array-too-large`, `weight-too-large` (of a user's
+  job, past --most-weight), `no-such-task` (of `after`), `not-yours` (another's job), `job-has-weight`, `quota`,
+  `queue-full`, `budget` (what the user's submissions take of the disk; with "seconds" until there is room).
 
 submit-all: {"ask": "submit-all", "key": null, "submissions": [S, ..]}, at most 10,000, each S as above without "ask"
   and "key", with "label": null or a text; `after` and `after_any` may name labels (of the list, before or behind) as
@@ -56,7 +58,8 @@ submit-all: {"ask": "submit-all", "key": null, "submissions": [S, ..]}, at most 
   -> {"submit-all": [{"number": .., "first": .., "last": .., "count": .., "job": .., "label": ..}, ..]}
   Errors: those above with "at": PLACE in the list from 0; `dependency-cycle`, `no-such-label`, `label-twice`.
 
-tasks: {"ask": "tasks", "user": null|NAME, "job": null, "states": null|[..], "tasks": null|["12", ..], "limit": 10000}
+tasks: {"ask": "tasks", "user": null|NAME, "job": null, "states": null|[..], "tasks": null|["12", ..], "limit": 10000,
+  "start": false}
   -> {"tasks": [ROW, ..], "more": 0}, by number and index. states null: those that have not ended. "more": how many were
   left out, past the limit or 16 MiB of commands. user null: of all that one may see. ROW:
   {"task": "12_4", "firm": "12-4", "number": 12, "index": 4|null, "user": "ann", "job": "web", "weight": 10,
@@ -64,7 +67,8 @@ tasks: {"ask": "tasks", "user": null|NAME, "job": null, "states": null|[..], "ta
    "began": t|null (of the last attempt), "ended": t|null (of the task), "seconds": s|null (that the last attempt has
    run, or ran), "status": 0|null, "time": null|s, "command": [..]}
   reason says why it is not further: `waits for 11`, `no agent has the machine m3`, `agent a1 is silent for 12 s`,
-  `tried again in 3 s`, `the arena is full`, ..; of an ended one why: `signal 9`, `no such folder: /x`, ..
+  `tried again in 3 s`, `no free slot`, ..; of an ended one why: `signal 9`, `no such folder: /x`, ..
+  With "start" each row has "start": t|null, at which the queue estimates that a waiting task starts.
 
 ps: {"ask": "ps"} -> {"ps": TEXT, "more": 0}: the table that `firmctl ps` prints of the same, up to 100,000 rows.
 
@@ -74,9 +78,12 @@ task: {"ask": "task", "task": "12_4"} -> {"task": {ROW.., "spec": {the submissio
    "lost"|"void",
    "status": null|0, "reason": "", "output": "/abs"|null, "host": null|"user@host"}
 
+why: {"ask": "why", "task": "12_4"} -> {"why": {"task": "12_4", "state": "waiting", "text": [LINES]}}: why the task is
+  where it is; tasks of others are told without their names. Errors: `no-such-task`, `too-many-questions`.
+
 cancel, hold, release: {"ask": "cancel", "tasks": ["12", "12_4"], "jobs": ["web"]}
-  -> {"changed": ["12_4"], "unchanged": {"12_1": "has ended: done"}}; errors `no-such-task`, `no-such-job`. hold: only
-  what has no process yet.
+  -> {"changed": ["12_4"], "unchanged": {"12_1": "has ended: done"}}. Names that are missing are among `unchanged`;
+  errors `no-such-task`, `no-such-job`, if all are. hold: only what has no process yet.
 
 wait: {"ask": "wait", "tasks": ["12", "13_1"], "seconds": null}
   -> {"wait": {"12_1": {"state": "done", "status": 0}, ..}} once all have ended, or the seconds are over.
@@ -189,25 +196,26 @@ from __future__ import annotations
 
 import asyncio
 import json
-import os
 import time
 from base64 import b64encode
-from collections import Counter, defaultdict
+from collections import defaultdict
 from collections.abc import AsyncIterator, Awaitable, Callable, Iterable, Mapping, Sequence
 from contextlib import suppress
 from dataclasses import dataclass, replace
 from functools import partial
-from graphlib import CycleError, TopologicalSorter
 from typing import Any, Protocol
 
 from ..faults import reason
 from . import queries
 from .agents import CORDONED, DRAINED, Agents, Session
+from .answers import Answers, Listed, Shown, in_turns
 from .columns import Line, line_of, text_of
 from .core import Core
-from .fields import MOST_KEY, Fields, Json, Refused, Submit, bad, submit_of
+from .estimates import Estimates
+from .explaining import Explainer
+from .fields import MOST_KEY, Fields, Json, Refused, Submit, bad, require_acyclic, submit_of
 from .listing import VERSION, Lists
-from .output import Output, pieces, tail_of
+from .output import output_of, pieces, tail_of
 from .queries import Asked
 from .rows import SINGLE, Attempt, Name, Submission, Task
 from .states import ENDED, Change, State
@@ -220,7 +228,6 @@ MOST_SUBMISSIONS, MOST_ASKED, MOST_ROWS, DEFAULT_ROWS = 10_000, 100_000, 100_000
 MOST_READ, MOST_READ_BYTES = 200_000, 2**26
 READ_AT_ONCE = 100  # submissions
 MOST_COMMAND_BYTES = 2**24  # of an answer: each row of an array has its command
-ROWS_AT_ONCE = 100  # that are made in a turn of the loop
 GONE_SECONDS = 5.0  # between two looks whether a client that waits is still there
 ANEW_SECONDS = 1.0  # until it is waited anew, where an end was not written
 NAMING = {"tasks", "ps", "jobs"}  # their answers name users of tasks that have not ended
@@ -279,7 +286,8 @@ class Requests:
 
     def __init__(self, core: Core, agents: Agents, tenant: str) -> None:
         self._core, self._agents, self._tenant = core, agents, tenant
-        self._lists = Lists(core, agents)
+        self._lists, self._estimates = Lists(core, agents), Estimates(core)
+        self._explainer = Explainer(core.firm.doors.view, tenant)
         self._started = time.time()
         self._reads: defaultdict[int, asyncio.Lock] = defaultdict(asyncio.Lock)  # by user
         self._threads = Threads()
@@ -289,6 +297,7 @@ class Requests:
             "tasks": self._tasks,
             "ps": self._ps,
             "task": self._task,
+            "why": self._why,
             "cancel": self._change,
             "hold": self._change,
             "release": self._change,
@@ -363,8 +372,18 @@ class Requests:
             found = await self._found(user, numbers)
             if key is not None and (again := await self._known(user, key)) is not None:
                 return Answers(again, is_again=True)
+        self._require_machines(asked)
         made = self._core.submit(user, asked, key, found)
         return Answers([submission.answer() for submission in made])
+
+    def _require_machines(self, asked: Sequence[Submit]) -> None:
+        """Raises `Refused` for a preferred machine that neither firm nor an agent has, once firm's rows are known."""
+        rows = self._core.firm.rows
+        for at, one in enumerate(asked) if rows is not None else ():
+            for machine in one.spec.near:
+                is_known = rows is None or machine in rows.machines or machine in self._core.marks
+                if not is_known and self._agents.of_machine(machine) is None:
+                    raise Refused("no-such-machine", f"near: no such machine: {machine}", at=at)
 
     async def _known(self, user: User, key: str) -> Any:
         """What was answered to an earlier request with this key; None where there was none."""
@@ -382,10 +401,13 @@ class Requests:
     # Lists
 
     async def _tasks(self, caller: Caller, given: Json) -> Any:
-        fields = Fields(given, ["ask", "user", "job", "states", "tasks", "limit"])
+        fields = Fields(given, ["ask", "user", "job", "states", "tasks", "limit", "start"])
         chosen = await self._chosen(caller.user, fields)
+        starts = await self._estimates.starts() if fields.flag("start") else {}
         tasks, more = await self._chosen_tasks(caller.user, chosen)
         rows = await self._rows(tasks[: chosen.limit])
+        for row, task in zip(rows, tasks) if fields.get("start") else ():
+            row["start"] = starts.get(task.name) if row["state"] in (State.QUEUED, State.WAITING) else None
         more += len(tasks) - len(rows)
         rows += self._foreign(caller.user, chosen)
         return Listed(rows[: chosen.limit], more)
@@ -496,6 +518,26 @@ class Requests:
         await self.know(caller.user, [task.submission.user])
         return self._lists.detail(task, attempts)
 
+    async def _why(self, caller: Caller, given: Json) -> Json:
+        task = await self._one(caller.user, Fields(given, ["ask", "task"]).text("task", 32))
+        await self.know(caller.user, [task.submission.user])
+        lines, firm = [*self._lists.summary(task)], self._core.firm
+        state = self._lists.state_of(task)
+        row = firm.rows.tasks.get(task.firm) if firm.rows is not None and task.outcome is None else None
+        if row is not None and row.job == task.submission.job and not firm.trouble:
+            lines += await self._explainer.reasons(caller.user.number, task.firm, partial(self._shown, caller.user))
+        if state in (State.QUEUED, State.WAITING) and (start := (await self._estimates.starts()).get(task.name)):
+            lines.append(f"it may start at {time.strftime('%Y-%m-%d %H:%M', time.localtime(start))}, by an estimate")
+        return {"task": str(task.name), "state": state, "text": lines}
+
+    def _shown(self, user: User, row: str) -> str | None:
+        """The name by which a user knows a task in firm; None: it is not to be shown."""
+        name = Name.of_firm(row)
+        task = self._core.rows.task(name)
+        if task is None or not user.may_see(task.submission.user):
+            return row if user.is_operator else None
+        return str(name)
+
     async def _history(self, caller: Caller, given: Json) -> Any:
         fields = Fields(given, ["ask", "since", "until", "user", "job", "task", "limit"])
         user, name = await self._user(caller.user, fields), None
@@ -543,19 +585,23 @@ class Requests:
 
     async def _change(self, caller: Caller, given: Json) -> Json:
         fields = Fields(given, ["ask", "tasks", "jobs"])
-        tasks = await self._named(caller.user, fields.texts("tasks", MOST_ASKED, 32))
+        missing: dict[str, str] = {}
+        tasks = await self._named(caller.user, fields.texts("tasks", MOST_ASKED, 32), missing=missing)
         jobs = dict.fromkeys(fields.texts("jobs", MOST_ASKED, 32))
         if jobs:
             of_jobs = [task for task in self._visible(caller.user) if task.submission.job in jobs]
-            for job in jobs.keys() - {task.submission.job for task in of_jobs}:
-                raise Refused("no-such-job", f"{job}: no such job with tasks that have not ended")
             tasks.update((task.name, task) for task in of_jobs)
+            absent = jobs.keys() - {task.submission.job for task in of_jobs}
+            missing |= dict.fromkeys(absent, "no such job with tasks that have not ended")
+        if missing and not tasks:
+            name, why = next(iter(missing.items()))
+            raise Refused("no-such-job" if name in jobs else "no-such-task", f"{name}: {why}")
         changed, unchanged = self._core.change(Change(given["ask"]), tasks.values())
         await self._core.store.settled()
         self._agents.end_kept(changed)
         return {
             "changed": [str(task.name) for task in changed],
-            "unchanged": {str(name): why for name, why in unchanged.items()},
+            "unchanged": {**{str(name): why for name, why in unchanged.items()}, **missing},
         }
 
     async def _mark(self, caller: Caller, given: Json) -> Json:
@@ -692,21 +738,29 @@ class Requests:
         return found
 
     async def _submissions_of(
-        self, user: User, texts: Sequence[str], are_whole: bool = False
+        self, user: User, texts: Sequence[str], are_whole: bool = False, missing: dict[str, str] | None = None
     ) -> dict[Name, Submission]:
-        """These names with their submissions, where the user may see all that is named."""
+        """These names with their submissions. Names that the user does not see are added to `missing`, if given, and
+        refused otherwise."""
         names = {text: name_from(text) for text in texts}
         submissions = await self._found(user, {name.number for name in names.values()}, are_whole)
+        found = dict[Name, Submission]()
         for text, name in names.items():
             submission = submissions.get(name.number)
-            if submission is None or name.index != SINGLE and name.index not in submission.tasks:
+            if submission is not None and (name.index == SINGLE or name.index in submission.tasks):
+                found[name] = submission
+            elif missing is None:
                 raise Refused("no-such-task", f"{text}: no such task")
-        return {name: submissions[name.number] for name in names.values()}
+            else:
+                missing[text] = "no such task"
+        return found
 
-    async def _named(self, user: User, texts: Sequence[str], are_whole: bool = False) -> dict[Name, Task]:
+    async def _named(
+        self, user: User, texts: Sequence[str], are_whole: bool = False, missing: dict[str, str] | None = None
+    ) -> dict[Name, Task]:
         """The tasks of these names, or all of submissions."""
         found: dict[Name, Task] = {}
-        for name, submission in (await self._submissions_of(user, texts, are_whole)).items():
+        for name, submission in (await self._submissions_of(user, texts, are_whole, missing)).items():
             if name.index == SINGLE:
                 found.update((task.name, task) for task in submission.tasks.values())
             else:
@@ -730,71 +784,8 @@ class Requests:
         return submission.tasks[name.index]
 
 
-def output_of(task: Task, attempt: Attempt) -> Output:
-    """The output of an attempt; of an older queue's nobody knows whose process it was, but the agent chose the path."""
-    if attempt.host is not None:
-        raise Refused("elsewhere", f"{attempt.host}:{attempt.output}", host=attempt.host, path=attempt.output)
-    if attempt.output is None:
-        raise Refused("no-output", f"attempt {attempt.number} of {task.name} has no output")
-    is_chosen = task.submission.spec.output is not None
-    runs_as = attempt.runs_as if attempt.runs_as is not None or is_chosen else os.geteuid()
-    owners = {task.submission.user} if runs_as is None else {task.submission.user, runs_as}
-    return Output(attempt.output, frozenset(owners), is_chosen)
-
-
-class Answers(list[Json]):
-    """What is answered to a submit."""
-
-    def __init__(self, answers: Any, is_again: bool = False) -> None:
-        super().__init__(answers)
-        self.is_again = is_again
-
-
-class Listed(list[Json]):
-    """A list, with the number of rows that were left out."""
-
-    def __init__(self, rows: Iterable[Json], more: int) -> None:
-        super().__init__(rows)
-        self.more = more
-
-
-class Shown(str):
-    """A list as a text, with the number of rows that were left out."""
-
-    more: int
-
-    def __new__(cls, text: str, more: int) -> Shown:
-        found = super().__new__(cls, text)
-        found.more = more
-        return found
-
-
-async def in_turns(tasks: Sequence[Task]) -> AsyncIterator[Sequence[Task]]:
-    """Tasks of which rows are made, some in each turn of the loop."""
-    for at in range(0, len(tasks), ROWS_AT_ONCE):
-        yield tasks[at : at + ROWS_AT_ONCE]
-        await asyncio.sleep(0)
-
-
 def name_from(text: str) -> Name:
     name = Name.read(text)
     if name is None:
         raise Refused("no-such-task", f"{text}: no such task")
     return name
-
-
-def require_acyclic(asked: list[Submit]) -> None:
-    """Refuses labels that are there twice, and submissions that wait for themselves."""
-    counts = Counter(one.label for one in asked if one.label is not None)
-    for label, count in counts.items():
-        if count > 1:
-            raise Refused("label-twice", f"{label}: {count} submissions have this label")
-    graph = {
-        one.label: {text[1:] for text in (*one.after, *one.after_any) if text.startswith("@")}
-        for one in asked
-        if one.label is not None
-    }
-    try:
-        TopologicalSorter(graph).prepare()
-    except CycleError as error:
-        raise Refused("dependency-cycle", " waits for ".join(reversed(error.args[1]))) from error

@@ -6,6 +6,8 @@ from collections.abc import Iterator, Mapping
 from dataclasses import dataclass, field, fields
 from typing import Any, TypeVar
 
+from .forms import indexes_of
+
 Json = dict[str, Any]
 Kind = TypeVar("Kind")
 
@@ -39,7 +41,7 @@ class Submission:
     dir: str  # an absolute path
     job: str | None = None  # None: that of the user's name
     weight: int | None = None
-    array: tuple[int, int] | None = None
+    array: tuple[int, int] | str | None = None
     after: tuple[str, ...] = ()
     after_any: tuple[str, ...] = ()
     time: float | None = None
@@ -71,6 +73,7 @@ class Submitted:
     first: int | None = None  # index of an array
     last: int | None = None
     label: str | None = None
+    array: str | None = None  # the indexes, if there are gaps between them
     again: bool = False  # it was there already, by its key
 
     @property
@@ -82,7 +85,8 @@ class Submitted:
     def tasks(self) -> Iterator[str]:
         if self.first is None or self.last is None:
             return iter([self.id])
-        return (f"{self.number}_{index}" for index in range(self.first, self.last + 1))
+        indexes = range(self.first, self.last + 1) if self.array is None else indexes_of(self.array)[0]
+        return (f"{self.number}_{index}" for index in indexes)
 
 
 @dataclass(frozen=True, slots=True, kw_only=True)
@@ -107,6 +111,7 @@ class Task:
     seconds: float | None = None  # that the last attempt has run, or ran
     status: int | None = None
     time: float | None = None  # its limit
+    start: float | None = None  # estimated, if asked for
     command: tuple[str, ...] = ()
 
     @property

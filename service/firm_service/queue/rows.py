@@ -3,9 +3,11 @@
 from __future__ import annotations
 
 import re
-from collections.abc import Iterable, Iterator
+from collections.abc import Iterable, Iterator, Sequence
 from dataclasses import dataclass, field
 from typing import Any
+
+from .forms import indexes_of
 
 SINGLE = -1  # the index of a task that is a submission's only one, without an array
 MOST_NUMBER, MOST_INDEX = 99_999_999, 9_999_999  # together, a name of a task in firm has no more letters
@@ -73,6 +75,8 @@ class Spec:
     retries: int = 0
     memory: int | None = None
     processors: float | None = None
+    indexes: str | None = None  # of an array with gaps, as its user wrote them
+    at_once: int | None = None  # tasks of the array that may be in firm
 
 
 @dataclass(slots=True, eq=False)
@@ -167,10 +171,16 @@ class Submission:
     def is_blocked(self) -> bool:
         return self.open_needs > 0
 
+    @property
+    def indices(self) -> Sequence[int]:
+        """Of its tasks, if its words are known."""
+        if self.spec.indexes is not None:
+            return indexes_of(self.spec.indexes)[0]
+        return [SINGLE] if self.first is None or self.last is None else range(self.first, self.last + 1)
+
     def add_tasks(self, is_held: bool) -> None:
         """Makes the tasks of a new submission."""
-        indices = [SINGLE] if self.first is None or self.last is None else range(self.first, self.last + 1)
-        self.tasks = {index: Task(self, index, is_held) for index in indices}
+        self.tasks = {index: Task(self, index, is_held) for index in self.indices}
         self.live = len(self.tasks)
 
     def measure(self, text: str) -> None:
@@ -179,8 +189,9 @@ class Submission:
 
     def answer(self) -> dict[str, Any]:
         """As its user is told of it."""
-        found = {"number": self.number, "first": self.first, "last": self.last}
-        return {**found, "count": len(self.tasks), "job": self.job}
+        found: dict[str, Any] = {"number": self.number, "first": self.first, "last": self.last}
+        found |= {"count": len(self.tasks), "job": self.job}
+        return found if self.spec.indexes is None else {**found, "array": self.spec.indexes}
 
 
 @dataclass(slots=True)

@@ -13,7 +13,8 @@ from functools import partial
 from pathlib import Path
 from typing import Any
 
-from ..command_line import NO_SERVICE, NOT_THERE, USAGE, Failure, add_queue, in_pipe
+from ..command_line import NO_SERVICE, NOT_THERE, USAGE, Failure, add_queue, in_pipe, parsed
+from ..version import add_version
 from . import forms
 from .client import PATIENCE, NotThere, Queue, Refused, Submission, Submitted
 
@@ -51,7 +52,12 @@ OPTIONS = [
     Option(
         "weight", forms.whole_of, "N", "of the job, with its first task: what a round of waiting costs (default: 10)"
     ),
-    Option("array", forms.array_of, "FIRST-LAST", "a task for each index, which is FIRM_INDEX, as 1-500"),
+    Option(
+        "array",
+        forms.array_of,
+        "INDEXES",
+        "a task for each index, which is FIRM_INDEX: 1-500; 1,3,5; 0-20:5 in steps; 1-40%%10 with at most 10 at a time",
+    ),
     Option("after", forms.names_of, "TASK,..", "tasks that must be done first", is_list=True),
     Option("after_any", forms.names_of, "TASK,..", "tasks that must have ended first", is_list=True),
     Option("time", forms.seconds_of, "TIME", "for which a run may last: 90 (seconds), 30m, 2h, 1-12:00:00"),
@@ -206,6 +212,7 @@ def parser() -> argparse.ArgumentParser:
         epilog=f"{FILE_HELP}\n{EXITS}",
         formatter_class=argparse.RawDescriptionHelpFormatter,
     )
+    add_version(found)
     add_queue(found, None)
     add_options(found)
     found.add_argument("--file", metavar="FILE", help="submit what a file has; - is standard input")
@@ -226,7 +233,7 @@ def main() -> int:
 
 
 def run() -> int:
-    options = parser().parse_args()
+    options = parsed(parser())
     try:
         print("\n".join(ids(submit(options))))
     except Failure as failure:

@@ -4,10 +4,11 @@ from __future__ import annotations
 
 import argparse
 import os
+import shlex
 import sys
 import time
 from collections import Counter
-from collections.abc import Callable, Mapping, Sequence
+from collections.abc import Callable, Iterator, Mapping, Sequence
 from functools import partial
 from typing import Any
 
@@ -15,8 +16,8 @@ from .. import tables
 from ..command_line import NO_SERVICE, NOT_THERE, USAGE, Failure, Verb, Verbs, show
 from ..tables import Column, Row, names, number, printable
 from . import forms, submitting, sums
-from .client import PATIENCE, Change, End, NotThere, Queue, Refused, Rows, Span
-from .columns import TASKS, TIME, escaped, table
+from .client import PATIENCE, Change, Detail, End, NotThere, Queue, Refused, Rows, Span
+from .columns import TASKS, TIME, escaped, moment, table, table_with_starts
 from .results import plain
 from .submitting import queue_path, typed_text
 
@@ -28,16 +29,19 @@ exit statuses:
   124  its time was over, or that of --seconds is
   125  it has none: cancelled, unmet or lost; or it can't be waited for
   2    the command line"""
+CHANGE_NOTE = "each name counts by itself; status 1: one of them is missing, or is left as it was"
+START_NOTE = """\
+--start estimates and promises nothing: slots go to what is heaviest with the rounds it has waited, each task lasts as
+long as those of its job that are done did on average, and at most its --time. A dash: neither of these is known, or
+the task is held or blocked."""
 TOP_SECONDS, TOP_TASKS = 2.0, 30
 CLEAR = "\x1b[H\x1b[2J"
 MOST_OF_DAY = "1d"
 OverQueue = Callable[[Queue, argparse.Namespace], None]
 
 
-def moment(head: str, key: str) -> Column:
-    return Column(
-        head, lambda row: "-" if row[key] is None else time.strftime("%m-%d %H:%M:%S", time.localtime(row[key]))
-    )
+def moments(head: str, key: str) -> Column:
+    return Column(head, lambda row: moment(row[key]))
 
 
 MACHINES = [escaped("MACHINE", "machine"), escaped("STATE", "state"), number("SLOTS", "slots"), number("RUNS", "open")]
@@ -49,8 +53,12 @@ JOBS = [escaped("JOB", "job"), escaped("USER", "user"), number("WEIGHT", "weight
 PAST_FIELDS = "task number index attempt user job machine agent run submitted began ended seconds".split()
 PAST_FIELDS += "outcome status reason output host".split()
 PAST = [escaped("TASK", "task"), number("ATTEMPT", "attempt"), escaped("USER", "user"), escaped("JOB", "job")]
-PAST += [escaped("MACHINE", "machine"), moment("BEGAN", "began"), moment("ENDED", "ended"), TIME]
+PAST += [escaped("MACHINE", "machine"), moments("BEGAN", "began"), moments("ENDED", "ended"), TIME]
 PAST += [escaped("OUTCOME", "outcome"), number("STATUS", "status"), escaped("REASON", "reason")]
+
+ATTEMPTS = [number("ATTEMPT", "attempt"), escaped("MACHINE", "machine"), escaped("AGENT", "agent")]
+ATTEMPTS += [moments("BEGAN", "began"), moments("ENDED", "ended"), TIME, escaped("OUTCOME", "outcome")]
+ATTEMPTS += [number("STATUS", "status"), escaped("REASON", "reason"), escaped("OUTPUT", "output")]
 
 
 def over_queue(verb: OverQueue, failed: int | None = None) -> Verb:
@@ -92,10 +100,53 @@ def submit(options: argparse.Namespace) -> None:
 def ps(queue: Queue, options: argparse.Namespace) -> None:
     is_all = options.all or options.task  # a task that is named is shown, whatever its state
     states = options.states or (sums.STATES if is_all else None)
-    tasks = queue.tasks(options.user, options.job, states, options.task or None)
+    tasks = queue.tasks(options.user, options.job, states, options.task or None, options.start)
     rows = [plain(task) for task in tasks]
-    show(options, {"tasks": rows}, lambda _: table(rows))
+    show(options, {"tasks": rows}, lambda _: table_with_starts(rows) if options.start else table(rows))
     tell_more(tasks)
+
+
+def why(queue: Queue, options: argparse.Namespace) -> None:
+    lines = queue.why(options.task)
+    show(options, {"task": options.task, "text": lines}, lambda _: "".join(f"{printable(line)}\n" for line in lines))
+
+
+def show_task(queue: Queue, options: argparse.Namespace) -> None:
+    """Print a task's state, the specification of its submission, and its attempts."""
+    detail = queue.task(options.task)
+    attempts = [plain(attempt) for attempt in detail.attempts]
+    answer: Row = {"task": plain(detail.task), "spec": detail.spec, "attempts": attempts}
+    show(
+        options,
+        answer,
+        lambda _: "".join(detail_lines(detail)) + (tables.table(ATTEMPTS, attempts) if attempts else ""),
+    )
+
+
+def detail_lines(detail: Detail) -> Iterator[str]:
+    task, spec = detail.task, {name: value for name, value in detail.spec.items() if value not in (None, 0, [], {})}
+    if at_once := spec.pop("at_once", None):
+        spec["array"] = f"{spec_text('array', spec['array'])}%{at_once}"
+    row: Row = {"task": task.task, "firm's name": task.firm, "state": task.state, "reason": task.reason}
+    row |= {"user": task.user, "job": task.job, "weight": task.weight, "submitted": moment(task.submitted)}
+    row |= {"ended": moment(task.ended) if task.has_ended else "", "status": task.status}
+    row |= {"command": shlex.join(spec.pop("command")), **{name: spec_text(name, spec[name]) for name in spec}}
+    width = max(map(len, row))
+    for name, value in row.items():
+        if value not in (None, ""):
+            yield f"{name:>{width}}: {printable(str(value))}\n"
+    yield "\n" if detail.attempts else ""
+
+
+def spec_text(name: str, value: Any) -> str:
+    """A field of a specification, as the command line has it."""
+    if name == "env":
+        return shlex.join(f"{key}={text}" for key, text in value.items())
+    if name == "array" and isinstance(value, list):
+        return "-".join(map(str, value))
+    if isinstance(value, list):
+        return ",".join(map(str, value))
+    return tables.duration(value) if name in ("time", "grace") else str(value)
 
 
 def tell_more(rows: Rows[Any]) -> None:
@@ -115,20 +166,22 @@ def change(verb: str, queue: Queue, options: argparse.Namespace) -> None:
     jobs = [word for word in options.what if not forms.is_task(word)] + options.job
     if not tasks and not jobs:
         raise Failure(USAGE, "name a task or a job")
-    tell_change(options, getattr(queue, verb)(tasks, jobs))
+    tell_change(options, getattr(queue, verb)(tasks, jobs), tasks + jobs)
 
 
 def change_machines(verb: str, queue: Queue, options: argparse.Namespace) -> None:
-    tell_change(options, getattr(queue, verb)(options.machine))
+    tell_change(options, getattr(queue, verb)(options.machine), options.machine)
 
 
-def tell_change(options: argparse.Namespace, done: Change) -> None:
-    """Prints what is changed; fails where nothing is, and there was something to change."""
+def tell_change(options: argparse.Namespace, done: Change, named: Sequence[str]) -> None:
+    """Print what is changed; fail if nothing is, or if a name of the command line is not."""
     show(options, plain(done), lambda _: "".join(f"{name}\n" for name in done.changed))
     for name, why in {} if options.json else done.unchanged.items():
         print(f"firmctl: {name}: {printable(why)}", file=sys.stderr)
     if done.unchanged and not done.changed:
         raise Failure(NOT_THERE, "nothing is changed")
+    if left := [name for name in named if name in done.unchanged]:
+        raise Failure(NOT_THERE, f"not changed: {', '.join(map(printable, left))}")
 
 
 def wait(queue: Queue, options: argparse.Namespace) -> None:
@@ -220,6 +273,7 @@ def of_queue(name: str) -> Verb:
 
 SHARED: dict[str, OverQueue] = {
     "status": queue_status,
+    "why": why,
     "machines": list_of("machines", MACHINES, Queue.machines),
     "jobs": list_of("jobs", JOBS, Queue.jobs),
 }
@@ -233,7 +287,7 @@ def add_verbs(verbs: Verbs) -> None:
         ("hold", "keep tasks from starting; those that run go on"),
         ("release", "let held tasks start"),
     ]:
-        command = verbs.add(verb, over_queue(partial(change, verb)), told)
+        command = verbs.add(verb, over_queue(partial(change, verb)), told, CHANGE_NOTE)
         command.add_argument("what", nargs="*", metavar="TASK|JOB", help="a task, a submission, or a job")
         command.add_argument("--job", action="append", default=[], metavar="NAME", help="a job of any name")
     for verb, told in [
@@ -253,12 +307,16 @@ def add_work(verbs: Verbs) -> None:
     submitting.add_options(command)
     command.add_argument("command", nargs="+", metavar="COMMAND", help="what is run, behind --")
     command.set_defaults(file=None, patience=PATIENCE)
-    command = verbs.add("ps", over_queue(ps), "tasks that have not ended, each with its state and the reason for it")
+    told = "tasks that have not ended, each with its state and the reason for it"
+    command = verbs.add("ps", over_queue(ps), told, START_NOTE)
     command.add_argument("task", nargs="*", metavar="TASK", help="only these")
     command.add_argument("--all", action="store_true", help="those that have ended too")
+    command.add_argument("--start", action="store_true", help="add an estimate of when each waiting task starts")
     told = "only in these states"
     command.add_argument("--states", type=forms.names_of, metavar="STATE,..", help=told)
     add_choice(command)
+    command = verbs.add("show", over_queue(show_task), "a task's state, the options of its submission, its attempts")
+    command.add_argument("task", metavar="TASK")
     command = verbs.add("logs", over_queue(logs), "what a task has written")
     command.add_argument("task", metavar="TASK")
     command.add_argument("-f", "--follow", action="store_true", help="go on until it has ended")

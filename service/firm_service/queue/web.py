@@ -29,6 +29,7 @@ from .requests import Requests
 from .rows import Submission
 from .shares import Share, Shares
 from .states import ENDED, State
+from .sums import WITH_PROCESS
 from .users import Operators, User
 
 MOST_SUBMISSIONS, MOST_TASKS, TAIL_BYTES = 100, 200, 8_192
@@ -148,12 +149,18 @@ class QueueSite(Pages):
         reader = self._reader(request)
         found = await self._parts.requests.answer(reader, {"ask": "status"})
         found |= await self._parts.requests.answer(reader, {"ask": "machines"})
-        states = [State.STARTING, State.RUNNING, State.ENDING, State.FAILED, State.TIMEOUT, State.LOST]
-        asked = {"ask": "tasks", "states": [*states], "limit": MOST_TASKS}
-        found |= await self._parts.requests.answer(reader, asked)
-        found["tasks"] = [{**row, "command": None} for row in found["tasks"]]  # not shown, and perhaps long
+        found["tasks"] = await self._tasks(reader)
         found["submissions"] = self._submissions(reader.user)
         return web.json_response({**found, "day": asdict(await self._day(reader.user))})
+
+    async def _tasks(self, reader: Reader) -> list[Json]:
+        """Return what has a process, and then what failed, the last first."""
+        asked = {"ask": "tasks", "states": [*WITH_PROCESS], "limit": MOST_TASKS}
+        rows: list[Json] = (await self._parts.requests.answer(reader, asked))["tasks"]
+        asked |= {"states": [State.FAILED, State.TIMEOUT, State.LOST], "limit": MOST_TASKS - len(rows)}
+        failed = (await self._parts.requests.answer(reader, asked))["tasks"]
+        rows += sorted(failed, key=lambda row: -(row["ended"] or 0.0))
+        return [{**row, "command": None} for row in rows]  # not shown, and perhaps long
 
     async def log(self, request: web.Request) -> web.Response:
         """The end of what a task has written."""

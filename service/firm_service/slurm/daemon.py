@@ -17,6 +17,7 @@ from ..address import Address
 from ..agent_table import TableError
 from ..command_line import NOT_THERE, USAGE, Failure, Verbs
 from ..daemons import notify
+from ..version import add_version
 from . import status
 from .bridge import Bridge, lock_alone
 from .check import Conf, advice, remarks, slot_memory
@@ -132,6 +133,7 @@ def parser() -> argparse.ArgumentParser:
         epilog=EXITS,
         formatter_class=argparse.RawDescriptionHelpFormatter,
     )
+    add_version(found)
     common = argparse.ArgumentParser(add_help=False)
     common.add_argument("--table", type=Path, required=True, metavar="FILE", help="partitions and tenants (TOML)")
     verbs = Verbs(found.add_subparsers(metavar="COMMAND", required=True), common)
