@@ -328,13 +328,7 @@ impl Side {
     // Looks at the links of the hub or the outside, up to a new place that leads on, which it returns; `NONE` if there
     // is none. Machines and tasks take turns: where thousands of machines lead nowhere, a task often leads on.
     #[inline(always)]
-    fn look_from_afar(
-        &mut self,
-        view: &View,
-        other: &Side,
-        walk: &mut Walk,
-        work: &mut Work,
-    ) -> u32
+    fn look_from_afar(&mut self, view: &View, other: &Side, walk: &mut Walk, work: &mut Work) -> u32
         ensures most { work.new.most ≡ work.old.most }
     {
         let is_tasks_turn = self.is_tasks_turn;
