@@ -29,7 +29,7 @@ from agent_kit import AGENT, LIMIT_SECONDS, SOON_SECONDS, SSH, WAITS_FOR_GO
 from agent_kit import Case, children, command, connections_to, is_there, words_of
 from firm_service.agent import BEGUN_AT_A_TIME
 from harness.checks import Check, Missed, Skipped, Suite, print_skipped, require, run_script, run_suites
-from harness.deployed import SERVICE, Follower, feed
+from harness.deployed import SERVICE, Follower, feed, supervisor
 from harness.files import write_program
 from harness.ports import free_port
 from harness.program import ROOT, add_program
@@ -275,7 +275,7 @@ def reused_number() -> None:
             with contextlib.suppress(ProcessLookupError):  # a sleep of the task's that ends meanwhile
                 os.kill(pid, signal.SIGKILL)
         file = case.run_folder("a", 1) / "process"
-        file.write_text(json.dumps({**json.loads(file.read_text()), "pid": stranger.pid}))
+        file.write_text(supervisor.sealed({**supervisor.opened(file.read_text()), "pid": stranger.pid}))
         case.firmd.round("move a m1 m2")
         case.start("--until-empty")
         case.go("a")
@@ -652,7 +652,7 @@ def faulty_starts() -> None:
         case.table("", {})
         (case.folder / "state").mkdir()
         for text, words in {
-            "no event\n": "line 1 is not an event",
+            'no event\n{"event": "state", "name": "n"}\n': "line 1 is not an event",
             '{"event": "end", "run": 7}\n': "line 1 doesn't follow",
         }.items():
             (case.folder / "state/events.jsonl").write_text(text)

@@ -17,6 +17,7 @@ from harness.files import write_program
 from queue_stand_in import LONG_SECONDS, Cluster
 
 LEASE_SECONDS = 6.0  # where a run is to end with it
+LATER_FIELDS = {"ssh", "runs", "sum", "at"}  # of events, that older agents did not write
 # What an agent has after its start over ssh to `host` as m1.
 LISTS = {
     "this host alone": {"m2": ""},
@@ -62,7 +63,7 @@ def not_asked_for(machines: dict[str, str], is_older: bool = False) -> None:
 def forget_places(path: Path) -> None:
     """Leaves out of events what an older agent has not recorded."""
     rows = [json.loads(line) for line in path.read_text().splitlines()]
-    kept = [{name: value for name, value in row.items() if name not in ("ssh", "runs")} for row in rows]
+    kept = [{name: value for name, value in row.items() if name not in LATER_FIELDS} for row in rows]
     path.write_text("".join(json.dumps(row) + "\n" for row in kept))
 
 

@@ -27,13 +27,16 @@ from pathlib import Path
 import queue_access
 import queue_agents
 import queue_bounds
+import queue_damage
 import queue_gaps
 import queue_hostile
 import queue_kills
+import queue_parts
 import queue_tables
 from harness import program
 from harness.checks import Check, Skipped, Suite, require, run_script, run_suites
 from harness.deployed import SERVICE, columns
+from firm_service.queue.seals import seal
 from queue_kit import FOREVER, Case, Client, Firmd, Json, Setup, Size, asked_of_firm, claim_place, numbers
 
 CHECKS_AT_A_TIME = 8  # they mostly wait
@@ -321,24 +324,26 @@ def small_arena(setup: Setup) -> None:
 
 
 def foreign(setup: Setup) -> None:
-    """Tasks that others submit to firm are shown as foreign and left alone; what they take away is given again."""
+    """Tasks that others submit to firm are shown as foreign and left alone; what they take away is given again. Their
+    names are not given, and stand in the way of no other."""
     with setup.case().start() as case, case.client() as client, case.firmd.client() as firm:
-        for line in ("job j 3", "task j mine", "task j 77", "task j 78-1"):
+        others = ["mine", "1", "3-1", "99999999"]
+        for line in ("job j 3", *(f"task j {name}" for name in others)):
             require(firm.ask(f"{case.tenant} {line}".encode()).endswith(b" ok"), line)
-        case.until(lambda: len(client.ask("tasks")) == 3, "they are shown")
+        case.until(lambda: len(client.ask("tasks")) == 4, "they are shown")
         rows = client.ask("tasks")
         require({row["state"] for row in rows} == {"foreign"} and client.states() == {}, rows)
-        number = client.submit(*FOREVER)
-        require(number == 79, f"{number}: a name that firm has was given again")
-        case.until(lambda: "79" in case.firm_tasks(), "it is in firm")
+        made = [client.submit(*FOREVER) for _ in range(2)]
+        require(made == [2, 4], f"{made}: a name that firm has was given again, or others were left out")
+        case.until(lambda: "4" in case.firm_tasks(), "it is in firm")
         case.agent("a1", m1=8)
-        case.until_state(client, "79", "running")
-        firm.ask(f"{case.tenant} done 79".encode())
-        case.until(lambda: len(client.ask("task", task="79")["attempts"]) == 2, "it runs again")
-        case.until_state(client, "79", "running")
+        case.until_state(client, "4", "running")
+        firm.ask(f"{case.tenant} done 4".encode())
+        case.until(lambda: len(client.ask("task", task="4")["attempts"]) == 2, "it runs again")
+        case.until_state(client, "4", "running")
         case.world.require_single()
-        client.ask("cancel", tasks=["79"])
-        case.until(lambda: case.firm_tasks() == ["mine", "77", "78-1"], "the others stay")
+        client.ask("cancel", tasks=["2", "4"])
+        case.until(lambda: case.firm_tasks() == others, "the others stay")
         require("j" in jobs_of(case), "the other's job stays")
         require(any("not the queue's" in line for line in client.ask("status")["differences"]), "a difference")
 
@@ -545,21 +550,24 @@ def damage(setup: Setup) -> None:
             case.refuses(5, told)
             require(path.read_bytes() == text, f"{told}: it was changed")
         path.write_bytes(good)
-        changed(path, "PRAGMA user_version = 4")
-        case.refuses(5, "version 4")
+        changed(path, "PRAGMA user_version = 5")
+        case.refuses(5, "version 5")
         if not setup.is_quick:
-            changed(path, "PRAGMA user_version = 3", "UPDATE meta SET value = 'x' WHERE name = 'id'")
+            changed(path, "PRAGMA user_version = 4", *of_meta("id", "x"))
             case.refuses(5, "another state")
-            changed(path, "UPDATE meta SET value = 'beta' WHERE name = 'tenant'")
+            changed(path, *of_meta("tenant", "beta"))
             case.refuses(4, "the tenant beta")
         path.unlink()
         case.refuses(5, "is missing")
         path.write_bytes(good)
-        older = ["ALTER TABLE attempt DROP COLUMN runs_as", "DROP TABLE spent", "PRAGMA user_version = 1"]
-        changed(path, *older)
         case.start()
         with case.client() as client:
             require(client.ask("status")["last_number"] == 2 and len(client.ask("tasks")) == 2_001, "all is there")
+
+
+def of_meta(name: str, value: str) -> list[str]:
+    """A change of a row of `meta`, with its checksum."""
+    return [f"UPDATE meta SET (value, sum) = ('{value}', {seal('meta', (name, value))}) WHERE name = '{name}'"]
 
 
 def changed(path: Path, *words: str) -> None:
@@ -726,11 +734,12 @@ CHECKS: tuple[Callable[[Setup], None], ...] = (
     *queue_hostile.CHECKS,
     *queue_bounds.CHECKS,
     *queue_gaps.CHECKS,
+    *queue_damage.CHECKS,
 )
 
 
 def checks(setup: Setup) -> dict[str, Check]:
-    found: dict[str, Check] = {**queue_tables.CHECKS, **queue_gaps.TABLES}
+    found: dict[str, Check] = {**queue_tables.CHECKS, **queue_gaps.TABLES, **queue_parts.CHECKS}
     for check in CHECKS:
         found[check.__name__.replace("_", " ")] = partial(check, setup)
     found["kills"] = partial(

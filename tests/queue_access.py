@@ -62,12 +62,20 @@ def users(setup: Setup) -> None:
 
 
 def heavy(setup: Setup) -> None:
-    """Users other than operators have no job above --most-weight, nor go on with one of before; by default they may."""
+    """Users other than operators have no job above --most-weight, nor go on with one of before; by default none is
+    heavier than usual."""
     if os.geteuid():
         raise Skipped("it needs root, to be other users")
     submit: Json = {"ask": "submit", "command": FOREVER, "dir": "/tmp", "hold": True}
     with setup.case("--socket-mode=666") as case:
         case.folder.chmod(0o755)
+        case.start()
+        answers = as_user(ANN, case.socket, [{**submit, "weight": 11}, {**submit, "job": f"u{BOB}"}])
+        require([answer["error"] for answer in answers] == ["weight-too-large", "not-yours"], answers)
+        (found,) = as_user(BOB, case.socket, [submit])
+        require(found["submit"] == {"number": 1, "first": None, "last": None, "count": 1, "job": f"u{BOB}"}, found)
+        case.kill()
+        case.options.append("--most-weight=1000000")
         case.start()
         (found,) = as_user(ANN, case.socket, [{**submit, "job": "old", "weight": 1_000_000}])
         require("submit" in found, found)
@@ -86,7 +94,7 @@ def heavy(setup: Setup) -> None:
             root.submit(*FOREVER, hold=True, job="c", weight=1_000_000)
             root.submit(*FOREVER, hold=True)
             weights = {row["job"]: row["weight"] for row in root.ask("jobs")}
-        require(weights == {"old": 1_000_000, "a": 5, f"u{ANN}": 5, "c": 1_000_000, "root": 10}, weights)
+        require(weights == {f"u{BOB}": 10, "old": 1_000_000, "a": 5, f"u{ANN}": 5, "c": 1_000_000, "root": 10}, weights)
 
 
 def faulty(setup: Setup) -> None:
@@ -227,11 +235,11 @@ def files_of_the_queue(setup: Setup) -> None:
 def begin(case: Case, ask: Callable[[list[Json]], list[Json]], name: str, outputs: dict[str, str]) -> None:
     """Has an agent, on a machine of its own, begin tasks of a user with these outputs, by their names."""
     agent: Json = {"ask": "register", "agent": name, "id": name, "machines": {f"m{name}": len(outputs)}}
-    ask([{**agent, "runs": []}])
     for task, output in outputs.items():
         submit = {"ask": "submit", "command": FOREVER, "dir": "/tmp", "output": str(case.folder / output)}
         (answer,) = as_user(ANN, case.socket, [submit])
         require(str(answer["submit"]["number"]) == task, answer)
+    ask([{**agent, "runs": []}])
     runs: list[Json] = []
     for number, task in enumerate(outputs):
         place = claim_place(case, task)

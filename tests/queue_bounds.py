@@ -6,14 +6,13 @@ import asyncio
 import json
 import os
 import pty
-import socket
 import sqlite3
 import sys
 import threading
 import time
 from collections.abc import Callable, Iterator
 from concurrent.futures import ThreadPoolExecutor
-from contextlib import closing, contextmanager
+from contextlib import contextmanager
 from functools import partial
 from pathlib import Path
 from typing import Any
@@ -454,18 +453,30 @@ def meanwhile(setup: Setup) -> None:
             require(rows == ["1", "2"], rows)
 
 
+# A queue that has given all numbers but the last two.
+LAST = """\
+import sys
+from firm_service.queue import daemon, queries
+load = queries.load
+def late(connection):
+    kept = load(connection)
+    kept.rows.last_number = max(kept.rows.last_number, 99_999_997)
+    return kept
+queries.load = late
+sys.exit(daemon.main(sys.argv[1:]))
+"""
+
+
 def numbers(setup: Setup) -> None:
     """Once the numbers of submissions are used up, what comes is refused, and what is there goes on."""
-    with setup.case().start() as case, case.client() as client:
-        client.submit(*FOREVER, hold=True)
-        with closing(socket.socket(socket.AF_UNIX)) as lines:
-            lines.connect(str(case.doors.lines))
-            lines.sendall(f"{case.tenant} job others 1\n{case.tenant} task others 99999998\n".encode())
-            case.until(lambda: "99999998" in case.firm_tasks(), "it is in firm")
-            case.until(lambda: client.ask("status")["last_number"] == 99_999_998, "it is known")
-        require(client.submit(*FOREVER, hold=True) == 99_999_999, "the last one")
-        require("used up" in client.refused("queue-full", "submit", command=["x"], dir="/")["text"], "why")
-        require(client.ask("cancel", tasks=["99999999", "1"])["changed"] == ["99999999", "1"], "both are there")
+    with setup.case() as case:
+        case.words = [sys.executable, "-c", LAST, "run"]
+        with case.start().client() as client:
+            made = [client.submit(*FOREVER, hold=True) for _ in range(2)]
+            require(made == [99_999_998, 99_999_999], made)
+            require("used up" in client.refused("queue-full", "submit", command=["x"], dir="/")["text"], "why")
+            changed = client.ask("cancel", tasks=["99999999", "99999998"])["changed"]
+            require(changed == ["99999999", "99999998"], "both are there")
 
 
 # A queue whose wall clock goes a day forth and back with each look.

@@ -14,6 +14,7 @@ from harness.checks import require
 from harness.deployed import Book, Doors, Limits, backlog, books, bound
 from firm_service import view, viewed
 from firm_service.queue import giving
+from firmd_kit import Client as FirmdClient
 from queue_kit import FOREVER, Case, Json, Setup, Size, asked_of_firm, claim_place
 from queue_tables import Plans
 
@@ -207,5 +208,36 @@ def told_waits() -> None:
         require((found := plans.lines(most=1)) == expected, f"weight {weight}: {found}")
 
 
-CHECKS = (kept_ends, kept_alone, first_round, ages, lost_reply)
+def admitted_again(setup: Setup) -> None:
+    """The tasks of a tenant that is retired and comes again are given to it, whatever it had answered before."""
+    with setup.case_alone().start() as case, case.client() as client, FirmdClient(case.firmd.operator) as operator:
+        case.agent("a1", m1=4)
+        client.submit(*FOREVER, array=[1, 3])
+        case.until(lambda: len(case.world.running()) == 3, "three run")
+        require(operator.ask(b"+ retire alpha") == b"+ ok retired alpha", "retired")
+        admission = f"+ admit {Size(churn=50_000).row('alpha')}"
+        require(operator.ask(admission.encode()) == b"+ ok admitted alpha", "admitted")
+        case.until(lambda: len(case.world.processes) == 6 and len(case.world.running()) == 3, "they run again")
+        client.submit(*FOREVER)
+        case.until(lambda: len(case.world.running()) == 4, "so does a further one")
+        case.world.require_single()
+
+
+def late_agent(setup: Setup) -> None:
+    """Nothing waits for an agent that is away while another has room."""
+    with setup.case("--lease=300").start() as case, case.client() as client:
+        first = case.agent("a1", m1=4)
+        case.agent("a2", m2=4)
+        case.until(lambda: len(asked_of_firm(case, "machines")) == 2, "both are there")
+        first.kill()
+        client.submit(*FOREVER, array=[1, 4])
+        case.until(lambda: len(case.world.running()) == 4, "all run on the other one")
+        require({process.machine for process in case.world.processes} == {"m2"}, case.world.processes)
+        case.agent("a1", first.disk, m1=4)
+        client.submit(*FOREVER, array=[1, 4])
+        case.until(lambda: len(case.world.running()) == 8, "it has them again once it is back")
+        case.world.require_single()
+
+
+CHECKS = (kept_ends, kept_alone, first_round, ages, lost_reply, admitted_again, late_agent)
 TABLES: dict[str, Callable[[], None]] = {"rounds that age": rounds_that_age, "told waits": told_waits}

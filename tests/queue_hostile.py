@@ -356,14 +356,15 @@ def late_disk(setup: Setup) -> None:
 def unread(setup: Setup) -> None:
     """While the database can't be read for a moment, what needs it is refused or waits, and the queue serves on."""
     with setup.case().start_failing() as case, case.client() as client:
+        client.submit(*FOREVER, hold=True)
         with case.failure("looks"), closing(socket.socket(socket.AF_UNIX)) as lines:
             lines.connect(str(case.doors.lines))
-            others = f"{case.tenant} job others 1\n{case.tenant} task others 77\n"  # a name that may be the queue's own
+            others = f"{case.tenant} job others 1\n{case.tenant} task others 1-7\n"  # it may be the queue's own
             lines.sendall(others.encode())
             case.until(lambda: "cannot read" in case.said(), "it is told")
             client.refused("not-read", "history")
-            require(client.submit(*FOREVER) == 78, "the next number")
-        case.until(lambda: "78" in case.firm_tasks(), "it is in firm")
+            require(client.submit(*FOREVER) == 2, "the next number")
+        case.until(lambda: "2" in case.firm_tasks(), "it is in firm")
         require(client.ask("history") == [], "it is read again")
         case.stop()
 

@@ -49,9 +49,9 @@ def failing_load(connection):
     found = load(connection)
     time.sleep(0.3)
     return found
-def failing_read(store, query):
+def failing_read(store, *query):
     require_no("looks")
-    return read(store, query)
+    return read(store, *query)
 Store._commit, Store._read, queries.load = failing_commit, failing_read, failing_load
 sys.exit(daemon.main(sys.argv[1:]))
 """

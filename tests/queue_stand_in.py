@@ -320,8 +320,10 @@ class Cluster(Case):
         """Waits until an agent has written that the queue has heard of all that it is to be told."""
 
         def is_written() -> bool:
-            events = [json.loads(line)["event"] for line in self.text(f"{name}/events.jsonl").splitlines()]
-            last = max(place for place, event in enumerate(events, 1) if event in agent_events.TOLD)
-            return bool(json.loads(self.text(f"{name}/{agent_events.CURSOR}") or '{"count": 0}')["count"] == last)
+            rows = [json.loads(line) for line in self.text(f"{name}/events.jsonl").splitlines()]
+            cursor = json.loads(self.text(f"{name}/{agent_events.CURSOR}") or '{"count": 0}')["count"]
+            first = rows[0].get("count", 1) if rows else 1  # a shortened file counts on from there
+            told = [place for place, row in enumerate(rows, first) if row["event"] in agent_events.TOLD]
+            return bool(rows and cursor == max(told, default=cursor))
 
         self.until(is_written, f"{name} has written what is acknowledged")

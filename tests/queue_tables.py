@@ -141,6 +141,7 @@ class Plans:
         submission.add_tasks(False)
         for task in submission.tasks.values():
             self.tasks[task.name] = task
+            task.since = self.book.rounds
             self.backlog.put(task)
 
     def has(self, name: str, job: str, machine: str | None = None) -> None:
@@ -159,6 +160,27 @@ def plans_in_order() -> None:
     expected = ["job heavy 9", "task heavy 2-1 m1", "job light 1", "task light 1-1", "task light 1-2"]
     require((found := plans.lines()) == expected, found)
     require(plans.lines() == [] and len(plans.backlog) == 0, "given twice")
+
+
+def plans_in_age() -> None:
+    """What has waited here is as much heavier as it would be in firm: of a stream of heavier tasks, those that come too
+    late go behind it, and it takes the place of one that waits there."""
+    plans = Plans()
+    plans.want(1, "light", 10)
+    plans.book.rounds = 5
+    plans.want(2, "heavy", 14)
+    plans.want(3, "later", 15)
+    plans.want(4, "heaviest", 16)
+    given = [line.split()[2] for line in plans.lines() if line.startswith("task")]
+    require(given == ["4-1", "1-1", "3-1", "2-1"], given)
+    plans = Plans()
+    plans.want(1, "light", 10)
+    plans.book.rounds, plans.book.jobs["heavy"] = 3, 12
+    plans.want(2, "heavy", 12)
+    plans.backlog.drop(plans.tasks[Name(2, 1)])
+    plans.has("2-1", "heavy")
+    plans.book.tasks["2-1"].waits_from = 3
+    require((found := plans.lines(most=1)) == ["done 2-1", "job light 10", "task light 1-1"], found)
 
 
 def plans_in_room() -> None:
@@ -344,6 +366,7 @@ CHECKS: dict[str, Callable[[], None]] = {
     "limits of arrays": limits_of_arrays,
     "rests": rests,
     "plans in order": plans_in_order,
+    "plans in age": plans_in_age,
     "plans in room": plans_in_room,
     "plans of heavier": plans_of_heavier,
     "plans of machines": plans_of_machines,

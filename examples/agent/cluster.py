@@ -94,8 +94,7 @@ class Cluster:
     def events(self) -> Iterator[Event]:
         """The agent's events so far."""
         path = self.folder / "agent-state" / "events.jsonl"
-        text = path.read_bytes() if path.exists() else b""
-        return events_of(text[: text.rfind(b"\n") + 1])
+        return iter([event for event, _ in events_of(path)] if path.exists() else [])
 
     def running(self) -> dict[int, Event]:
         """The runs that have a process and are not asked to end: what their starts say, and since when they run."""

@@ -442,7 +442,7 @@ def run_by_queue(options: Options, queue: Path, name: str, machines: str) -> int
         tell(ERROR, f"{machines}: {error}")
         return Exit.TABLE
     try:
-        state = State(options.state, name, is_patient=True, observer=source.events.heard)
+        state = State(options.state, name, is_patient=True, observer=source.events)
     except (OSError, StateError) as error:
         tell(ERROR, f"{options.state}: {error}; what runs goes on")
         return Exit.STATE

@@ -9,9 +9,10 @@ from contextlib import suppress
 from functools import partial
 from itertools import islice
 from pathlib import Path
+from typing import NamedTuple
 
 from .agent_file import Aside, Work
-from .agent_state import DROPPED, ENDS, Event, Key, Run
+from .agent_state import DROPPED, ENDS, Event, Key, Observer, Run
 from .agent_words import checked_event
 from .logs import WARNING
 from .queue import reports
@@ -27,7 +28,16 @@ def status_of_shell(status: int) -> int:
     return 128 - status if status < 0 else status
 
 
-class Events:
+class Untold(NamedTuple):
+    """An event of a run that is to be reported to the queue."""
+
+    place: int  # among all events
+    told: Event  # as the queue takes it
+    run: Run
+    event: Event
+
+
+class Events(Observer):
     """Hears all events of a history, from its first, and keeps those that are to be told."""
 
     def __init__(self, folder: Path) -> None:
@@ -37,18 +47,29 @@ class Events:
             found = json.loads(self._path.read_text())
             self._cursor = (str(found["name"]), int(found["count"]))
         self._aside = Aside()  # the disk may hang
-        self.untold: deque[tuple[int, Event, Run]] = deque()
+        self.untold: deque[Untold] = deque()
         self.are_there = asyncio.Event()
+
+    def begin(self) -> None:
+        self._count, self._name = 0, ""
+        self.untold.clear()
+        self.are_there.clear()
+
+    def pending(self) -> list[tuple[Event, Run]]:
+        return [(untold.event, untold.run) for untold in self.untold]
+
+    def count_before(self, events: int) -> int:
+        return self._cursor[1] - events
 
     def heard(self, event: Event, run: Run | None) -> None:
         self._count += 1
         kind = event["event"]
         if kind == "state":
-            self._name = event["name"]
+            self._name, self._count = event["name"], event.get("count", self._count)
         if run is None or kind not in TOLD:
             return
         if self._cursor[0] != self._name or self._cursor[1] < self._count:
-            self.untold.append((self._count, told_of(event, run), run))
+            self.untold.append(Untold(self._count, told_of(event, run), run, event))
             self.are_there.set()
 
     def check(self) -> None:
@@ -60,7 +81,7 @@ class Events:
         """At most so many, and no more than a request has room for."""
         found: list[Event] = []
         size = 0
-        for _, event, _ in islice(self.untold, most):
+        for _, event, _, _ in islice(self.untold, most):
             size += len(json.dumps(event))
             if found and size > MOST_EVENT_BYTES:
                 break
@@ -69,18 +90,18 @@ class Events:
 
     def refused(self, why: str) -> None:
         """The queue does not take the first: it is told in the plainest form, and where it has that, not at all."""
-        count, event, run = self.untold[0]
+        place, event, run, recorded = self.untold[0]
         run.tell(f": the queue does not take the event {event['event']}: {why}", WARNING)
         plain = plain_of(event)
         if event == plain:
             self.acknowledged(1)
         else:
-            self.untold[0] = (count, plain, run)
+            self.untold[0] = Untold(place, plain, run, recorded)
 
     def acknowledged(self, count: int) -> None:
         """The queue has written that many."""
         for _ in range(min(count, len(self.untold))):
-            self._cursor = (self._name, self.untold.popleft()[0])
+            self._cursor = (self._name, self.untold.popleft().place)
         if not self.untold:
             self.are_there.clear()
         self._aside.begin(Work(partial(self._keep, *self._cursor)))
@@ -93,11 +114,11 @@ class Events:
 
     def ended(self) -> list[Run]:
         """Runs of which the end is not acknowledged."""
-        return [run for _, event, run in self.untold if event["event"] in ENDS]
+        return [run for _, event, run, _ in self.untold if event["event"] in ENDS]
 
     def has_end_of(self, key: Key) -> bool:
         """Whether an end of a task's run is not acknowledged."""
-        return any(run.key == key and event["event"] in ENDS for _, event, run in self.untold)
+        return any(run.key == key and event["event"] in ENDS for _, event, run, _ in self.untold)
 
 
 def told_of(event: Event, run: Run) -> Event:

@@ -3,13 +3,19 @@
 from __future__ import annotations
 
 import errno
+import json
 import os
 import threading
-from collections.abc import Callable
+from collections.abc import Callable, Sequence
 from contextlib import suppress
 from pathlib import Path
 from queue import SimpleQueue
+from typing import Any
+from zlib import crc32
 
+from .files import replace_synced
+
+AT = "at"  # the field of a place
 HANG_SECONDS = 5.0  # for which a work is waited for
 
 
@@ -17,20 +23,42 @@ class Hangs(OSError):
     """A disk gives no answer; once it does, it may have done what it was asked."""
 
 
+def sealed(row: dict[str, Any], at: int) -> bytes:
+    """Return a line with a checksum and the place where its write began: everything before that place was synced."""
+    text = json.dumps({**row, AT: at})
+    return b'%b, "sum": "%08x"}\n' % (text[:-1].encode(), crc32(text.encode()))
+
+
+def opened(line: bytes) -> dict[str, Any] | None:
+    """Return the event of a line, None if it is damaged. An older agent's line has no checksum."""
+    try:
+        row = json.loads(line)
+        if not isinstance(row, dict) or not line.endswith(b"\n"):
+            return None
+        wanted = row.pop("sum", None)
+    except ValueError:
+        return None
+    if wanted is not None and wanted != f"{crc32(json.dumps(row).encode()):08x}":
+        return None
+    return row
+
+
 class EventFile:
     """Whole writes that the disk has taken count, and nothing is written behind the remains of others."""
 
     def __init__(self, path: Path, size: int) -> None:
         """So much of it counts. Raises OSError where the rest can't be taken back."""
+        self._path = path
         self._file = os.open(path, os.O_RDWR | os.O_CREAT | os.O_APPEND, 0o644)
-        self._size = size
+        self.size, self._last = size, 0  # and that of the last write
         self._has_more = True  # perhaps, which is taken back first
         self._take_back()
 
-    def write(self, text: bytes) -> None:
-        """Raises OSError where the text is not on the disk; nothing of it counts then."""
+    def write(self, rows: Sequence[dict[str, Any]]) -> None:
+        """Write rows. Raise OSError, with no row written, if the disk fails."""
         self._take_back()
         self._has_more = True
+        text = b"".join(sealed(row, self.size) for row in rows)
         left = memoryview(text)
         try:
             while left:
@@ -40,26 +68,35 @@ class EventFile:
             with suppress(OSError):
                 self._take_back()
             raise
-        self._size += len(text)
+        self.size += len(text)
+        self._last = len(text)
         self._has_more = False
 
-    def drop(self, size: int) -> None:
-        """Takes back the last write, of this size."""
-        self._size -= size
-        self._has_more = True
+    def drop(self) -> None:
+        """Discard the last write."""
+        self.size -= self._last
+        self._last, self._has_more = 0, True
         with suppress(OSError):
             self._take_back()
 
+    def replace(self, rows: Sequence[dict[str, Any]]) -> None:
+        """Replace the file's rows. Raise OSError, with the file unchanged, if the disk fails."""
+        text = b"".join(sealed(row, 0) for row in rows)
+        replace_synced(self._path, text, 0o644)
+        file = os.open(self._path, os.O_RDWR | os.O_APPEND)
+        os.close(self._file)
+        self._file, self.size, self._last, self._has_more = file, len(text), 0, False
+
     def _take_back(self) -> None:
         if self._has_more:
-            os.ftruncate(self._file, self._size)
+            os.ftruncate(self._file, self.size)
             self._has_more = False
 
 
 class Work:
     """A thread's work, which may hang."""
 
-    def __init__(self, do: Callable[[], None], undo: Callable[[], None] = lambda: None) -> None:
+    def __init__(self, do: Callable[[], object], undo: Callable[[], None] = lambda: None) -> None:
         self._do, self._undo = do, undo
         self._lock, self._is_over = threading.Lock(), threading.Event()
         self._is_dropped = False

@@ -7,15 +7,19 @@ import os
 from collections import deque
 from collections.abc import Coroutine, Sequence
 from contextlib import suppress
+from functools import partial
 from pathlib import Path
 from typing import TYPE_CHECKING, Any
 
 from .agent_answers import Said, shown
 from .agent_events import MOST_AT_A_TIME, Events
+from .agent_file import Aside
+from .agent_file import Work as Chore
 from .agent_lease import Lease, clock
 from .agent_link import Link, Refusal
 from .agent_machines import Machines
 from .agent_state import Event, Key, Run
+from .agent_sweep import HISTORY_SECONDS, SWEEP_SECONDS, sweep
 from .agent_table import Machine, Work
 from .books import Task
 from .files import require_kept
@@ -143,6 +147,8 @@ class QueueSource:
         self._finished: dict[Key, float] = {}  # since when tasks have done their work and firm still has them
         self._beats: deque[float] = deque()  # of the link, that are not known to have been heard: when they were sent
         self._told = ""  # why the queue can't be used, as last told
+        self._history = HISTORY_SECONDS  # of ended tasks, in seconds, that the queue keeps
+        self._aside = Aside()  # sweeps: the disk may hang
 
     @property
     def has_here(self) -> bool:
@@ -159,7 +165,7 @@ class QueueSource:
     def begin(self, agent: Agent) -> list[Coroutine[Any, Any, None]]:
         self.agent = agent
         self.events.check()
-        return [self._serve(), self._find_room()]
+        return [self._serve(), self._find_room(), self._sweep_for_ever()]
 
     # The connection
 
@@ -234,6 +240,8 @@ class QueueSource:
                     continue
                 self._tell_once(f"the queue does not take this agent: {refusal}")
             await asyncio.sleep(REGISTER_SECONDS)
+        if said.has("history"):
+            self._history = said.seconds("history") or HISTORY_SECONDS
         ending = said.all_tokens("end")  # what is to end may run elsewhere: where it is not known, nothing has a lease
         is_new = link is not self._link
         if is_new:
@@ -342,6 +350,15 @@ class QueueSource:
                     self.agent.changed.set()
                 except OSError:
                     continue
+
+    async def _sweep_for_ever(self) -> None:
+        """Remove folders of old runs from time to time. A run that begins meanwhile is too young."""
+        while True:
+            runs = [*self.agent.history.runs.values(), *(run for _, run in self.events.pending())]
+            needed = frozenset(run.folder or run.name for run in runs)
+            folder, seconds = self.agent.state.folder / "runs", self._history
+            self._aside.begin(Chore(partial(sweep, folder, needed, seconds)))
+            await asyncio.sleep(SWEEP_SECONDS)
 
     # What the queue tells of itself
 

@@ -6,22 +6,27 @@ the events alone are lost.
 
 A run's folder is `runs/NAME/TASK.RUN`: NAME is drawn with the first event, RUN counts all runs. It may be removed once
 the run has ended.
+
+Each event has a checksum and the place where its write began. So a start tells damage from a write that a power cut
+has torn: no later write follows a torn one. An agent of the queue rewrites its file once that has grown, with open runs
+and unacknowledged events alone.
 """
 
 from __future__ import annotations
 
 import fcntl
 import json
+import re
 import secrets
 import time
-from collections.abc import Callable, Iterator, Sequence
+from collections.abc import Iterator, Sequence
 from contextlib import suppress
 from dataclasses import asdict, dataclass, field
 from functools import partial
 from pathlib import Path
 from typing import Any, NamedTuple
 
-from .agent_file import HANG_SECONDS, Aside, EventFile, Hangs, Work
+from .agent_file import AT, HANG_SECONDS, Aside, EventFile, Hangs, Work, opened
 from .files import open_lock, require_own
 from .logs import INFO, WARNING, tell
 
@@ -32,6 +37,10 @@ ENDS = frozenset({"ended", "lost", "void", DROPPED})  # events that end a run
 HERE = ""  # the host that is this one
 TOKEN_BYTES = 16  # so many that no two of the runs of all times are the same
 FIRST = frozenset({"state", "start", "keep"})  # events on which something rests that a restart would not find out
+
+MAX_FILE = 2**20  # bytes of the file before it is shortened; more if so much is needed
+
+_BEGINNING = re.compile(rb'\{"(?:time|event)":')  # of an event
 
 Event = dict[str, Any]
 
@@ -77,9 +86,6 @@ class Run:
         tell(level, f"{self}{text}", run=self.number, task=self.key.task, job=self.job, machine=self.machine)
 
 
-Observer = Callable[[Event, Run | None], None]  # of each event, with its run as it is before that
-
-
 @dataclass
 class Tally:
     """What became of a task's runs so far."""
@@ -101,12 +107,16 @@ class History:
     def take(self, event: Event) -> None:
         kind = event["event"]
         if kind == "state":
-            self.name = event["name"]
+            self.name, self.last_run = event["name"], event.get("last_run", self.last_run)
+        elif kind == "tally":
+            key = Key(event["task"], event["line"], event["state"])
+            self.tallies[key] = Tally(event["failures"], event["lost"], event["finished"])
         elif kind == "start":
-            self.last_run = event["run"]
+            number = event["run"]
+            self.last_run = max(self.last_run, number)
             key = Key(event["task"], event["line"], event.get("state", ""))
             more = (event.get("folder"), event.get("token"), event.get("ssh"), event.get("runs"))
-            self.runs[self.last_run] = Run(self.last_run, key, event["job"], event["machine"], *more)
+            self.runs[number] = Run(number, key, event["job"], event["machine"], *more)
         elif kind == "end":
             self.runs[event["run"]].ends = event["why"]
         elif kind == "keep":
@@ -124,13 +134,53 @@ class History:
             self.tallies[Key(event["task"], event["line"], event.get("state", ""))].finished = True
 
 
-def events_of(text: bytes) -> Iterator[Event]:
-    """The events of a file; raises `StateError` at a faulty line."""
-    for number, line in enumerate(text.splitlines(), 1):
-        try:
-            yield {**json.loads(line)}
-        except (ValueError, TypeError):
-            raise StateError(f"{EVENTS}: line {number} is not an event") from None
+def events_of(path: Path) -> Iterator[tuple[Event, int]]:
+    """Yield the events of a file, each with its end, up to a torn write. Raise `StateError` at damage."""
+    with open(path, "rb") as file:
+        end = 0
+        for number, line in enumerate(file, 1):
+            event = opened(line)
+            if event is None:
+                if is_synced_past(line + file.read(), end):
+                    raise StateError(f"{EVENTS}: line {number} is not an event")
+                return
+            end += len(line)
+            yield event, end
+
+
+def is_synced_past(text: bytes, place: int) -> bool:
+    """Return whether a later event in the text was written once its first one was synced. An older agent's event says
+    nothing of that, and counts as such a one."""
+    for found in _BEGINNING.finditer(text, 1):
+        event = opened(text[found.start() : text.find(b"\n", found.start()) + 1])
+        if event is not None and event.get(AT, place + 1) > place:
+            return True
+    return False
+
+
+def start_of(run: Run) -> Event:
+    """Return the event of a run's start, with the fields that a restart needs."""
+    place: Event = {"job": run.job, "machine": run.machine, "folder": run.folder, "token": run.token}
+    place |= {} if run.host is None else {"ssh": run.host, "runs": run.runs}
+    return {"event": "start", "run": run.number, **asdict(run.key), **place}
+
+
+class Observer:
+    """Follows the events, each with its run as it was before."""
+
+    def begin(self) -> None:
+        """Start again: all events follow."""
+
+    def heard(self, event: Event, run: Run | None) -> None:
+        """Follow an event."""
+
+    def pending(self) -> list[tuple[Event, Run]]:
+        """Return the events that a restart must report again, with their runs."""
+        return []
+
+    def count_before(self, events: int) -> int:
+        """Return the count of dropped events with which these many more are all acknowledged."""
+        return 0
 
 
 class Entry(NamedTuple):
@@ -145,6 +195,7 @@ class Late(NamedTuple):
 
     work: Work
     entries: int  # how many of the first that wait it writes
+    rows: list[Event] | None = None  # of which the file consists then
 
 
 class State:
@@ -154,9 +205,7 @@ class State:
     written, and nobody waits for the disk for long.
     """
 
-    def __init__(
-        self, folder: Path, owner: str, is_patient: bool = False, observer: Observer = lambda event, run: None
-    ) -> None:
+    def __init__(self, folder: Path, owner: str, is_patient: bool = False, observer: Observer | None = None) -> None:
         """Raises `StateError`, and OSError where the folder can't be read and written."""
         require_own(folder)
         folder.mkdir(mode=0o750, parents=True, exist_ok=True)
@@ -167,9 +216,10 @@ class State:
         except BlockingIOError:
             raise StateError(f"{folder}: another agent has it") from None
         self.folder, self.history = folder.absolute(), History()
-        self.is_patient, self.observer = is_patient, observer
+        self.is_patient, self.observer = is_patient, observer or Observer()
         self._unwritten: list[Entry] = []  # that wait for the disk
         self._late: Late | None = None
+        self._max_file = MAX_FILE
         self._aside = Aside()
         (folder / OPEN).mkdir(exist_ok=True)
         unknown = self._replay({path.name for path in (folder / OPEN).iterdir()})
@@ -180,26 +230,26 @@ class State:
         for path in (folder / OPEN).iterdir():
             if path.name not in tokens:
                 path.unlink()
+        self._shorten()
 
     def _replay(self, tokens: set[str]) -> set[str]:
         """Takes in the events of the file; those of the tokens that no start has."""
-        path = self.folder / EVENTS
-        text = path.read_bytes() if path.exists() else b""
-        size = text.rfind(b"\n") + 1  # of a torn last line nothing was done
-        self._file = EventFile(path, size)
-        for number, event in enumerate(events_of(text[:size]), 1):
+        path, size = self.folder / EVENTS, 0
+        for number, (event, end) in enumerate(events_of(path) if path.exists() else (), 1):
             try:
                 self._take(event)
                 if event["event"] == "start":
                     tokens.discard(str(event.get("token")))
             except (KeyError, TypeError) as error:
                 raise StateError(f"{EVENTS}: line {number} doesn't follow from those before: {error!r}") from None
+            size = end
+        self._file = EventFile(path, size)
         return tokens
 
     def _take(self, event: Event) -> None:
         run = self.history.runs.get(event.get("run", 0))
         self.history.take(event)
-        self.observer(event, run)
+        self.observer.heard(event, run)
 
     def _regain(self, tokens: set[str]) -> list[Run]:
         """Takes in runs that are open and are not among the events."""
@@ -241,6 +291,7 @@ class State:
                 tell(WARNING, f"{self.folder}: {error}; nothing is started until it can be written")
             self._unwritten.append(entry)
         self._take(told)
+        self._shorten()
 
     @property
     def waits(self) -> bool:
@@ -269,16 +320,70 @@ class State:
             pass  # it is written anew
         else:
             del self._unwritten[: self._late.entries]
+            self._shortened(self._late.rows)
         self._late = None
+
+    # Shortening
+
+    def _shorten(self) -> None:
+        """Rewrite a long file with the events that a restart needs. Keep the old file if the disk fails."""
+        if not self.is_patient or self.waits or self._file.size <= self._max_file:
+            return
+        rows = self._rows()
+        self._max_file = 2 * self._file.size  # it is tried again then
+        work = self._aside.begin(Work(partial(self._file.replace, rows)))
+        try:
+            work.wait(HANG_SECONDS)
+        except Hangs:
+            self._late = Late(work, 0, rows)
+        except OSError as error:
+            tell(WARNING, f"{self.folder}: {error}; {EVENTS} can't be shortened")
+        else:
+            self._shortened(rows)
+
+    def _rows(self) -> list[Event]:
+        """Return the events that a restart needs."""
+        history, pending = self.history, self.observer.pending()
+        told = {run.number for event, run in pending if event["event"] == "running"}
+        rows: list[Event] = [
+            {"event": "tally", **asdict(key), **asdict(tally)} for key, tally in history.tallies.items()
+        ]
+        for run in history.runs.values():
+            rows.append(start_of(run))
+            if run.has_run and run.number not in told:
+                rows.append({"event": "running", "run": run.number, "host": run.host})
+            rows += [{"event": "end", "run": run.number, "why": run.ends}] if run.ends is not None else []
+            rows += [{"event": "keep", "run": run.number}] if run.is_kept else []
+        first: Event = {"event": "state", "name": history.name, "last_run": history.last_run}
+        rows.insert(0, {**first, "count": self.observer.count_before(len(rows))})
+        begun = set(history.runs)
+        for event, run in pending:
+            if run.number not in begun:
+                begun.add(run.number)
+                rows.append(start_of(run))
+                rows += [{"event": "end", "run": run.number, "why": run.ends}] if run.ends is not None else []
+            rows.append(event)
+        return rows
+
+    def _shortened(self, rows: list[Event] | None) -> None:
+        """Follow a rewrite of the file: its events, and those that wait for the disk, are counted again."""
+        if rows is None:
+            return
+        self._max_file = max(MAX_FILE, 2 * self._file.size)
+        self.observer.begin()
+        history = History()
+        for event in [*rows, *(entry.event for entry in self._unwritten)]:
+            run = history.runs.get(event.get("run", 0))
+            history.take(event)
+            self.observer.heard(event, run)
 
     def _write(self, entries: Sequence[Entry], stays: bool = True) -> None:
         """All of the events are on the disk, or none counts. A late write counts once it is done if it stays, otherwise
         never."""
-        text = b"".join(json.dumps(entry.event).encode() + b"\n" for entry in entries)
-        do = partial(self._write_now, text, tuple(entries))
+        do = partial(self._write_now, tuple(entries))
         if not self.is_patient:
             return do()
-        work = self._aside.begin(Work(do, partial(self._drop, text, tuple(entries))))
+        work = self._aside.begin(Work(do, partial(self._drop, tuple(entries))))
         try:
             work.wait(HANG_SECONDS)
         except Hangs:
@@ -287,23 +392,23 @@ class State:
             self._late = Late(work, len(entries) if stays else 0)
             raise
 
-    def _write_now(self, text: bytes, entries: Sequence[Entry]) -> None:
-        self._file.write(text)
+    def _write_now(self, entries: Sequence[Entry]) -> None:
+        self._file.write([entry.event for entry in entries])
         try:
             for event, note in entries:
                 if note is not None and event["event"] == "start":
                     note.write_text(json.dumps(event))
         except OSError:
-            self._drop(text, entries)
+            self._drop(entries)
             raise
         for event, note in entries:
             if note is not None and event["event"] in ENDS:
                 with suppress(OSError):  # the next start removes it
                     note.unlink()
 
-    def _drop(self, text: bytes, entries: Sequence[Entry]) -> None:
+    def _drop(self, entries: Sequence[Entry]) -> None:
         """Has what was written last count for nothing."""
-        self._file.drop(len(text))
+        self._file.drop()
         for event, note in entries:
             if note is not None and event["event"] == "start":
                 with suppress(OSError):

@@ -12,7 +12,8 @@ A run with a lease ends by itself at the time T, by this machine's CLOCK_BOOTTIM
 `clock` says that clock: at first, which asks for a lease, and after each one.
 
 The run's folder has `output`, `process` (the process that has claimed the run, or null), `lease` (a named pipe, so that
-neither a full disk nor one that hangs lets a run outlive its lease) and, once no process is left, `status`.
+neither a full disk nor one that hangs lets a run outlive its lease) and, once no process is left, `status`. `process`
+and `status` have a checksum: a run of which one is damaged is lost, once nothing is left of it.
 
 Where a cgroup v2 can be written, the command and all that it starts are in one of their own, so that nothing of it
 outlives a killed supervisor unseen. It is made below the supervisor's own cgroup; where that is not this user's to
@@ -31,9 +32,10 @@ import select
 import signal
 import sys
 import time
+import zlib
 from collections.abc import Iterator
 from pathlib import Path
-from typing import NamedTuple  # not dataclasses: their import takes as long as all of this
+from typing import Any, NamedTuple  # not dataclasses: their import takes as long as all of this
 
 # Runs a text of this file that is the first line of standard input, as over ssh. It knows it, to hand it on.
 RUN_FIRST_LINE = (
@@ -54,6 +56,7 @@ FULL_SECONDS = 1.0  # between two tries to write a status on a full disk
 NOT_STARTED = 127  # the shell's own status for a command that is not there
 CANNOT_START = 126  # and for one that is there and can't be run
 LEASE = "lease"
+SUM = "sum"  # the field of a checksum
 SHOWN_LETTERS = 200  # of a word in a message
 SHARED = ("PATH", "LANG", "LC_ALL", "TZ")  # variables of this process that another user's command has too
 
@@ -126,10 +129,8 @@ class Outcome(NamedTuple):
     seconds: float | None = None  # that it took, of a leased run
 
     def text(self) -> str:
-        """As JSON; what only leased runs have is left out for others."""
-        return json.dumps(
-            {name: value for name, value in self._asdict().items() if value is not None or name == "fault"}
-        )
+        """Return it as JSON, without the fields that only leased runs have if they are empty."""
+        return sealed({name: value for name, value in self._asdict().items() if value is not None or name == "fault"})
 
 
 class NotStarted(Exception):
@@ -153,8 +154,33 @@ def short(word: str) -> str:
     return word if len(word) <= SHOWN_LETTERS else f"{word[:SHOWN_LETTERS]} .."
 
 
+def sealed(row: dict[str, Any]) -> str:
+    """Return an object as JSON with a checksum."""
+    return json.dumps({**row, SUM: zlib.crc32(json.dumps(row).encode())})
+
+
+def opened(text: str) -> Any:
+    """Return the object of a sealed text. Raise ValueError if it is damaged. An older supervisor wrote no checksum."""
+    row = json.loads(text)
+    if isinstance(row, dict) and SUM in row:
+        wanted = row.pop(SUM)
+        if zlib.crc32(json.dumps(row).encode()) != wanted:
+            raise ValueError("it has another checksum")
+    return row
+
+
+def sync_names(folder: Path) -> None:
+    """Sync the names in a folder, and its own."""
+    for place in (folder, folder.parent):
+        descriptor = os.open(place, os.O_RDONLY | os.O_DIRECTORY)
+        try:
+            os.fsync(descriptor)
+        finally:
+            os.close(descriptor)
+
+
 def write_whole(path: Path, text: str) -> None:
-    """The file has all of the text, on the disk, or is not there."""
+    """Write a file, synced, whole or not at all. Its name may not be synced."""
     draft = path.with_name(f"{path.name}.{os.getpid()}")
     with open(draft, "w") as file:
         file.write(text)
@@ -174,10 +200,12 @@ class Claim(NamedTuple):
 
     @staticmethod
     def of(folder: Path) -> Claim:
-        """Raises OSError where nobody has claimed the run."""
-        held = json.loads((folder / "process").read_text())
+        """Return the claim of a run. Raise OSError if there is none, ValueError if it is damaged."""
+        held = opened((folder / "process").read_text())
         if held is None:
             return Claim(None)
+        if not isinstance(held, dict) or not all(name in held for name in Process._fields):
+            raise ValueError("it is no claim")
         words = [held.get(name) for name in ("token", "group", "unkept", "output")]
         return Claim(Process(held["pid"], held["start"], held["boot"]), *words)
 
@@ -187,7 +215,7 @@ class Claim(NamedTuple):
         more = {"token": self.token, "group": self.group, "unkept": self.unkept}
         if self.output is not None:
             more["output"] = self.output
-        write_whole(draft, json.dumps(self.process and {**self.process._asdict(), **more}))
+        write_whole(draft, sealed({**self.process._asdict(), **more}) if self.process is not None else "null")
         try:
             os.link(draft, folder / "process")
         except FileExistsError:
@@ -644,7 +672,8 @@ def keep(request: Request, command: str | list[str], group: Group | None, writin
         bounds.close()
     while True:
         try:
-            return write_whole(folder / "status", outcome.text())
+            write_whole(folder / "status", outcome.text())
+            return sync_names(folder)  # otherwise a power cut could run it again
         except FileNotFoundError:  # the folder was removed
             return
         except OSError:  # the disk is full: the work is done and must not be done again
@@ -704,7 +733,11 @@ def end_rivals(folder: Path, own: Path) -> None:
     for run in runs_of(folder.name.rpartition(".")[0], own):
         if run != folder and not (run / "status").exists():
             with contextlib.suppress(FileNotFoundError):  # nothing has claimed it
-                claim = Claim.of(run)
+                try:
+                    claim = Claim.of(run)
+                except ValueError:
+                    end_left(run, None)
+                    continue
                 if claim.process is not None:
                     end_foreign(run, claim.process, claim.group)
 
@@ -751,7 +784,11 @@ def first_lease(orders: Orders) -> float:
 
 def follow(folder: Path, request: Request, orders: Orders) -> None:
     """Tells of a run that is claimed, until it ends or nobody asks any more."""
-    claim = Claim.of(folder)
+    try:
+        claim = Claim.of(folder)
+    except ValueError:
+        end_left(folder, None)
+        return say("lost")
     process = claim.process
     # Another run's token: the agent's events were put back to an older state, and its numbers come again.
     if process is not None and request.token is not None and claim.token != request.token:
@@ -770,8 +807,8 @@ def follow(folder: Path, request: Request, orders: Orders) -> None:
             for line in lines:
                 obey(line, folder, descriptor)
     try:
-        outcome = json.loads((folder / "status").read_text())
-    except FileNotFoundError:
+        outcome = opened((folder / "status").read_text())
+    except (FileNotFoundError, ValueError):
         end_left(folder, claim.group)
         return say("lost")
     say("ended", **outcome, **place)

@@ -243,8 +243,7 @@ def mark(end: str, x: float, y: float) -> str:
 
 def main(folder: Path) -> int:
     try:
-        text = (folder / EVENTS).read_bytes()
-        chart = Chart.of(events_of(text[: text.rfind(b"\n") + 1]))
+        chart = Chart.of(event for event, _ in events_of(folder / EVENTS))
     except (OSError, StateError, KeyError) as error:
         tell(ERROR, f"{folder}: {error}")
         return 4

@@ -27,6 +27,8 @@ LAG_SECONDS = 1.0  # for which a claim waits until the queue has heard what its 
 ASK_AGAIN_SECONDS = 1.0
 BEATS = 3  # in a lease
 SILENT_BEATS = 1.5  # without one for this long an agent is called silent
+AWAY_SECONDS = 5.0  # for an agent to return once its connection has ended, or the queue has begun
+DAY_SECONDS = 86_400.0
 CORDONED, DRAINED, GONE = "cordoned", "drained", "gone"  # marks of machines; gone: no agent names it any more
 
 
@@ -36,6 +38,7 @@ class Terms:
 
     lease: float = 60.0
     margin: float = 10.0  # until its runs are taken for lost, after the lease and the longest grace
+    history: float = 30 * DAY_SECONDS  # seconds for which ended tasks and their outputs are kept
 
     @property
     def beat(self) -> float:
@@ -70,6 +73,8 @@ class Agent:
     is_waiting: bool = False  # with a claim
     runs: frozenset[str] | None = None  # what its last beat said that it has
     since: float | None = None  # when it registered
+    left: float = field(default_factory=boot_time)  # when its last connection ended, by CLOCK_BOOTTIME
+    is_late: bool = False  # at the last look
 
     @property
     def silence(self) -> float:
@@ -141,9 +146,14 @@ class Agents:
         # Firm has no rows of the runs that a cordon has kept, and would give their slots to others.
         kept = Counter(attempt.machine for attempt in self.core.rows.open.values() if attempt.is_kept)
         for agent in self.agents.values():
-            for machine, slots in agent.machines.items() if agent.is_known and not agent.is_lost else ():
+            is_late = self.is_late(agent)
+            for machine, slots in agent.machines.items() if (agent.is_known or is_late) and not agent.is_lost else ():
                 mark = self.core.marks.get(machine)
-                if mark is None and not kept[machine]:
+                if mark is None and is_late and not loads[machine] and not kept[machine]:
+                    unwanted.add(machine)  # no task could begin there; draining a busy one would end its tasks
+                elif not agent.is_known:
+                    continue
+                elif mark is None and not kept[machine]:
                     wanted[machine] = slots
                 elif not loads[machine]:  # cordoned, or with runs that were kept only after the cordon was taken back
                     unwanted.add(machine)
@@ -188,7 +198,8 @@ class Agents:
         keep = [attempt.token for attempt in self.attempts_of(agent) if self._is_to_keep(attempt)]
         self._to_keep.update(keep)
         state = self.core.firm.state
-        return {**self._granted(), "beat": self.terms.beat, "end": ending, "keep": keep, "state": state}
+        more = {"beat": self.terms.beat, "history": self.terms.history}
+        return {**self._granted(), **more, "end": ending, "keep": keep, "state": state}
 
     def _require_single(self, session: Session, name: str, agent_id: str) -> None:
         """Raises `Refused` where an agent with a copy of this one's state is there: each would take the other's runs
@@ -283,7 +294,7 @@ class Agents:
         """Takes in that a connection has ended."""
         for agent in self.agents.values():
             if agent.session is session:
-                agent.session = None
+                agent.session, agent.left = None, boot_time()
                 tell(WARNING, f"{agent.name}: its connection has ended; its runs go on for the lease", agent=agent.name)
 
     def over_at(self, agent: Agent) -> float:
@@ -299,6 +310,9 @@ class Agents:
             self._forget_lease()
             self._lose_unknown()
             for agent in list(self.agents.values()):
+                if agent.is_late != (is_late := self.is_late(agent)):
+                    agent.is_late = is_late
+                    self.core.firm.changed.set()
                 is_over = boot_time() > self.over_at(agent) and not self.core.store.why_bad
                 if is_over and (not agent.is_lost or self.attempts_of(agent)):
                     with suppress(NotWritten):  # the rows are read anew then, and it is found again
@@ -514,6 +528,11 @@ class Agents:
         if state == "up":
             return task.told
         return f"the agent {agent.name} is {state} for {agent.silence:.0f} s"
+
+    def is_late(self, agent: Agent) -> bool:
+        """Return whether an agent is to get no task now. One that has just left may be back at once."""
+        state = self.state_of(agent)
+        return state == "silent" or state == "away" and boot_time() - agent.left > AWAY_SECONDS
 
     def state_of(self, agent: Agent) -> str:
         if agent.is_lost:

@@ -19,11 +19,13 @@ MOST_LINES = 1_000  # to firm at a time
 LONG_HEAP = 1_000  # entries of a backlog, beside twice its members
 
 
-Order = tuple[int, int, int]  # heavy jobs first, then what was submitted first: weight, number and index
+# Round in which the task became ready minus its job's weight, number, index. The order never changes, since each round
+# makes all waiting tasks dearer alike; the oldest of equal tasks comes first.
+Order = tuple[int, int, int]
 
 
 def order_of(task: Task) -> Order:
-    return -task.submission.weight, task.submission.number, task.index
+    return (task.since or 0) - task.submission.weight, task.submission.number, task.index
 
 
 def name_in(order: Order) -> Name:
@@ -35,30 +37,30 @@ class Backlog:
 
     def __init__(self) -> None:
         self._heap: list[Order] = []
-        self._members: set[Order] = set()
+        self._orders: dict[tuple[int, int], Order] = {}  # of its members, by number and index
 
     def __len__(self) -> int:
-        return len(self._members)
+        return len(self._orders)
 
     def __contains__(self, task: Task) -> bool:
-        return order_of(task) in self._members
+        return (task.submission.number, task.index) in self._orders
 
     def put(self, task: Task) -> None:
-        order = order_of(task)
-        if order not in self._members:
-            self._members.add(order)
+        if task not in self:
+            order = order_of(task)
+            self._orders[order[1:]] = order
             heapq.heappush(self._heap, order)
 
     def drop(self, task: Task) -> None:
         """Its entry stays until it comes first, or until such entries are most of a long heap: tasks that are held and
         released behind a first one would add entries without end."""
-        self._members.discard(order_of(task))
-        if len(self._heap) > LONG_HEAP + 2 * len(self._members):
-            self._heap = list(self._members)
+        self._orders.pop((task.submission.number, task.index), None)
+        if len(self._heap) > LONG_HEAP + 2 * len(self._orders):
+            self._heap = list(self._orders.values())
             heapq.heapify(self._heap)
 
     def first(self) -> Order | None:
-        while self._heap and self._heap[0] not in self._members:
+        while self._heap and self._orders.get(self._heap[0][1:]) != self._heap[0]:
             heapq.heappop(self._heap)
         return self._heap[0] if self._heap else None
 
@@ -67,7 +69,7 @@ class Backlog:
         order = self.first()
         if order is not None:
             heapq.heappop(self._heap)
-            self._members.discard(order)
+            del self._orders[order[1:]]
         return order
 
 
@@ -202,16 +204,17 @@ def tasks_of_jobs(book: Book, leaving: Iterable[str] = ()) -> Counter[str]:
 
 class Yielding:
     """The queue's tasks that wait in firm and have no process. The lightest make room for heavier ones, by what firm
-    itself goes by: a job's weight, and the rounds that the task has waited."""
+    itself compares: a job's weight plus the rounds that the task has waited, in the queue or in firm."""
 
     def __init__(self, book: Book, leaving: set[str], task_of: Callable[[Name], Task | None]) -> None:
         self._book, self._leaving, self._task_of = book, leaving, task_of
         self._lightest = min(book.jobs.values(), default=0)
         self._rows: list[tuple[int, int, str]] | None = None  # the lightest last, of these the youngest
 
-    def leave(self, weight: int, needed: Room, missing: int) -> list[str] | None:
-        """Those that leave so that there is room for a task of this weight, and a number of tasks; None where there is
-        none to be made."""
+    def leave(self, first: Order, needed: Room, missing: int) -> list[str] | None:
+        """Those that leave so that there is room for a task, and a number of tasks; None where there is none to be
+        made."""
+        weight = self._book.rounds - first[0]
         if weight <= self._lightest:
             return None
         rows = self._rows = self._found() if self._rows is None else self._rows
@@ -230,7 +233,9 @@ class Yielding:
         for row, task in self._book.tasks.items():
             own = self._own(row) if task.machine is None and row not in self._leaving else None
             if own is not None and own.submission.job == task.job and own.open_attempt is None:
-                found.append((-self._book.jobs[task.job] - self._book.waited(task), task.line, row))
+                since = own.since if own.since is not None else self._book.rounds
+                waited = max(self._book.waited(task), self._book.rounds - since)
+                found.append((-self._book.jobs[task.job] - waited, task.line, row))
         return sorted(found)
 
     def _own(self, row: str) -> Task | None:
@@ -295,4 +300,4 @@ def leave(giving: Giving, free: Room, needed: Room, missing: int) -> list[str] |
     first = giving.backlog.first()
     if giving.yielding is None or first is None:
         return None
-    return giving.yielding.leave(-first[0], lacking, missing)
+    return giving.yielding.leave(first, lacking, missing)

@@ -13,16 +13,17 @@ from collections.abc import Iterable, Mapping, Sequence
 from dataclasses import dataclass
 from types import MappingProxyType
 
+from ..books import Book
 from . import queries, states
 from .array_limits import ArrayLimits
 from .backlog import Backlog
-from .fields import MOST_WEIGHT, Json, Refused, Submit
+from .fields import Json, Refused, Submit
 from .firm import Firm, Heard
-from .rows import MOST_NUMBER, SINGLE, WORD_BYTES, Attempt, Job, Name, Need, Rows, Submission, Task
+from .rows import IDLE, MOST_NUMBER, SINGLE, WORD_BYTES, Attempt, Job, Name, Need, Rows, Submission, Task, idle_state
 from .spending import ATTEMPT_BYTES, NEED_BYTES, Spending, rows_bytes
 from .states import Change, End, Facts, Judgement, Needed, Past, State
 from .store import Store, text_of
-from .users import User, job_of
+from .users import User, job_of, owner_of
 
 MOST_ENDED = 20_000  # tasks that have ended and are kept in memory
 MOST_ENDED_BYTES = 2**26  # that their words take
@@ -40,7 +41,7 @@ class Bounds:
     in_all: int
     array: int  # tasks of one array
     budget: int = 2**30  # bytes of the disk that a user, operators excepted, may take, and again in each week
-    weight: int = MOST_WEIGHT  # of a job of such a user: what is heavy enough preempts all that others run
+    weight: int = DEFAULT_WEIGHT  # of a job of such a user; a heavier job could preempt all tasks of others
 
 
 Forgotten = Mapping[int, Submission]  # such as have ended and are not in memory any more
@@ -71,6 +72,7 @@ class Core:
         self.leaving: set[str] = set()  # rows that firm was told to drop: none of them is begun meanwhile
         self.own_jobs: set[str] = set()  # of the queue's making, in firm
         self.strangers: set[Name] = set()  # rows of firm's with such names that memory does not have
+        self.others: Counter[int] = Counter()  # rows of others in firm whose names have numbers yet to be assigned
         self.marks: dict[str, str] = {}  # machines that are cordoned or drained
         self.answers: dict[tuple[int, str], list[Json]] = {}  # to requests with keys, lately
         self._answered = 0  # submissions that they name
@@ -78,6 +80,7 @@ class Core:
         self.ends = Ends()
         self.ended_attempts: Counter[str] = Counter()  # since the start, by outcome
         self.news = asyncio.Event()  # set once more is heard of firm; there is another one then
+        self._aged_by: Book | None = None  # whose rounds `Task.since` counts
         self._dirty: set[Name] = set()  # tasks of which it is to be looked whether firm should have them
 
     # Memory
@@ -87,7 +90,7 @@ class Core:
         kept = await self.store.read(queries.load)
         last = self.rows.last_number
         self.rows, self.marks = kept.rows, kept.marks
-        self.store.read_anew()
+        self.store.read_anew(kept.point, kept.seals)
         self.rows.last_number = max(self.rows.last_number, last)
         self.spending.load(kept.spent)
         self.answers.clear()
@@ -138,7 +141,8 @@ class Core:
         texts = [text_of(one.spec) for one in asked]
         size = self._require_room(user, asked, texts) + len(key or "")
         jobs: dict[str, Job] = {}
-        labels = {one.label: self.rows.last_number + 1 + at for at, one in enumerate(asked) if one.label is not None}
+        numbers = self._next_numbers(len(asked))
+        labels = {one.label: number for number, one in zip(numbers, asked) if one.label is not None}
         named, made = Named(user, labels, forgotten), []
         for at, one in enumerate(asked):
             try:
@@ -147,8 +151,8 @@ class Core:
                 refusal.more["at"] = at
                 raise
         now = time.time()
-        for text, submission in zip(texts, made):
-            submission.number, submission.sent = self.rows.last_number + 1, now
+        for text, number, submission in zip(texts, numbers, made):
+            submission.number, submission.sent = number, now
             submission.measure(text)
             self.rows.add(submission)
             self.store.add(submission, text)
@@ -160,6 +164,18 @@ class Core:
             self._keep_answer(user, key, [submission.answer() for submission in made])
         self.firm.changed.set()
         return made
+
+    def _next_numbers(self, count: int) -> list[int]:
+        """Return free numbers for submissions. Names of others, as of a queue whose database was lost, occupy some."""
+        found: list[int] = []
+        number = self.rows.last_number
+        while len(found) < count:
+            number += 1
+            if number not in self.others:
+                found.append(number)
+        if number > MOST_NUMBER:
+            raise Refused("queue-full", f"the numbers up to {MOST_NUMBER:,} are used up: begin a new state")
+        return found
 
     def _keep_answer(self, user: User, key: str, answer: list[Json]) -> None:
         self.answers[user.number, key] = answer
@@ -175,8 +191,6 @@ class Core:
         """The bytes of the disk that submissions take; raises `Refused` where they may not."""
         bounds = self.bounds
         count = sum(one.count for one in asked)
-        if self.rows.last_number + len(asked) > MOST_NUMBER:
-            raise Refused("queue-full", f"the numbers up to {MOST_NUMBER:,} are used up: begin a new state")
         for at, one in enumerate(asked):
             if one.count > bounds.array:
                 told = f"{one.count:,} tasks; an array may have {bounds.array:,}"
@@ -226,6 +240,8 @@ class Core:
     def _job(self, user: User, one: Submit, jobs: dict[str, Job]) -> tuple[str, Job]:
         """The job of a submission, and its name."""
         name = one.job or job_of(user.number)
+        if (owner := owner_of(name)) not in (None, user.number):  # the default job of that user
+            raise Refused("not-yours", f"the job {name} is the user {owner}'s")
         found = jobs.get(name) or self.rows.jobs.get(name)
         if found is not None and found.user != user.number and one.job is None:
             name = f"u{user.number}"
@@ -261,6 +277,8 @@ class Core:
         """Looks what these wait for; from then on each end is counted once. Ends what never may begin."""
         for submission in submissions:
             submission.open_needs = sum(self.needed(need).live > 0 for need in submission.needs)
+            if submission.is_blocked and submission.live:
+                self.rows.recount(submission)
         for submission in submissions:
             judgement = states.judge(self.needed(need, forgotten) for need in submission.needs)
             if judgement == Judgement.UNMET and submission.live:
@@ -296,7 +314,7 @@ class Core:
                 continue
             changed.append(task)
             if change != Change.CANCEL:
-                task.is_held = change == Change.HOLD
+                self.rows.hold(task, change == Change.HOLD)
             elif task.open_attempt is None:
                 self.end(task, State.CANCELLED)
             else:
@@ -330,12 +348,24 @@ class Core:
                     continue
                 waiter.open_needs -= 1
                 if not waiter.is_blocked:
+                    self.rows.recount(waiter)
                     self._dirty.update(one.name for one in self.rows.live_of([waiter]))
+
+    def may_drop(self, number: int) -> bool:
+        """Return whether no live task needs a submission."""
+        submission = self.rows.submissions.get(number)
+        return (submission is None or not submission.live) and number not in self.rows.waiters
+
+    def drop(self, number: int, is_large: bool) -> None:
+        """Remove a submission that ended long ago."""
+        self.store.require_good()
+        self.rows.drop(number)
+        self.store.drop(number, is_large)
 
     # Attempts
 
     def begin_attempt(self, task: Task, attempt: Attempt) -> None:
-        task.attempts, task.attempt, task.told = attempt.number, attempt, ""
+        task.attempts, task.attempt, task.told, task.since = attempt.number, attempt, "", None
         self.rows.open[attempt.token] = attempt
         self.store.save_attempt(attempt)
         self.store.save([task])
@@ -374,14 +404,23 @@ class Core:
         self._dirty.update(names)
         self.firm.changed.set()
 
+    def _keep_ages(self) -> None:
+        """Keep the waits of tasks when firm's rows are read again, with another count of rounds."""
+        before, self._aged_by = self._aged_by, self.firm.rows
+        more = (self._aged_by.rounds if self._aged_by is not None else 0) - (before.rounds if before is not None else 0)
+        for task in self.rows.live_tasks() if before is not self._aged_by else ():
+            task.since = task.since + more if task.since is not None else None
+
     def look_at_all(self) -> None:
+        self._keep_ages()
         self.backlog, self.array_limits, self.strangers = Backlog(), ArrayLimits(), set()
         self.unwanted.clear()
+        self.others.clear()
         self._dirty = {task.name for task in self.rows.live_tasks()}
         for row in self.firm.rows.tasks if self.firm.rows is not None else ():
             if (name := Name.of_firm(row)) is not None:
                 self._dirty.add(name)
-                self._skip(name)
+                self._skip(name, 1)
         self.firm.changed.set()
 
     def hear(self, heard: Heard) -> None:
@@ -397,7 +436,7 @@ class Core:
             name = Name.of_firm(row)
             if name is not None:
                 self._dirty.add(name)
-                self._skip(name)
+                self._skip(name, 1 if heard.words[0] == "task" else -1)
         elif heard.words[0] == "close":
             self.own_jobs.discard(heard.words[1])
 
@@ -416,6 +455,8 @@ class Core:
             is_ours = row is not None and row.job == task.submission.job
             if states.is_wanted(self.facts(task)) and (row is None or is_ours):
                 self.unwanted.discard(name.firm)
+                if task.since is None and task.open_attempt is None:
+                    task.since = book.rounds - (book.waited(row) if row is not None else 0)
                 if row is not None:
                     self.array_limits.admit(task)
                     self.backlog.drop(task)
@@ -424,6 +465,7 @@ class Core:
                 continue
             self.array_limits.leave(task)
             self.backlog.drop(task)
+            task.since = None
             if row is not None:
                 self.unwanted.add(name.firm)
             else:
@@ -431,9 +473,12 @@ class Core:
         for task in self.array_limits.next():
             self.backlog.put(task)
 
-    def _skip(self, name: Name) -> None:
-        """Gives no name that firm has from others, as from a queue whose database was lost."""
-        self.rows.last_number = max(self.rows.last_number, name.number)
+    def _skip(self, name: Name, more: int) -> None:
+        """Count the rows of others in firm that occupy a number."""
+        if more > 0 and name.number > self.rows.last_number or name.number in self.others:
+            self.others[name.number] += more
+            if not self.others[name.number]:
+                del self.others[name.number]
 
     async def know_strangers(self) -> None:
         """Finds out whether rows that memory does not have are those of tasks that ended."""
@@ -466,14 +511,46 @@ class Core:
     def counts(self, tasks: Iterable[Task]) -> Counter[str]:
         return Counter(states.state_of(self.facts(task)).value for task in tasks)
 
+    def begun(self) -> dict[Name, Task]:
+        """Return the queue's tasks with a row in firm or a process."""
+        rows, names = self.firm.rows, [attempt.name for attempt in self.rows.open.values()]
+        names += filter(None, map(Name.of_firm, rows.tasks if rows is not None else ()))
+        found = ((name, self.rows.task(name)) for name in names)
+        return {name: task for name, task in found if task is not None and task.is_live}
+
+    def states_of(self, user: int | None) -> Counter[str]:
+        """Return the number of live tasks in each state, of a user or of all."""
+        idle = self.rows.counts if user is None else self.rows.counts_of_user.get(user, [])
+        return self.states_with(idle, [task for task in self.begun().values() if user in (None, task.submission.user)])
+
+    def states_with(self, idle: Sequence[int], begun: Sequence[Task]) -> Counter[str]:
+        """Return the numbers of tasks by state, from those by idle state and the tasks that are not idle."""
+        counts = Counter(dict(zip(IDLE, idle)))
+        counts.subtract(map(idle_state, begun))
+        return counts + self.counts(begun)
+
+    def states_of_submission(self, submission: Submission, begun: Sequence[Task]) -> dict[str, int]:
+        """Return the number of its tasks in each state. It reads counters and the tasks that have begun."""
+        return {**submission.ends, **self.states_with(submission.counted, begun)}
+
+    def oldest(self) -> dict[str, float]:
+        """Return the time of the oldest task's submission, by state."""
+        found, begun = dict[str, float](), Counter[tuple[int, str]]()
+        for task in self.begun().values():
+            state, sent = states.state_of(self.facts(task)).value, task.submission.sent
+            found[state] = min(found.get(state, sent), sent)
+            begun[task.submission.number, idle_state(task)] += 1
+        for place, state in enumerate(IDLE):
+            for number in self.rows.numbers[place]:
+                submission = self.rows.submissions[number]
+                if submission.counted[place] > begun[number, state]:
+                    found[state] = min(found.get(state, submission.sent), submission.sent)
+                    break
+        return found
+
     def ages(self) -> tuple[Counter[str], dict[str, float]]:
         """How many tasks are in each state, and when the oldest of them was submitted."""
-        counts, oldest = Counter[str](), dict[str, float]()
-        for task in self.rows.live_tasks():
-            state = states.state_of(self.facts(task)).value
-            counts[state] += 1
-            oldest[state] = min(oldest.get(state, task.submission.sent), task.submission.sent)
-        return counts, oldest
+        return self.states_of(None), self.oldest()
 
 
 class Ends:

@@ -23,14 +23,15 @@ from ..lock import lock_alone
 from ..relief import Relief
 from ..sockets import Names
 from ..version import add_version
-from .agents import Agents, Terms
-from .core import Bounds, Core
+from .agents import DAY_SECONDS, Agents, Terms
+from .core import DEFAULT_WEIGHT, Bounds, Core
 from .fields import MOST_WEIGHT
 from .firm import Doors, Firm
 from .forms import bytes_of
 from .front import MOST_CLIENTS, TOO_MANY, Front, encode
 from .giving import Giver, Giving
 from .requests import Requests
+from .retention import Retention
 from .store import NotWritten, Store
 from .users import Operators
 
@@ -41,7 +42,7 @@ exit statuses, each but 0 with the reason on standard error:
   1  an error of firm-queue itself
   2  the command line
   4  the state can't be read or written, or another firm-queue has it
-  5  the database is damaged, missing, or of a newer firm-queue
+  5  the state is damaged, older than it was, incomplete, or of a newer firm-queue
   7  the socket can't be had"""
 
 
@@ -88,9 +89,12 @@ class Queue:
     async def run(self) -> None:
         """Serves until it is told to stop; raises the fault that ended it otherwise."""
         await self._store.start()
-        self._store.on_failure = self._failed.set
+        self._store.on_failure, self._store.on_damage = self._failed.set, self._give_up
         try:
-            kept = await self._core.load()
+            try:
+                kept = await self._core.load()
+            except sqlite3.Error as error:
+                raise self._fault or Fault(Exit.STATE, f"cannot read {self._store.path}: {error}") from error
             try:
                 await self._agents.begin(kept)
             except NotWritten as error:
@@ -114,6 +118,7 @@ class Queue:
         notify(b"READY=1")
         works: list[Coroutine[Any, Any, None]] = [self._firm.watch(), giver.serve(), self._agents.expire_for_ever()]
         works += [self._recover_for_ever(), self._know_jobs_for_ever()]
+        works += [Retention(self._core, self._options.terms.history).serve()]
         try:
             async with asyncio.TaskGroup() as group:
                 for work in works:
@@ -235,9 +240,11 @@ def add_bounds(found: argparse._ArgumentGroup) -> None:
     add("--most-in-all", type=most, default=200_000, metavar="N", help=f"of all users ({told}")
     add("--most-in-array", type=most, default=100_000, metavar="N", help=f"of an array ({told}")
     heavy, told_weight = partial(number, 1, MOST_WEIGHT), f"weight of a job, operators' excepted ({told}"
-    add("--most-weight", type=heavy, default=MOST_WEIGHT, metavar="N", help=told_weight)
+    add("--most-weight", type=heavy, default=DEFAULT_WEIGHT, metavar="N", help=told_weight)
     told_budget = "bytes of the disk that a user's work may take, and again in each week (default: 1G)"
     add("--budget", type=size, default=2**30, metavar="SIZE", help=told_budget)
+    told_days = f"for which tasks that have ended, and their outputs, are kept ({told}"
+    add("--keep-history", type=partial(number, 1, 36_500), default=30, metavar="DAYS", help=told_days)
     add("--most-in-firm", type=most, metavar="N", help="tasks in firm at a time (what its arena holds)")
     add("--no-rounds", action="store_true", help="ask for no rounds, where firmd has --after")
     add("--lease", type=timeout, default=60.0, metavar="SECONDS", help=f"after which a silent agent's runs end ({told}")
@@ -255,7 +262,7 @@ def read_options(arguments: list[str] | None) -> tuple[Options, str]:
         Operators(given.operators),
         Bounds(given.most_of_user, given.most_in_all, given.most_in_array, given.budget, given.most_weight),
         Giving(given.most_in_firm, not given.no_rounds),
-        Terms(given.lease, given.margin),
+        Terms(given.lease, given.margin, given.keep_history * DAY_SECONDS),
         given.http,
     )
     return options, given.log_format

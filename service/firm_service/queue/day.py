@@ -5,8 +5,10 @@ from __future__ import annotations
 import sqlite3
 from collections.abc import Iterable
 from dataclasses import dataclass, field
+from itertools import chain
 
-from .queries import fetched
+from .queries import attempt_of
+from .seals import columns
 
 DAY_SECONDS, STEPS = 86_400.0, 96
 
@@ -37,19 +39,22 @@ def peaks(changes: Iterable[tuple[float, int]], step: float) -> list[int]:
 def day_of(connection: sqlite3.Connection, now: float, user: int | None) -> Day:
     """The day until now, of a user, or of all."""
     found, changes = Day(now - DAY_SECONDS, DAY_SECONDS / STEPS, []), list[tuple[float, int]]()
-    words = "SELECT a.claimed, a.began, a.ended, a.seconds, a.outcome FROM attempt a"
-    words += " JOIN submission s ON s.number = a.number"
-    words += " WHERE (a.outcome IS NULL OR a.ended >= ?) AND (? IS NULL OR s.user = ?)"
-    for claimed, began, ended, seconds, outcome in fetched(connection, words, (found.since, user, user)):
-        if outcome is None:  # it has a slot, whether its process is there yet or not
+    of_user = "JOIN submission s ON s.number = a.number WHERE (? IS NULL OR s.user = ?) AND"
+    words = f"SELECT {columns('attempt', 'a')} FROM attempt a {of_user} a.outcome IS NOT NULL AND a.ended >= ?"
+    ended = connection.execute(words, (user, user, found.since))
+    words = f"SELECT {columns('attempt', 'a')} FROM task t JOIN attempt a ON (a.number, a.idx) = (t.number, t.idx)"
+    begun = connection.execute(f"{words} {of_user} t.outcome IS NULL AND a.outcome IS NULL", (user, user))
+    for attempt in map(attempt_of, chain(ended, begun)):
+        began = attempt.began
+        if attempt.outcome is None:  # it has a slot, whether its process is there yet or not
             found.now += 1
-            began = claimed if began is None else began
+            began = attempt.claimed if began is None else began
         else:
-            found.outcomes[outcome] = found.outcomes.get(outcome, 0) + 1
-            found.seconds += seconds or 0.0
+            found.outcomes[attempt.outcome] = found.outcomes.get(attempt.outcome, 0) + 1
+            found.seconds += attempt.seconds or 0.0
         if began is not None:
             changes.append((min(max(began - found.since, 0.0), DAY_SECONDS), 1))
-            if outcome is not None:
-                changes.append((min(max(ended, began) - found.since, DAY_SECONDS), -1))
+            if attempt.ended is not None:
+                changes.append((min(max(attempt.ended, began) - found.since, DAY_SECONDS), -1))
     found.slots = peaks(changes, found.step)
     return found

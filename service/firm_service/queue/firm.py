@@ -158,6 +158,7 @@ class Firm:
         self.reason = "" if is_there else f"firm has no tenant {self.doors.tenant}"
         outcome = reply.split(" ", 2)[-1]
         if reply.startswith("+"):
+            self._answered = 0  # a tenant that is admitted again restarts its count
             return Heard([], "")
         if outcome == "ok" or outcome.startswith("ok evicted") or outcome.startswith("ok round"):
             return Heard(line.split()[1:], outcome)
@@ -169,7 +170,7 @@ class Firm:
         """The replies to lines of the tenant. Raises `Away`; then some may have been obeyed all the same.
 
         Where firmd hangs, its reply is waited for, since it may still obey what it was sent."""
-        loop = asyncio.get_running_loop()
+        loop, rows = asyncio.get_running_loop(), self.rows
         self._owed_since = loop.time()
         silence = loop.call_later(SILENT_SECONDS, lambda: tell(WARNING, f"{self.doors.lines}: {self.trouble}"))
         try:
@@ -181,7 +182,8 @@ class Firm:
             for _ in lines:
                 text = (await reader.readline()).decode()
                 replies.append(Reply.read(text.strip(), self.doors.tenant))
-            self._answered = replies[-1].number
+            if self.rows is rows:  # otherwise the tenant was retired meanwhile
+                self._answered = replies[-1].number
             return replies
         except (OSError, ValueError) as error:
             self.close()

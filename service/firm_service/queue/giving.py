@@ -21,8 +21,9 @@ from .store import NotWritten
 AWAY_SECONDS = 0.2  # until firmd is tried again
 FULL_SECONDS = 1.0  # until a task is given again after firm had no room for it, or the disk failed
 WORN_SECONDS = 10.0
-# A round is asked for this multiple of the duration of the one before it after that, and at most this long.
-ROUND_SHARE, LONGEST_ROUND_PAUSE = 2, 0.2
+# Pause between rounds: this multiple of the last round's duration, up to the second. A round that makes waits dearer
+# comes after at least the third: with ten rounds a second, a weight of 10 would be worth one second.
+ROUND_SHARE, LONGEST_ROUND_PAUSE, WAIT_SECONDS = 2, 0.2, 1.0
 # While tasks wait beside free slots, a round makes each wait dearer by 1, until one is worth a slot. It is asked for so
 # long after the last one: with spread 1, the last of 64 slots is worth a wait within some five minutes. As each is a
 # line of the journal and of the tenant's life, they come to an end: none is asked for where no wait is worth a slot
@@ -130,10 +131,11 @@ class Giver:
             self._age(book)
         may_wait = book.waiting or kinds & {Kind.TASK, Kind.DRAIN}
         if self._giving.asks_rounds and self._is_round_due and may_wait and not is_closed(lines):
-            if self._loop.time() >= self._next_round:
+            left = self._next_round + (WAIT_SECONDS if has_waited(book) else 0.0) - self._loop.time()
+            if left <= 0:
                 lines.append(Line(Kind.ROUND, ""))
             else:
-                self._again(self._next_round - self._loop.time())
+                self._again(left)
         return lines
 
     def _age(self, book: Book) -> None:
@@ -222,6 +224,11 @@ def rounds_to_start(book: Book) -> float:
             missing = max(0, cost - book.jobs[task.job] - waited)
             found = min(found, missing if missing <= limits.patience - waited else inf)
     return found
+
+
+def has_waited(book: Book) -> bool:
+    """Return whether a round left a task waiting: a further one makes its wait dearer."""
+    return bool(book.waiting) and any(book.waited(task) for task in book.tasks.values())
 
 
 def is_closed(lines: list[Line]) -> bool:

@@ -19,7 +19,7 @@ from .core import Core
 from .fields import Json
 from .rows import SINGLE, Attempt, Name, Submission, Task
 from .states import State
-from .users import name_of
+from .users import User, name_of
 
 VERSION = 1  # of the protocol
 MOST_SHOWN, MOST_LOOKED_AT = 4, 16  # needs that a reason names, and among which they are looked for
@@ -185,16 +185,16 @@ class Lists:
             for agent in self._agents.agents.values()
         ]
 
-    def jobs(self, may_see: Iterable[Task]) -> list[Json]:
-        """Jobs with the states of those tasks."""
-        by_job: dict[str, list[Task]] = {}
-        for task in may_see:
-            by_job.setdefault(task.submission.job, []).append(task)
+    def jobs(self, user: User) -> list[Json]:
+        """Return the jobs that a user may see, with the states of their tasks."""
+        begun: dict[str, list[Task]] = {}
+        for task in self._core.begun().values():
+            begun.setdefault(task.submission.job, []).append(task)
         found = []
-        for job, tasks in by_job.items():
-            first = tasks[0].submission
-            row: Json = {"job": job, "user": name_of(first.user), "weight": first.weight}
-            found.append({**row, "states": dict(self._core.counts(tasks))})
+        for name, job in self._core.rows.jobs.items():
+            if user.may_see(job.user):
+                states = self._core.states_with(job.counts, begun.get(name, []))
+                found.append({"job": name, "user": name_of(job.user), "weight": job.weight, "states": dict(states)})
         return found
 
     def firm(self) -> Json:

@@ -8,21 +8,41 @@ import sys
 from collections.abc import Callable, Collection, Iterable, Sequence
 from contextlib import closing
 from dataclasses import dataclass
-from typing import Any
+from typing import Any, NamedTuple
 
 from .rows import SINGLE, Attempt, Name, Need, Rows, Spec, Submission, Task
+from .seals import COLUMNS, WIDTHS, Damaged, columns, opened, require_words
 
 AT_ONCE = 500  # numbers in one query
 IS_OWN = "(? IS NULL OR user = ?)"  # a submission is this user's, where one is named
 WORDLESS = Spec((), "/")
 Finder = Callable[[sqlite3.Connection, Sequence[int], int | None, int], list[Submission]]
-# The last attempt of a task, beside it.
+# Tasks, each with its last attempt beside it.
+TASKS = f"SELECT {columns('task', 't')}, {columns('attempt', 'a')} FROM task t"
 LAST = "LEFT JOIN attempt a ON (a.number, a.idx, a.attempt) = (t.number, t.idx, t.attempts)"
-TASK = "t.idx, is_held, is_cancelled, failures, lost, t.outcome, t.status, t.reason, t.ended, t.attempts"
-ATTEMPT = (
-    "a.number, a.idx, a.attempt, agent, agent_id, machine, run, token, claimed, began, a.ended, seconds, a.outcome,"
-    " a.status, a.reason, output, host, is_kept, runs_as"
-)
+COMMIT = "commit"  # the row of `meta` that each commit writes
+HISTORY = "number index user job submitted attempt agent machine run began ended seconds outcome status reason".split()
+HISTORY += ["output", "host"]
+# Columns of the attempt of a task that ended without one.
+UNBEGUN = dict.fromkeys("agent machine run began seconds output host".split(), None) | {"attempt": 0}
+DROPPING = "dropping"  # row of `meta`: the number of a submission whose rows are being removed
+MODULUS = 2**64  # of sums of checksums
+
+
+class Point(NamedTuple):
+    """Summary of the database as of a commit."""
+
+    number: int  # of commits
+    last: int  # the highest number of a submission
+    live: int  # sum of the checksums of live tasks and attempts, of agents, marks and the lease
+
+    @classmethod
+    def read(cls, text: str) -> Point:
+        number, last, live = text.split()
+        return cls(int(number), int(last), int(live, 16))
+
+    def text(self) -> str:
+        return f"{self.number} {self.last} {self.live % MODULUS:x}"
 
 
 @dataclass(frozen=True, slots=True)
@@ -34,6 +54,8 @@ class Kept:
     marks: dict[str, str]  # of machines
     spent: dict[int, tuple[float, float]]  # bytes, and when, by user
     lease: float | None  # the longest that agents may have; None: of an older queue, or a new database
+    point: Point
+    seals: dict[tuple[str, str], int]  # checksums of agents, marks and the lease, by table and key
 
 
 @dataclass(frozen=True, slots=True)
@@ -50,19 +72,45 @@ class Asked:
 
 
 def load(connection: sqlite3.Connection) -> Kept:
-    """All that has not ended. What it waits for and has ended did so as it should: otherwise it had ended with that."""
-    rows = Rows(fetched(connection, "SELECT COALESCE(MAX(number), 0) FROM submission")[0][0])
+    """Return the submissions with live tasks. Their needs that ended were met: otherwise the tasks had ended too. Raise
+    `Damaged` at a missing or changed row."""
+    point = point_of(connection)
+    rows = Rows(point.last)
     live = {number for (number,) in fetched(connection, "SELECT DISTINCT number FROM task WHERE outcome IS NULL")}
     for submission in submissions(connection, live):
         rows.add(submission)
-    agents = {
-        name: (agent_id, json.loads(machines))
-        for name, agent_id, machines in fetched(connection, "SELECT name, id, machines FROM agent")
-    }
-    spent = {user: (size, at) for user, size, at in fetched(connection, "SELECT user, bytes, at FROM spent")}
-    marks = dict(fetched(connection, "SELECT machine, mark FROM mark"))
-    leases = [float(value) for (value,) in fetched(connection, "SELECT value FROM meta WHERE name = 'lease'")]
-    return Kept(rows, agents, marks, spent, leases[0] if leases else None)
+    small = {table: table_of(connection, table) for table in ("agent", "mark", "spent")}
+    lease = value_of(connection, "lease")
+    seals = {(table, row[0]): row[-1] for table in ("agent", "mark") for row in small[table]}
+    seals |= {("meta", row[0]): row[-1] for row in table_of(connection, "meta") if row[0] == "lease"}
+    sums = [task.seal for task in rows.live_tasks()] + [attempt.seal for attempt in rows.open.values()]
+    if (sum(sums) + sum(seals.values()) - point.live) % MODULUS:
+        raise Damaged("what has not ended is not all there, or as it was at the last commit")
+    agents = {name: (agent_id, json.loads(machines)) for name, agent_id, machines, _ in small["agent"]}
+    spent = {user: (size, at) for user, size, at, _ in small["spent"]}
+    marks = {machine: mark for machine, mark, _ in small["mark"]}
+    return Kept(rows, agents, marks, spent, None if lease is None else float(lease), point, seals)
+
+
+def table_of(connection: sqlite3.Connection, table: str) -> list[Any]:
+    """Return all rows of a small table, with their checksums."""
+    found = fetched(connection, f"SELECT {columns(table)} FROM {table}")
+    for row in found:
+        opened(table, row)
+    return found
+
+
+def value_of(connection: sqlite3.Connection, name: str) -> str | None:
+    """Return a value of `meta`, if any."""
+    found = fetched(connection, f"SELECT {columns('meta')} FROM meta WHERE name = ?", (name,))
+    return str(opened("meta", found[0])[1]) if found else None
+
+
+def point_of(connection: sqlite3.Connection) -> Point:
+    text = value_of(connection, COMMIT)
+    if text is None:
+        raise Damaged(f"{COMMIT} is missing in meta")
+    return Point.read(text)
 
 
 def submissions(
@@ -71,42 +119,74 @@ def submissions(
     """Submissions, of a user or of all, with their tasks, up to a number or all, and the last attempt of each."""
     wanted, found = sorted(numbers), list[Submission]()
     for at in range(0, len(wanted), AT_ONCE):
-        by_number, texts = dict[int, Submission](), dict[int, str]()
+        by_number, texts, counts = dict[int, Submission](), dict[int, str](), dict[int, int]()
         marks, values = marks_of(wanted[at : at + AT_ONCE]), [*wanted[at : at + AT_ONCE], owner, owner]
-        words = f"SELECT number, user, job, weight, spec, first, last, sent FROM submission WHERE number IN ({marks})"
-        for number, user, job, weight, spec, *rest in fetched(connection, f"{words} AND {IS_OWN}", values):
-            by_number[number], texts[number] = Submission(number, user, job, weight, spec_of(spec), *rest), spec
+        words = f"SELECT {columns('submission')}, spec FROM submission WHERE number IN ({marks})"
+        for row in fetched(connection, f"{words} AND {IS_OWN}", values):
+            submission = whole_of(row)
+            by_number[submission.number], texts[submission.number] = submission, row[-1]
+            counts[submission.number] = row[7]
         some = list(by_number)
         marks = marks_of(some)
-        words = f"SELECT number, needs, idx, is_ok FROM need WHERE number IN ({marks}) ORDER BY number, place"
         needed: dict[int, list[Need]] = {}
-        for number, needs, index, is_ok in fetched(connection, words, some):
+        words = f"SELECT {columns('need')} FROM need WHERE number IN ({marks}) ORDER BY number, place"
+        for row in fetched(connection, words, some):
+            number, _, needs, index, is_ok = opened("need", row)
             needed.setdefault(number, []).append(Need(needs, index, bool(is_ok)))
         for number, submission in by_number.items():
             submission.needs = tuple(needed.get(number, ()))
+            if len(submission.needs) != counts[number]:
+                raise Damaged(f"the submission {number} has {len(submission.needs)} of {counts[number]} needs")
             submission.measure(texts[number])
-        words = f"SELECT t.number, {TASK}, {ATTEMPT} FROM task t {LAST} WHERE t.number IN ({marks})"
-        for number, *row in fetched(connection, f"{words} ORDER BY 1, 2 LIMIT ?", [*some, most]):
-            add_task(by_number[number], row)
+        left = most
+        for row in fetched(
+            connection, f"{TASKS} {LAST} WHERE t.number IN ({marks}) ORDER BY 1, 2 LIMIT ?", [*some, most]
+        ):
+            add_task(by_number[row[0]], row)
+            left -= 1
+        if left:
+            for submission in by_number.values():
+                require_all(submission, len(submission.tasks))
         found += by_number.values()
     return found
 
 
+def head_of(row: tuple[Any, ...]) -> Submission:
+    """Return a submission without words, needs and tasks."""
+    number, user, job, weight, first, last, sent, _, _ = opened("submission", row)
+    return Submission(number, user, job, weight, WORDLESS, first, last, sent)
+
+
+def whole_of(row: tuple[Any, ...]) -> Submission:
+    """Return a submission with its words, the row's last column."""
+    submission = head_of(row)
+    require_words(submission.number, row[-1], row[8])
+    submission.spec = spec_of(row[-1])
+    return submission
+
+
+def require_all(submission: Submission, tasks: int) -> None:
+    """Raise `Damaged` unless a submission, whose words are known, has this number of tasks."""
+    if tasks != len(submission.indices):
+        raise Damaged(f"the submission {submission.number} has {tasks} of {len(submission.indices)} tasks")
+
+
 def forgotten(connection: sqlite3.Connection, numbers: Sequence[int], owner: int | None, most: int) -> list[Submission]:
     """The same of such as have ended, without what may take much: words, needs and attempts."""
-    words = f"SELECT number, user, job, weight, first, last, sent FROM submission WHERE number IN ({marks_of(numbers)})"
-    found = {
-        number: Submission(number, user, job, weight, WORDLESS, *rest)
-        for number, user, job, weight, *rest in fetched(connection, f"{words} AND {IS_OWN}", [*numbers, owner, owner])
-    }
-    # One that was submitted since memory was looked at may have tasks that have not ended: memory has it by now.
-    words = f"SELECT number, idx, outcome, status FROM task WHERE number IN ({marks_of(found)})"
-    words += " AND outcome IS NOT NULL LIMIT ?"
+    words = f"SELECT {columns('submission')} FROM submission WHERE number IN ({marks_of(numbers)}) AND {IS_OWN}"
+    read = map(head_of, fetched(connection, words, [*numbers, owner, owner]))
+    found = {submission.number: submission for submission in read}
+    words = f"SELECT {columns('task')} FROM task WHERE number IN ({marks_of(found)}) LIMIT ?"
+    left = most
     with closing(connection.execute(words, [*found, most])) as rows:
-        for number, index, outcome, status in rows:
-            submission = found[number]
-            submission.tasks[index] = Task(submission, index, outcome=sys.intern(outcome), status=status)
-            submission.failed += outcome != "done"
+        for row in rows:
+            left -= 1
+            task = task_of(found[row[0]], row)
+            if task.outcome is None:  # submitted meanwhile: memory has it
+                continue
+            task.outcome = sys.intern(task.outcome)
+            task.submission.tasks[task.index] = task
+            task.submission.failed += task.outcome != "done"
     return list(found.values())
 
 
@@ -114,24 +194,38 @@ def marks_of(values: Collection[int]) -> str:
     return ", ".join("?" * len(values))
 
 
-def add_task(submission: Submission, row: Sequence[Any]) -> None:
-    index, is_held, is_cancelled, failures, lost, outcome, status, reason, ended, attempts, *rest = row
+def add_task(submission: Submission, row: tuple[Any, ...]) -> None:
+    """Add a task with its last attempt, from a row of `TASKS`."""
+    task = task_of(submission, row)
+    rest = row[WIDTHS["task"] :]
+    if rest[0] is not None:
+        task.attempt = attempt_of(rest)
+    elif task.attempts:
+        raise Damaged(f"the attempt {task.attempts} of {task.name} is missing")
+    submission.tasks[task.index] = task
+    submission.live += task.is_live
+    submission.failed += task.outcome not in (None, "done")
+    if task.outcome is not None:
+        submission.ends[task.outcome] = submission.ends.get(task.outcome, 0) + 1
+
+
+def task_of(submission: Submission, row: tuple[Any, ...]) -> Task:
+    _, index, is_held, is_cancelled, failures, lost, outcome, status, reason, ended, attempts = opened("task", row)
     task = Task(submission, index, bool(is_held), bool(is_cancelled), failures, lost, outcome, status, reason, ended)
-    task.attempts, task.attempt = attempts, attempt_of(rest) if rest[0] is not None else None
-    submission.tasks[index] = task
-    submission.live += outcome is None
-    submission.failed += outcome not in (None, "done")
+    task.attempts, task.seal = attempts, row[WIDTHS["task"] - 1] if outcome is None else 0
+    return task
 
 
-def attempt_of(row: Sequence[Any]) -> Attempt:
-    number, index, *rest = row
+def attempt_of(row: tuple[Any, ...]) -> Attempt:
+    number, index, *rest = opened("attempt", row)
     found = Attempt(Name(number, index), *rest)
     found.is_kept = bool(found.is_kept)
+    found.seal = row[WIDTHS["attempt"] - 1] if found.is_open else 0
     return found
 
 
 def attempts_of(connection: sqlite3.Connection, name: Name) -> list[Attempt]:
-    words = f"SELECT {ATTEMPT} FROM attempt a WHERE a.number = ? AND a.idx = ? ORDER BY a.attempt"
+    words = f"SELECT {columns('attempt')} FROM attempt WHERE number = ? AND idx = ? ORDER BY attempt"
     return [attempt_of(row) for row in fetched(connection, words, (name.number, name.index))]
 
 
@@ -143,8 +237,8 @@ def spec_of(text: str) -> Spec:
 
 def answer_to(connection: sqlite3.Connection, user: int, key: str) -> Any:
     """What was answered to a request with this key; None where there was none."""
-    found = fetched(connection, "SELECT answer FROM request WHERE user = ? AND key = ?", (user, key))
-    return json.loads(found[0][0]) if found else None
+    found = fetched(connection, f"SELECT {columns('request')} FROM request WHERE user = ? AND key = ?", (user, key))
+    return json.loads(opened("request", found[0])[-1]) if found else None
 
 
 def ended(connection: sqlite3.Connection, asked: Asked, most_bytes: int) -> tuple[list[Submission], int]:
@@ -152,13 +246,13 @@ def ended(connection: sqlite3.Connection, asked: Asked, most_bytes: int) -> tupl
     how many tasks are left out."""
     conditions, values = conditions_of(asked, "t.ended")
     marks = ", ".join("?" * len(asked.outcomes))
-    words = f"SELECT t.number, {TASK}, {ATTEMPT} FROM task t JOIN submission s ON s.number = t.number {LAST}"
-    words += f" WHERE t.outcome IN ({marks}){conditions} ORDER BY t.number DESC, t.idx DESC LIMIT ?"
-    rows = fetched(connection, words, [*asked.outcomes, *values, asked.limit])
+    words = f"{TASKS} JOIN submission s ON s.number = t.number {LAST} WHERE t.outcome IN ({marks}){conditions}"
+    order = "ORDER BY t.number DESC, t.idx DESC LIMIT ?"
+    rows = fetched(connection, f"{words} {order}", [*asked.outcomes, *values, asked.limit])
     found = bare(connection, {row[0] for row in rows}, most_bytes)
     shown = [row for row in rows if row[0] in found]
-    for number, *row in reversed(shown):
-        add_task(found[number], row)
+    for row in reversed(shown):
+        add_task(found[row[0]], row)
     return list(found.values()), len(rows) - len(shown)
 
 
@@ -167,38 +261,90 @@ def bare(connection: sqlite3.Connection, numbers: Iterable[int], most_bytes: int
     wanted, found, size = sorted(numbers, reverse=True), dict[int, Submission](), 0
     for at in range(0, len(wanted), AT_ONCE):
         some = wanted[at : at + AT_ONCE]
-        words = "SELECT number, user, job, weight, spec, first, last, sent FROM submission"
-        words += f" WHERE number IN ({marks_of(some)}) ORDER BY number DESC"
-        with closing(connection.execute(words, some)) as rows:
-            for number, user, job, weight, spec, *rest in rows:
-                submission = Submission(number, user, job, weight, spec_of(spec), *rest)
-                submission.measure(spec)
+        words = f"SELECT {columns('submission')}, spec FROM submission WHERE number IN ({marks_of(some)})"
+        with closing(connection.execute(f"{words} ORDER BY number DESC", some)) as rows:
+            for row in rows:
+                submission = whole_of(row)
+                submission.measure(row[-1])
                 size += submission.size
                 if found and size > most_bytes:
                     return found
-                found[number] = submission
+                found[submission.number] = submission
     return found
 
 
 def history(connection: sqlite3.Connection, asked: Asked) -> list[dict[str, Any]]:
-    """Attempts that ended, the oldest first, and tasks that ended without one."""
-    keys = "number, index, user, job, submitted, attempt, agent, machine, run, began, ended, seconds, outcome, status"
-    names = f"{keys}, reason, output, host".split(", ")
-    conditions, values = conditions_of(asked, "a.ended")
-    words = "SELECT a.number, a.idx, s.user, s.job, s.sent, a.attempt, agent, machine, run, began, a.ended, seconds,"
-    words += " a.outcome, a.status, a.reason, output, host FROM attempt a JOIN submission s ON s.number = a.number"
-    words += f" WHERE a.outcome IS NOT NULL{conditions}"
-    conditions, more = conditions_of(asked, "t.ended")
-    words += " UNION ALL SELECT t.number, t.idx, s.user, s.job, s.sent, 0, NULL, NULL, NULL, NULL, t.ended, NULL,"
-    words += " t.outcome, t.status, t.reason, NULL, NULL FROM task t JOIN submission s ON s.number = t.number"
-    words += f" WHERE t.outcome IS NOT NULL AND t.attempts = 0{conditions} ORDER BY 11 DESC, 1 DESC, 2 DESC LIMIT ?"
-    rows = fetched(connection, words, [*values, *more, asked.limit])
+    """Return the newest ended attempts, and tasks that ended without one, oldest first. It reads no other rows."""
+    found = latest(connection, "attempt", asked) + latest(connection, "task", asked)
+    found.sort(key=lambda row: (row["ended"], row["number"], row["index"]), reverse=True)
+    return [shown_of(row) for row in reversed(found[: asked.limit])]
+
+
+def latest(connection: sqlite3.Connection, table: str, asked: Asked) -> list[dict[str, Any]]:
+    """Return the attempts that ended last, or the tasks that ended last without one."""
+    conditions, values = conditions_of(asked, "x.ended")
+    words = f"SELECT {columns(table, 'x')}, {columns('submission', 's')} FROM {table} x"
+    words += " CROSS JOIN submission s ON s.number = x.number WHERE x.outcome IS NOT NULL"
+    words += " AND x.attempts = 0" if table == "task" else ""
+    words += f"{conditions} ORDER BY x.ended DESC, x.number DESC, x.idx DESC LIMIT ?"
+    names, place = [*COLUMNS[table].split()], WIDTHS[table]
     found = []
-    for row in reversed(rows):
-        name = Name(row[0], row[1])
-        index = None if name.index == SINGLE else name.index
-        found.append({"task": str(name), **dict(zip(names, row)), "index": index})
+    for row in fetched(connection, words, [*values, asked.limit]):
+        values_of = dict(zip(names, opened(table, row)))
+        of = head_of(row[place:])
+        index = values_of.pop("idx")
+        found.append({**UNBEGUN, **values_of, "index": index, "user": of.user, "job": of.job, "submitted": of.sent})
     return found
+
+
+def shown_of(row: dict[str, Any]) -> dict[str, Any]:
+    name = Name(row["number"], row["index"])
+    index = None if name.index == SINGLE else name.index
+    return {"task": str(name), **{key: row[key] for key in HISTORY}, "index": index}
+
+
+@dataclass(slots=True)
+class Old:
+    """A submission that retention considers."""
+
+    number: int
+    sent: float
+    is_over: bool  # all its tasks ended long enough ago
+    tasks: int = 0
+    rows: int = 0  # of tasks and attempts
+
+
+def older(connection: sqlite3.Connection, number: int, before: float, count: int) -> list[Old]:
+    """Return the next `count` submissions after a number. Raise `Damaged` at a changed row: it may look old."""
+    words = f"SELECT {columns('submission')} FROM submission WHERE number > ? ORDER BY number LIMIT ?"
+    heads = [head_of(row) for row in fetched(connection, words, (number, count))]
+    found = {head.number: Old(head.number, head.sent, head.sent < before) for head in heads}
+    old = [one.number for one in found.values() if one.is_over]
+    words = f"SELECT {columns('task')} FROM task WHERE number IN ({marks_of(old)})"
+    with closing(connection.execute(words, old)) as rows:
+        for row in rows:
+            task = opened("task", row)
+            one, outcome, ended = found[task[0]], task[6], task[9]
+            one.is_over &= outcome is not None and ended < before
+            one.tasks, one.rows = one.tasks + 1, one.rows + 1 + task[10]
+    over = [one.number for one in found.values() if one.is_over]
+    words = f"SELECT {columns('submission')}, spec FROM submission WHERE number IN ({marks_of(over)})"
+    for row in fetched(connection, words, over):
+        require_all(whole_of(row), found[row[0]].tasks)
+    return list(found.values())
+
+
+def rest(connection: sqlite3.Connection, count: int) -> tuple[str, list[Any]] | None:
+    """Return a statement, with values, that removes the next rows of a submission that is being removed, if any. Tasks
+    come first: nothing reads attempts without a task."""
+    number = value_of(connection, DROPPING)
+    if number is None:
+        return None
+    for table, keys in (("task", "number, idx"), ("attempt", "number, idx, attempt")):
+        rows = fetched(connection, f"SELECT {keys} FROM {table} WHERE number = ? LIMIT ?", (int(number), count))
+        if rows:
+            return f"DELETE FROM {table} WHERE ({keys}) = ({marks_of(rows[0])})", rows
+    return "DELETE FROM meta WHERE name = ?", [(DROPPING,)]
 
 
 def conditions_of(asked: Asked, ended: str) -> tuple[str, list[Any]]:

@@ -32,7 +32,7 @@ submit: {"ask": "submit", "command": [WORD, ..], "dir": "/abs"} and, with their 
     "key": null         any text of 1 to 128 characters; the same again, by the same user, gives the same answer (with
                         "again": true) and makes nothing, whatever else the request says
     "job": null         a name (1 to 16 of a-z, 0-9, -); null: the user's login name, or uN by the number N
-    "weight": null      1 to 1,000,000 of the job; null: the job's, for a new one 10, or --most-weight if less. A
+    "weight": null      1 to --most-weight of the job; null: the job's, for a new one 10, or --most-weight if less. A
                         job is there, and is its user's, while it has tasks that have not ended
     "array": null       [FIRST, LAST], 0 <= FIRST <= LAST <= 9,999,999, or a text: "1,3,5", "0-20:5", "1-40%10" (with at
                         most 10 tasks in firm at a time)
@@ -137,12 +137,13 @@ register, first: {"ask": "register", "agent": "a1", "id": ID, "machines": {"m1":
   id: that of the agent's own state folder (History.name), new with a new one. RUN: {"token": T, "task": firm's name,
   "run": 7, "machine": "m1", "state": "claiming"|"starting"|"running"|"ended"}: all that are open, and all whose end is
   not acknowledged yet.
-  -> {"register": {"lease": 60, "beat": 20, "end": [T, ..], "keep": [T, ..], "state": firmd's id|null}}
-  end: runs that must end (the queue knows nothing of them, or took them as lost). keep: runs that go on although firm
-  lacks their rows; all others end or stay as firm's rows say. Open attempts of this id that are not among `runs` count
-  as lost once the lease that they had, the longest grace and the margin are over. The same id again takes over from its
-  older connection, once that is gone or silent. Machines that an agent no longer names are drained. A machine on an
-  agent's list, whose slots firm has otherwise, is drained and added anew once no run is open there.
+  -> {"register": {"lease": 60, "beat": 20, "history": s, "end": [T, ..], "keep": [T, ..], "state": firmd's id|null}}
+  history: seconds for which outputs of ended runs are kept. end: runs that must end (the queue knows nothing of them,
+  or took them as lost). keep: runs that go on although firm lacks their rows; all others end or stay as firm's rows
+  say. Open attempts of this id that are not among `runs` count as lost once the lease that they had, the longest grace
+  and the margin are over. The same id again takes over from its older connection, once that is gone or silent. Machines
+  that an agent no longer names are drained. A machine on an agent's list, whose slots firm has otherwise, is drained
+  and added anew once no run is open there.
   Errors: `agent-taken` (another id has this name and its lease is not over, with "seconds" until it is; or the same id
   has a connection that still beats, as an agent with a copy of the state has),
   `machine-taken` (another live agent has it; with "machine", "agent": register without it), `bad-field`. It may be
@@ -165,9 +166,8 @@ claim: {"ask": "claim", "token": T, "task": firm's name, "line": the row's, "sta
      to go or change.
   WORK: {"task": "12_4", "job": "web", "user": uid, "attempt": 1, "command": [..], "dir": "/abs", "env": {..},
    "output": "/abs"|null, "time": s|null, "grace": s, "memory": bytes|null, "processors": n|null}. env has FIRM_ID
-   (12_4), FIRM_NUMBER,
-   FIRM_INDEX (of an array) and FIRM_ATTEMPT beside the user's. There are no retries in it: a further attempt is a
-   further claim. output null: the run's own file.
+   (12_4), FIRM_NUMBER, FIRM_INDEX (of an array) and FIRM_ATTEMPT beside the user's. There are no retries in it: a
+   further attempt is a further claim. output null: the run's own file.
 
 told: {"ask": "told", "events": [EVENT, ..]}, at most 1,000, in their order; again until acknowledged, also after
   restarts. -> {"told": HOW MANY} once they are on the disk. Events of tokens that are unknown, or have ended, are
@@ -507,7 +507,8 @@ class Requests:
             return [task for task in tasks if task.outcome in outcomes and chosen.has(task)], 0
         owner = chosen.user if user.is_operator else user.number
         asked = Asked(user=owner, job=chosen.job, outcomes=outcomes, limit=chosen.limit)
-        read, more = await self._core.store.read(lambda connection: queries.ended(connection, asked, MOST_READ_BYTES))
+        reading = self._core.store.read(lambda connection: queries.ended(connection, asked, MOST_READ_BYTES), True)
+        read, more = await reading
         await self.know(user, [submission.user for submission in read])
         return [task for submission in read for task in submission.tasks.values()], more
 
@@ -552,7 +553,7 @@ class Requests:
         limit = DEFAULT_ROWS if given_limit is None else given_limit
         asked = Asked(user, fields.name("job"), frozenset(), None, None, name, limit + 1)
         asked = replace(asked, since=fields.time("since"), until=fields.time("until"))
-        rows = await self._core.store.read(lambda connection: queries.history(connection, asked))
+        rows = await self._core.store.read(lambda connection: queries.history(connection, asked), aside=True)
         await self.know(caller.user, [row["user"] for row in rows])
         for row in rows:
             row["user"] = name_of(row["user"])
@@ -560,7 +561,8 @@ class Requests:
 
     async def _machines(self, caller: Caller, given: Json) -> list[Json]:
         Fields(given, ["ask"])
-        return self._lists.machines(self._visible(caller.user))
+        begun = self._core.begun().values()
+        return self._lists.machines(task for task in begun if caller.user.may_see(task.submission.user))
 
     async def _list_agents(self, caller: Caller, given: Json) -> list[Json]:
         Fields(given, ["ask"])
@@ -568,13 +570,13 @@ class Requests:
 
     async def _jobs(self, caller: Caller, given: Json) -> list[Json]:
         Fields(given, ["ask"])
-        return self._lists.jobs(self._visible(caller.user))
+        return self._lists.jobs(caller.user)
 
     async def _status(self, caller: Caller, given: Json) -> Json:
         Fields(given, ["ask"])
         core, user = self._core, caller.user
         found: Json = {"tenant": self._tenant, "user": user.name, "is_operator": user.is_operator, "version": VERSION}
-        found |= {"states": dict(core.counts(self._visible(user))), "firm": self._lists.firm()}
+        found |= {"states": dict(core.states_of(user.sees)), "firm": self._lists.firm()}
         found |= {"writes": {"are_good": not core.store.trouble, "reason": core.store.trouble}}
         found |= {"quota": None if user.is_operator else core.bounds.of_user, "started": self._started}
         spent = {"spent": round(core.spending.of(user.number)), "most": core.bounds.budget}
@@ -628,7 +630,7 @@ class Requests:
 
     async def _waited(self, caller: Caller, texts: Sequence[str], ends: float) -> Json:
         """What has become of tasks once they have ended, or the time is over; raises `NotWritten`."""
-        await self._submissions_of(caller.user, texts)
+        await self._submissions_of(caller.user, texts, are_whole=False)
         await self._wait_for(caller, [name_from(text) for text in dict.fromkeys(texts)], ends)
         tasks = (await self._named(caller.user, texts)).items()
         found = {str(name): {"state": self._lists.state_of(task), "status": task.status} for name, task in tasks}
@@ -738,7 +740,7 @@ class Requests:
         return found
 
     async def _submissions_of(
-        self, user: User, texts: Sequence[str], are_whole: bool = False, missing: dict[str, str] | None = None
+        self, user: User, texts: Sequence[str], are_whole: bool, missing: dict[str, str] | None = None
     ) -> dict[Name, Submission]:
         """These names with their submissions. Names that the user does not see are added to `missing`, if given, and
         refused otherwise."""

@@ -3,6 +3,7 @@
 from __future__ import annotations
 
 import re
+from bisect import bisect_left, insort
 from collections.abc import Iterable, Iterator, Sequence
 from dataclasses import dataclass, field
 from typing import Any
@@ -17,7 +18,7 @@ _TASK = re.compile(r"([1-9][0-9]{0,7})(?:_(0|[1-9][0-9]{0,6}))?")
 _FIRM_NAME = re.compile(r"([1-9][0-9]{0,7})(?:-(0|[1-9][0-9]{0,6}))?")
 
 
-@dataclass(frozen=True, slots=True, order=True)
+@dataclass(slots=True, order=True, unsafe_hash=True)  # a frozen one takes three times as long to make
 class Name:
     """A task, by its submission's number and its index."""
 
@@ -101,6 +102,7 @@ class Attempt:
     host: str | None = None
     is_kept: bool = False  # it goes on although firm has no row of it
     runs_as: int | None = None  # the user whose process it is; None: begun by a queue that did not keep that
+    seal: int = 0  # checksum of its row while it is open
 
     @property
     def is_open(self) -> bool:
@@ -123,6 +125,8 @@ class Task:
     attempt: Attempt | None = None  # the last one
     due: float = 0.0  # by CLOCK_BOOTTIME, from which it may be tried again
     told: str = ""  # why it was not begun when it was claimed last
+    seal: int = 0  # checksum of its row until it has ended
+    since: int | None = None  # number of rounds when it became ready to begin; None before that, and once it has begun
 
     @property
     def name(self) -> Name:
@@ -163,8 +167,11 @@ class Submission:
     tasks: dict[int, Task] = field(default_factory=dict)  # by index
     live: int = 0  # tasks that have not ended
     failed: int = 0  # tasks that ended otherwise than with `done`
+    ends: dict[str, int] = field(default_factory=dict)  # number of its ended tasks, by outcome
     open_needs: int = 0  # that have not ended
     first_need: int = 0  # the place of the first of them, or of one before it
+    held: int = 0  # live tasks that are held
+    counted: tuple[int, int, int] = (0, 0, 0)  # live tasks by `IDLE`, as `Rows` has counted them
     size: int = 0  # bytes of memory that its words take
 
     @property
@@ -173,7 +180,7 @@ class Submission:
 
     @property
     def indices(self) -> Sequence[int]:
-        """Of its tasks, if its words are known."""
+        """Indices of its tasks, if its words are known."""
         if self.spec.indexes is not None:
             return indexes_of(self.spec.indexes)[0]
         return [SINGLE] if self.first is None or self.last is None else range(self.first, self.last + 1)
@@ -201,6 +208,14 @@ class Job:
     user: int
     weight: int
     live: int = 0
+    counts: list[int] = field(default_factory=lambda: [0, 0, 0])  # of live tasks, by `IDLE`
+
+
+IDLE = ("held", "blocked", "queued")  # states of a task without a row in firm and without a process
+
+
+def idle_state(task: Task) -> str:
+    return IDLE[0] if task.is_held else IDLE[1] if task.submission.is_blocked else IDLE[2]
 
 
 Place = tuple[int, bool]  # what is waited for: an index, or SINGLE for all tasks; and whether it must end with `done`
@@ -218,6 +233,11 @@ class Rows:
         self.live = self.bytes = 0
         self.waiters: dict[int, dict[Place, set[int]]] = {}  # submissions that wait, by number and place
         self.open: dict[str, Attempt] = {}  # attempts that have not ended, by token
+        # Live tasks by `IDLE`, as if none had a row in firm or a process: in all, and by user.
+        self.counts = [0, 0, 0]
+        self.counts_of_user: dict[int, list[int]] = {}
+        # Numbers of submissions with such tasks, sorted.
+        self.numbers: tuple[list[int], ...] = ([], [], [])
         self._ended: dict[int, None] = {}  # submissions that have ended, in the order of their ends
         self._ended_tasks = self._ended_bytes = 0
 
@@ -230,7 +250,9 @@ class Rows:
         self.submissions[submission.number] = submission
         self.last_number = max(self.last_number, submission.number)
         if submission.live:
+            submission.held = sum([task.is_held for task in submission.tasks.values() if task.outcome is None])
             self._count(submission, submission.live)
+            self.recount(submission)
             self._count_bytes(submission, submission.size)
             for need in submission.needs:
                 if (needed := self.submissions.get(need.number)) is not None and not needed.live:
@@ -240,20 +262,50 @@ class Rows:
         else:
             self._keep_ended(submission)
         for task in submission.tasks.values():
-            if (attempt := task.open_attempt) is not None:
-                self.open[attempt.token] = attempt
+            if task.attempt is not None and task.attempt.is_open:
+                self.open[task.attempt.token] = task.attempt
 
     def ended(self, task: Task) -> None:
         """Takes in that a task has its outcome."""
         submission = task.submission
         submission.live -= 1
         submission.failed += task.outcome != "done"
+        submission.ends[task.outcome or ""] = submission.ends.get(task.outcome or "", 0) + 1
+        submission.held -= task.is_held
+        self.recount(submission)
         self._count(submission, -1)
         if not submission.live:
             self._count_bytes(submission, -submission.size)
             for need in submission.needs:
                 self._forget_waiter(submission.number, need)
             self._keep_ended(submission)
+
+    def hold(self, task: Task, is_held: bool) -> None:
+        """Hold or release a live task."""
+        task.submission.held += is_held - task.is_held
+        task.is_held = is_held
+        self.recount(task.submission)
+
+    def recount(self, submission: Submission) -> None:
+        """Update the counters after a change of a submission's live, held or blocked tasks."""
+        free, before = submission.live - submission.held, submission.counted
+        now = (submission.held, free, 0) if submission.open_needs else (submission.held, 0, free)
+        of_user = self.counts_of_user.get(submission.user)
+        if of_user is None:
+            of_user = self.counts_of_user[submission.user] = [0, 0, 0]
+        of_job, submission.counted = self.jobs[submission.job].counts, now
+        for place, more in enumerate(now):
+            if more == before[place]:
+                continue
+            for counts in (self.counts, of_user, of_job):
+                counts[place] += more - before[place]
+            numbers = self.numbers[place]
+            if not before[place]:
+                insort(numbers, submission.number)
+            elif not more:
+                del numbers[bisect_left(numbers, submission.number)]
+        if not any(of_user):
+            del self.counts_of_user[submission.user]
 
     def waiting_for(self, task: Task) -> list[tuple[int, bool]]:
         """Submissions of whose needs one is met by the end of a task, or, as is said of each, never will be. Each need
@@ -298,6 +350,13 @@ class Rows:
                 self._ended_bytes -= self.submissions[number].size
                 dropped.append(number)
         for number in dropped:
+            del self._ended[number], self.submissions[number]
+
+    def drop(self, number: int) -> None:
+        """Drop a submission that has ended, if memory has it."""
+        if number in self._ended:
+            self._ended_tasks -= len(self.submissions[number].tasks)
+            self._ended_bytes -= self.submissions[number].size
             del self._ended[number], self.submissions[number]
 
     def _keep_ended(self, submission: Submission) -> None:

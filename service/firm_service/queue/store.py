@@ -4,6 +4,9 @@ Changes that are made while the thread waits for the disk share its next commit,
 all that was changed before. Where a commit fails, so does all that was changed since: memory is to be read anew, and
 again once the disk takes writes. Until then nothing is changed. While a commit takes long, as on a disk that hangs, no
 further changes are begun; what it has may be on the disk in the end, so nobody is told that it is refused.
+
+Each commit writes its number, and the sum of the checksums of all live rows, into a row of `meta`. So a start finds
+missing and older rows without reading ended ones.
 """
 
 from __future__ import annotations
@@ -13,59 +16,75 @@ import json
 import os
 import secrets
 import sqlite3
+import threading
 import time
 from collections.abc import Callable, Iterable, Sequence
 from concurrent.futures import ThreadPoolExecutor
 from contextlib import closing, suppress
 from dataclasses import fields
+from functools import partial
 from pathlib import Path
 from typing import Any, TypeVar
 
 from ..faults import RESTORE, Exit, Fault
 from ..files import replace_synced
 from ..logs import ERROR, INFO, tell
+from .audit import PAUSE_SECONDS, audit
+from .queries import COMMIT, DROPPING, Point, point_of, value_of
+from .reach import Reach
 from .rows import Attempt, Spec, Submission, Task
+from .seals import COLUMNS, Damaged, is_damage, places, seal, sealed, seals_of_new, words_seal
+from .spending import WEEK_SECONDS
 
-DATABASE, ID = "queue.db", "id"
-VERSION = 3
-SPENT = "CREATE TABLE spent (user INTEGER PRIMARY KEY, bytes REAL NOT NULL, at REAL NOT NULL)"
-UPGRADES = {1: "ALTER TABLE attempt ADD COLUMN runs_as INTEGER", 2: SPENT}  # by the version that needs them
+DATABASE, ID, REACH = "queue.db", "id", "reach"
+VERSION = 4
 APPLICATION = 0x6669726D  # tells the file from other programs'
 LATE_SECONDS = 30.0  # after which a commit takes long
 BUSY_SECONDS = 5.0  # for another program that reads the database, as for a copy
 # Bytes of the write-ahead log, seconds between two waits for its readers, and of one, in which nothing is written.
 MOST_LOG, LOOK_SECONDS, READERS_SECONDS = 2**26, 30.0, 2.0
-# Errors of the file as it is; all others, as of a full disk, pass.
-DAMAGE = {sqlite3.SQLITE_CORRUPT, sqlite3.SQLITE_NOTADB}
-SCHEMA = f"""
-{SPENT};
-CREATE TABLE meta (name TEXT PRIMARY KEY, value TEXT NOT NULL) WITHOUT ROWID;
+AT_START_BYTES = 2**23  # of a database that is checked before it is served; a larger one is checked meanwhile
+HEADER_BYTES = b"\x02\x02"  # at 18 in a file with a write-ahead log
+SCHEMA = """
+CREATE TABLE meta (name TEXT PRIMARY KEY, value TEXT NOT NULL, sum INTEGER NOT NULL) WITHOUT ROWID;
 CREATE TABLE submission (
-    number INTEGER PRIMARY KEY, user INTEGER NOT NULL, job TEXT NOT NULL, weight INTEGER NOT NULL, spec TEXT NOT NULL,
-    first INTEGER, last INTEGER, sent REAL NOT NULL);
+    number INTEGER PRIMARY KEY, user INTEGER NOT NULL, job TEXT NOT NULL, weight INTEGER NOT NULL,
+    first INTEGER, last INTEGER, sent REAL NOT NULL, needs INTEGER NOT NULL, words INTEGER NOT NULL,
+    sum INTEGER NOT NULL, spec TEXT NOT NULL);
 CREATE INDEX submission_job ON submission (job);
 CREATE TABLE request (
-    user INTEGER NOT NULL, key TEXT NOT NULL, answer TEXT NOT NULL, PRIMARY KEY (user, key)) WITHOUT ROWID;
+    user INTEGER NOT NULL, key TEXT NOT NULL, number INTEGER NOT NULL, answer TEXT NOT NULL, sum INTEGER NOT NULL,
+    PRIMARY KEY (user, key)) WITHOUT ROWID;
+CREATE INDEX request_number ON request (number);
 CREATE TABLE need (
     number INTEGER NOT NULL, place INTEGER NOT NULL, needs INTEGER NOT NULL, idx INTEGER, is_ok INTEGER NOT NULL,
-    PRIMARY KEY (number, place)) WITHOUT ROWID;
+    sum INTEGER NOT NULL, PRIMARY KEY (number, place)) WITHOUT ROWID;
 CREATE TABLE task (
     number INTEGER NOT NULL, idx INTEGER NOT NULL, is_held INTEGER NOT NULL, is_cancelled INTEGER NOT NULL,
     failures INTEGER NOT NULL, lost INTEGER NOT NULL, outcome TEXT, status INTEGER, reason TEXT NOT NULL, ended REAL,
-    attempts INTEGER NOT NULL, PRIMARY KEY (number, idx)) WITHOUT ROWID;
+    attempts INTEGER NOT NULL, sum INTEGER NOT NULL, PRIMARY KEY (number, idx)) WITHOUT ROWID;
 CREATE INDEX task_live ON task (number) WHERE outcome IS NULL;
-CREATE INDEX task_ended ON task (ended) WHERE outcome IS NOT NULL;
+CREATE INDEX task_unbegun ON task (ended) WHERE outcome IS NOT NULL AND attempts = 0;
 CREATE TABLE attempt (
     number INTEGER NOT NULL, idx INTEGER NOT NULL, attempt INTEGER NOT NULL, agent TEXT NOT NULL,
     agent_id TEXT NOT NULL, machine TEXT NOT NULL, run INTEGER NOT NULL, token TEXT NOT NULL UNIQUE,
     claimed REAL NOT NULL, began REAL, ended REAL, seconds REAL, outcome TEXT, status INTEGER, reason TEXT NOT NULL,
-    output TEXT, host TEXT, is_kept INTEGER NOT NULL, runs_as INTEGER,
+    output TEXT, host TEXT, is_kept INTEGER NOT NULL, runs_as INTEGER, sum INTEGER NOT NULL,
     PRIMARY KEY (number, idx, attempt)) WITHOUT ROWID;
 CREATE INDEX attempt_ended ON attempt (ended) WHERE outcome IS NOT NULL;
-CREATE TABLE agent (name TEXT PRIMARY KEY, id TEXT NOT NULL, machines TEXT NOT NULL) WITHOUT ROWID;
-CREATE TABLE mark (machine TEXT PRIMARY KEY, mark TEXT NOT NULL) WITHOUT ROWID;
+CREATE TABLE agent (
+    name TEXT PRIMARY KEY, id TEXT NOT NULL, machines TEXT NOT NULL, sum INTEGER NOT NULL) WITHOUT ROWID;
+CREATE TABLE mark (machine TEXT PRIMARY KEY, mark TEXT NOT NULL, sum INTEGER NOT NULL) WITHOUT ROWID;
+CREATE TABLE spent (user INTEGER PRIMARY KEY, bytes REAL NOT NULL, at REAL NOT NULL, sum INTEGER NOT NULL);
 """
 FIELDS = fields(Spec)
+ADD = {table: f"INSERT INTO {table} VALUES ({places(table)})" for table in ("need", "request")}
+ADD["task"] = "INSERT INTO task VALUES (?, ?, ?, 0, 0, 0, NULL, NULL, '', NULL, 0, ?)"  # a new one
+ADD["submission"] = f"INSERT INTO submission VALUES ({places('submission')}, ?)"
+REPLACE = {name: f"INSERT OR REPLACE INTO {name} VALUES ({places(name)})" for name in COLUMNS if name not in ADD}
+SAVE = """\
+UPDATE task SET (is_held, is_cancelled, failures, lost, outcome, status, reason, ended, attempts, sum)
+= (?, ?, ?, ?, ?, ?, ?, ?, ?, ?) WHERE number = ? AND idx = ?"""
 Change = tuple[str, Sequence[tuple[Any, ...]]]  # a statement, and the values of each time it is made
 Result = TypeVar("Result")
 
@@ -85,11 +104,21 @@ class Store:
         self._lateness: asyncio.TimerHandle | None = None  # of the commit that is under way
         self._is_ahead = False  # memory has what a commit that failed has lost
         self.on_failure: Callable[[], None] = lambda: None
+        self.on_damage: Callable[[Fault], None] = lambda fault: None
         self._writer = ThreadPoolExecutor(1, "store")
         self._reader = ThreadPoolExecutor(1, "reader")
+        self._lister = ThreadPoolExecutor(1, "lister")
+        self._auditor = ThreadPoolExecutor(1, "auditor")
         self._connection: sqlite3.Connection  # of the writer's thread alone
         self._reading: sqlite3.Connection  # of the reader's
+        self._listing: sqlite3.Connection  # of the lister's
+        self._auditing: sqlite3.Connection | None = None  # while the whole database is checked
+        self._is_closing = threading.Event()
+        self._reach: Reach  # of the writer's
+        self._number = self._last = self._live = 0  # fields of the next commit's `Point`
+        self._seals: dict[tuple[str, str], int] = {}  # of agents, marks and the lease, by table and key
         self._open: list[Change] = []  # what the next commit writes
+        self._spent: dict[int, tuple[int, float, float]] = {}  # the same of spending, by user
         self._next: asyncio.Future[None] | None = None  # that commit
         self._current: asyncio.Future[None] | None = None  # the one that is under way
 
@@ -97,28 +126,71 @@ class Store:
         """Opens the database, or makes it; raises `Fault`."""
         loop = asyncio.get_running_loop()
         await loop.run_in_executor(self._writer, self._begin)
-        await loop.run_in_executor(self._reader, self._begin_reading)
+        self._reading = await loop.run_in_executor(self._reader, self._begin_reading)
+        self._listing = await loop.run_in_executor(self._lister, self._begin_reading)
+        self._auditing = sqlite3.connect(self._uri, uri=True, timeout=BUSY_SECONDS, check_same_thread=False)
+        is_small = sum(path.stat().st_size for path in (self.path, self._log) if path.exists()) <= AT_START_BYTES
+        pause = 0.0 if is_small else PAUSE_SECONDS
+        audited = loop.run_in_executor(self._auditor, audit, self._auditing, self._is_closing, pause)
+        if is_small:
+            await asyncio.wait([audited])
+            self._audited(audited, is_start=True)
+        else:
+            audited.add_done_callback(self._audited)
 
     async def close(self) -> None:
         """Ends the threads, once all is written."""
         while self._current is not None:
             await asyncio.wait([self._current])
         loop = asyncio.get_running_loop()
+        self._is_closing.set()
+        if self._auditing is not None:
+            self._auditing.interrupt()
+        self._auditor.shutdown()
         await loop.run_in_executor(self._reader, lambda: self._reading.close())
-        await loop.run_in_executor(self._writer, lambda: self._connection.close())
-        self._reader.shutdown()
-        self._writer.shutdown()
+        await loop.run_in_executor(self._lister, lambda: self._listing.close())
+        await loop.run_in_executor(self._writer, self._end)
+        for thread in (self._reader, self._lister, self._writer):
+            thread.shutdown()
 
-    async def read(self, query: Callable[[sqlite3.Connection], Result]) -> Result:
-        """What a query, of one statement or many, gives of all that has been committed by one moment."""
-        return await asyncio.get_running_loop().run_in_executor(self._reader, self._read, query)
+    def _end(self) -> None:
+        self._connection.close()
+        self._reach.close()
 
-    def _read(self, query: Callable[[sqlite3.Connection], Result]) -> Result:
-        self._reading.execute("BEGIN")
+    def _audited(self, done: asyncio.Future[None], is_start: bool = False) -> None:
+        """Handle the result of a check of the whole database."""
+        error, self._auditing = done.exception(), None
+        if is_damage(error) and is_start:
+            raise self._damage(error) from error
+        if is_damage(error):
+            self.on_damage(self._damage(error))
+        elif error is not None and not isinstance(error, sqlite3.OperationalError):  # of a failing disk, or an end
+            raise error
+
+    def _damage(self, error: BaseException | None) -> Fault:
+        return Fault(Exit.JOURNAL, f"{self.path} is damaged ({error}); {RESTORE}")
+
+    async def read(self, query: Callable[[sqlite3.Connection], Result], aside: bool = False) -> Result:
+        """Return the result of a query, which may have several statements, over one snapshot. A long one runs aside, so
+        that no submission waits for it."""
+        reader, connection = (self._lister, self._listing) if aside else (self._reader, self._reading)
         try:
-            return query(self._reading)
+            return await asyncio.get_running_loop().run_in_executor(reader, self._read, query, connection)
+        except sqlite3.Error as error:
+            self._require_whole(error)
+            raise
+
+    def _read(self, query: Callable[[sqlite3.Connection], Result], connection: sqlite3.Connection) -> Result:
+        connection.execute("BEGIN")
+        try:
+            return query(connection)
         finally:
-            self._reading.rollback()
+            connection.rollback()
+
+    def _require_whole(self, error: BaseException) -> None:
+        """End the queue if an error means damage."""
+        if is_damage(error):
+            self.on_damage(self._damage(error))
 
     async def settled(self) -> None:
         """Returns once all changes so far are on the disk; raises `NotWritten`."""
@@ -157,13 +229,14 @@ class Store:
         if self._why_late:
             raise NotWritten(self._why_late)
 
-    def read_anew(self) -> None:
+    def read_anew(self, point: Point, seals: dict[tuple[str, str], int]) -> None:
         """Takes in that memory has been read: it has what is on the disk, and nothing else."""
-        self._is_ahead = False
+        self._is_ahead, self._seals = False, seals
+        self._number, self._last, self._live = point
 
     async def try_again(self) -> bool:
         """Whether the disk takes changes again, after a failure."""
-        self._put("INSERT OR REPLACE INTO meta VALUES ('tried', ?)", [(secrets.token_hex(4),)])
+        self._put(REPLACE["meta"], sealed("meta", [("tried", secrets.token_hex(4))]))
         try:
             await self._committed_all()
         except NotWritten:
@@ -179,68 +252,91 @@ class Store:
 
     def add(self, submission: Submission, spec: str) -> None:
         """Writes a new submission; `spec` is its own as `text_of` has it."""
-        number = submission.number
-        row = (number, submission.user, submission.job, submission.weight, spec)
-        self._write(
-            "INSERT INTO submission VALUES (?, ?, ?, ?, ?, ?, ?, ?)",
-            [(*row, submission.first, submission.last, submission.sent)],
-        )
-        needs = [(number, place, need.number, need.index, need.is_ok) for place, need in enumerate(submission.needs)]
-        self._write("INSERT INTO need VALUES (?, ?, ?, ?, ?)", needs)
-        self._write(
-            "INSERT INTO task VALUES (?, ?, ?, 0, 0, 0, NULL, NULL, '', NULL, 0)",
-            [(number, index, task.is_held) for index, task in submission.tasks.items()],
-        )
+        number, needs = submission.number, submission.needs
+        row = (number, submission.user, submission.job, submission.weight, submission.first, submission.last)
+        head = (*row, submission.sent, len(needs), words_seal(spec))
+        self._write(ADD["submission"], [(*head, seal("submission", head), spec)])
+        if needs:
+            rows = [(number, place, need.number, need.index, int(need.is_ok)) for place, need in enumerate(needs)]
+            self._write(ADD["need"], sealed("need", rows))
+        self._add_tasks(submission)
+        self._last = max(self._last, number)
 
-    def keep_answer(self, user: int, key: str, answer: object) -> None:
-        self._write("INSERT INTO request VALUES (?, ?, ?)", [(user, key, json.dumps(answer))])
+    def _add_tasks(self, submission: Submission) -> None:
+        number, is_held = submission.number, int(submission.held > 0)
+        seals = seals_of_new(number, submission.tasks, is_held)
+        self._write(ADD["task"], [(number, index, is_held, one) for index, one in zip(submission.tasks, seals)])
+        for task, one in zip(submission.tasks.values(), seals):
+            task.seal = one
+        self._live += sum(seals)
+
+    def keep_answer(self, user: int, key: str, answer: list[Any]) -> None:
+        rows = [(user, key, answer[0]["number"], json.dumps(answer))]
+        self._write(ADD["request"], sealed("request", rows))
 
     def spend(self, user: int, size: float) -> None:
-        """Writes how many bytes a user has spent by now."""
-        self._write("INSERT OR REPLACE INTO spent VALUES (?, ?, ?)", [(user, size, time.time())])
+        """Write the bytes that a user has spent, once with the next commit."""
+        self._spent[user] = (user, float(size), time.time())
 
     def save(self, tasks: Iterable[Task]) -> None:
         """Writes tasks as they are now."""
-        rows = [
-            (
-                *(task.is_held, task.is_cancelled, task.failures, task.lost, task.outcome, task.status, task.reason),
-                *(task.ended, task.attempts, task.submission.number, task.index),
-            )
-            for task in tasks
-        ]
-        columns = "is_held, is_cancelled, failures, lost, outcome, status, reason, ended, attempts"
-        self._write(f"UPDATE task SET ({columns}) = (?, ?, ?, ?, ?, ?, ?, ?, ?) WHERE number = ? AND idx = ?", rows)
+        changed = list(tasks)
+        rows = sealed("task", map(row_of, changed))
+        self._write(SAVE, [(*row[2:], *row[:2]) for row in rows])
+        for task, row in zip(changed, rows):
+            task.seal = self._count(task.seal, row[-1] if task.is_live else 0)
 
     def save_attempt(self, attempt: Attempt) -> None:
         """Writes an attempt as it is now."""
-        first = (
-            attempt.name.number,
-            attempt.name.index,
-            attempt.number,
-            attempt.agent,
-            attempt.agent_id,
-            attempt.machine,
-            attempt.run,
-        )
-        times = (attempt.token, attempt.claimed, attempt.began, attempt.ended, attempt.seconds)
-        last = (attempt.outcome, attempt.status, attempt.reason, attempt.output, attempt.host, attempt.is_kept)
-        row = (*first, *times, *last, attempt.runs_as)
-        self._write(f"INSERT OR REPLACE INTO attempt VALUES ({', '.join('?' * len(row))})", [row])
+        place = (attempt.name.number, attempt.name.index, attempt.number, attempt.agent, attempt.agent_id)
+        first = (*place, attempt.machine, attempt.run, attempt.token, attempt.claimed, attempt.began)
+        last = (attempt.ended, attempt.seconds, plain(attempt.outcome), attempt.status, attempt.reason, attempt.output)
+        (row,) = sealed("attempt", [(*first, *last, attempt.host, int(attempt.is_kept), attempt.runs_as)])
+        self._write(REPLACE["attempt"], [row])
+        attempt.seal = self._count(attempt.seal, row[-1] if attempt.is_open else 0)
 
     def save_agent(self, name: str, agent_id: str, machines: dict[str, int]) -> None:
-        self._write("INSERT OR REPLACE INTO agent VALUES (?, ?, ?)", [(name, agent_id, json.dumps(machines))])
+        self._replace("agent", (name, agent_id, json.dumps(machines)))
 
     def forget_agent(self, name: str) -> None:
         self._write("DELETE FROM agent WHERE name = ?", [(name,)])
+        self._count(self._seals.pop(("agent", name), 0), 0)
 
     def keep_lease(self, seconds: float) -> None:
-        self._write("INSERT OR REPLACE INTO meta VALUES ('lease', ?)", [(str(seconds),)])
+        self._replace("meta", ("lease", str(seconds)))
 
     def mark(self, machine: str, mark: str | None) -> None:
         """Keeps that a machine is cordoned or drained, or is not any more."""
-        self._write("DELETE FROM mark WHERE machine = ?", [(machine,)])
         if mark is not None:
-            self._write("INSERT INTO mark VALUES (?, ?)", [(machine, mark)])
+            return self._replace("mark", (machine, mark))
+        self._write("DELETE FROM mark WHERE machine = ?", [(machine,)])
+        self._count(self._seals.pop(("mark", machine), 0), 0)
+
+    def drop(self, number: int, is_large: bool) -> None:
+        """Remove an ended submission. `drop_rows` removes the tasks and attempts of a large one."""
+        for table in ("submission", "need", "request", *(() if is_large else ("task", "attempt"))):
+            self._write(f"DELETE FROM {table} WHERE number = ?", [(number,)])
+        if is_large:
+            self._write(REPLACE["meta"], sealed("meta", [(DROPPING, str(number))]))
+
+    def drop_rows(self, words: str, rows: Sequence[tuple[Any, ...]]) -> None:
+        self._write(words, rows)
+
+    def forget_spent(self) -> None:
+        """Remove spending that is older than a budget's week."""
+        self._write("DELETE FROM spent WHERE at < ?", [(time.time() - WEEK_SECONDS,)])
+
+    def _replace(self, table: str, values: tuple[str, ...]) -> None:
+        """Write a row of agents, marks or the lease."""
+        (row,) = sealed(table, [values])
+        self._write(REPLACE[table], [row])
+        key = (table, values[0])
+        self._seals[key] = self._count(self._seals.get(key, 0), row[-1])
+
+    def _count(self, before: int, after: int) -> int:
+        """Replace a live row's checksum in the sum, 0 for none. Return the new one."""
+        self._live += after - before
+        return after
 
     def _write(self, words: str, rows: Sequence[tuple[Any, ...]]) -> None:
         if self.why_bad:
@@ -262,9 +358,15 @@ class Store:
         if self._current is not None or self._next is None:
             return
         changes, self._open = self._open, []
+        changes.append((REPLACE["spent"], sealed("spent", self._spent.values())))
+        self._spent.clear()
+        self._number += 1
+        point = Point(self._number, self._last, self._live)
+        changes.append((REPLACE["meta"], sealed("meta", [(COMMIT, point.text())])))
         self._current, self._next = self._next, None
         self._lateness = asyncio.get_running_loop().call_later(LATE_SECONDS, self._tell_late)
-        done = asyncio.get_running_loop().run_in_executor(self._writer, self._commit, changes)
+        work = partial(self._commit_known, changes, self._number)
+        done = asyncio.get_running_loop().run_in_executor(self._writer, work)
         done.add_done_callback(self._committed)
 
     def _tell_late(self) -> None:
@@ -288,15 +390,25 @@ class Store:
             current.set_result(None)
             self._hand_over()
             return
+        self._require_whole(error)
+        self._number -= 1
         self._is_ahead |= not self.why_bad  # otherwise it was a try, and nothing else was changed
         self.why_bad = f"{self.path}: {error}"
         last, self._next = self._next, None
         self._open.clear()
+        self._spent.clear()
         for future in (current, last):
             if future is not None:
                 future.set_exception(NotWritten(self.why_bad))
                 future.exception()  # that nobody may wait for it is no fault
         self.on_failure()
+
+    def _commit_known(self, changes: list[Change], number: int) -> None:
+        """Write changes, and then the number of commits, so that at most one is ahead."""
+        if self._reach.number < number - 1:
+            self._reach.keep(number - 1)
+        self._commit(changes)
+        self._reach.keep(number)
 
     def _commit(self, changes: list[Change]) -> None:
         self._connection.execute("BEGIN IMMEDIATE")
@@ -314,7 +426,7 @@ class Store:
         """Where somebody always reads, the log would grow for ever: waits for the readers from time to time."""
         now = time.monotonic()
         with suppress(sqlite3.Error, OSError):  # what was changed is on the disk all the same
-            if now >= self._next_look and self._log.stat().st_size > MOST_LOG:
+            if self._auditing is None and now >= self._next_look and self._log.stat().st_size > MOST_LOG:
                 self._next_look = now + LOOK_SECONDS
                 self._connection.execute(f"PRAGMA busy_timeout = {1_000 * READERS_SECONDS:.0f}")
                 self._connection.execute("PRAGMA wal_checkpoint(TRUNCATE)")
@@ -322,21 +434,25 @@ class Store:
 
     # Beginnings
 
+    @property
+    def _uri(self) -> str:
+        return f"file:{self.path}?mode=ro"
+
     def _begin(self) -> None:
         try:
             self._connection = self._opened()
         except sqlite3.Error as error:
-            if getattr(error, "sqlite_errorcode", 0) & 0xFF in DAMAGE:
-                raise Fault(Exit.JOURNAL, f"{self.path} is damaged ({error}); {RESTORE}") from error
+            if is_damage(error):
+                raise self._damage(error) from error
             raise Fault(Exit.STATE, f"cannot use {self.path}: {error}") from error
         except OSError as error:
             raise Fault(Exit.STATE, f"cannot use {self.folder}: {error}") from error
 
-    def _begin_reading(self) -> None:
-        self._reading = sqlite3.connect(f"file:{self.path}?mode=ro", uri=True, timeout=BUSY_SECONDS)
+    def _begin_reading(self) -> sqlite3.Connection:
+        return sqlite3.connect(self._uri, uri=True, timeout=BUSY_SECONDS)
 
     def _opened(self) -> sqlite3.Connection:
-        """The database, after a look at whose it is and whether it is whole."""
+        """Return the database once its owner, version and number of commits are checked."""
         mark = self.folder / ID
         name = mark.read_text("ascii", "replace").strip() if mark.exists() else None
         if name is not None and not self.path.exists():
@@ -354,36 +470,60 @@ class Store:
             self._make(connection)
         self._look_at(connection)
         connection.execute("PRAGMA synchronous = FULL")
-        kept = one(connection, "SELECT value FROM meta WHERE name = 'id'")
+        kept = value_of(connection, "id") or ""
+        if name not in (None, kept):
+            raise Fault(Exit.JOURNAL, f"{self.path} is of another state than {mark}; {RESTORE}")
+        self._reach = self._reached(kept, point_of(connection), name is None)
         if name is None:
             replace_synced(mark, f"{kept}\n".encode())
-        elif name != kept:
-            raise Fault(Exit.JOURNAL, f"{self.path} is of another state than {mark}; {RESTORE}")
         return connection
 
     def _make(self, connection: sqlite3.Connection) -> None:
         words = f"BEGIN; {SCHEMA} PRAGMA application_id = {APPLICATION}; PRAGMA user_version = {VERSION};"
         connection.executescript(words)
-        rows = [("id", secrets.token_hex(10)), ("tenant", self._tenant)]
-        connection.executemany("INSERT INTO meta VALUES (?, ?)", rows)
+        rows = [("id", secrets.token_hex(10)), ("tenant", self._tenant), (COMMIT, Point(0, 0, 0).text())]
+        connection.executemany(REPLACE["meta"], sealed("meta", rows))
         connection.execute("COMMIT")
 
     def _look_at(self, connection: sqlite3.Connection) -> None:
-        """Raises `Fault` where the database is not one that this program can go on with."""
+        """Raise `Fault` or `Damaged` unless the database is of this program, version and tenant."""
         if one(connection, "PRAGMA application_id") != APPLICATION:
             raise Fault(Exit.JOURNAL, f"{self.path} is not a database of firm-queue's")
-        version = one(connection, "PRAGMA user_version")
-        if version not in (*UPGRADES, VERSION):
-            raise Fault(Exit.JOURNAL, f"{self.path} is of version {version}; this firm-queue reads {VERSION} at most")
-        with closing(connection.execute("PRAGMA quick_check(1)")) as found:
-            told = found.fetchone()[0]
-        if told != "ok":
-            raise Fault(Exit.JOURNAL, f"{self.path} is damaged ({told}); {RESTORE}")
-        tenant = one(connection, "SELECT value FROM meta WHERE name = 'tenant'")
+        if (version := one(connection, "PRAGMA user_version")) != VERSION:
+            raise Fault(Exit.JOURNAL, f"{self.path} is of version {version}; this firm-queue reads {VERSION} alone")
+        with open(self.path, "rb") as file:
+            header = file.read(20)[18:]
+        with closing(sqlite3.connect(":memory:")) as other:
+            other.executescript(SCHEMA)
+            wanted = schema_of(other)
+        if header != HEADER_BYTES or schema_of(connection) != wanted:
+            raise Damaged("its header or its tables are not as they were written")
+        tenant = value_of(connection, "tenant")
         if tenant != self._tenant:
             raise Fault(Exit.STATE, f"{self.path} is the queue of the tenant {tenant}, not of {self._tenant}")
-        for older in range(version, VERSION):
-            connection.executescript(f"BEGIN; {UPGRADES[older]}; PRAGMA user_version = {older + 1}; COMMIT")
+
+    def _reached(self, state: str, point: Point, is_new: bool) -> Reach:
+        """Return how far the commits went. Raise `Fault` if the database ends before that, or goes further."""
+        path = self.folder / REACH
+        reach = Reach.read(path)
+        if reach is None and is_new:
+            return Reach.make(path, state, point.number)
+        if reach is None:
+            raise Fault(Exit.JOURNAL, f"{path} is missing, with which the state began; {RESTORE}")
+        if reach.state != state:
+            raise Fault(Exit.JOURNAL, f"{path} is of another state than {self.path}; {RESTORE}")
+        if point.number < reach.number:
+            told = f"{self.path} has {point.number:,} of {reach.number:,} commits that were acknowledged"
+            raise Fault(Exit.JOURNAL, f"{told}: it is older than {path}, or the end of its log is damaged; {RESTORE}")
+        if point.number > reach.number + 1:
+            raise Fault(Exit.JOURNAL, f"{path} is older than {self.path}; {RESTORE}")
+        reach.keep(point.number)
+        return reach
+
+
+def schema_of(connection: sqlite3.Connection) -> list[Any]:
+    with closing(connection.execute("SELECT type, name, tbl_name, sql FROM sqlite_schema ORDER BY 1, 2")) as found:
+        return found.fetchall()
 
 
 def one(connection: sqlite3.Connection, words: str) -> Any:
@@ -391,6 +531,17 @@ def one(connection: sqlite3.Connection, words: str) -> Any:
     with closing(connection.execute(words)) as found:
         row = found.fetchone()
     return row[0] if row is not None else None
+
+
+def row_of(task: Task) -> tuple[Any, ...]:
+    """Return a task's row."""
+    first = (task.submission.number, task.index, int(task.is_held), int(task.is_cancelled), task.failures, task.lost)
+    return (*first, plain(task.outcome), task.status, task.reason, task.ended, task.attempts)
+
+
+def plain(outcome: str | None) -> str | None:
+    """Return an outcome as a plain string, as it is read again."""
+    return outcome if outcome is None else str(outcome)
 
 
 def text_of(spec: Spec) -> str:

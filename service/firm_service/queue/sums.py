@@ -60,6 +60,7 @@ def sums(attempts: Iterable[PastAttempt], key: Key) -> Iterator[Row]:
 
 
 def safe_cell(value: object) -> object:
-    """A cell that no spreadsheet takes for a formula."""
-    text = str(value)
-    return f"'{text}" if isinstance(value, str) and text[:1] in ("=", "+", "-", "@") else value
+    """Return a cell that no spreadsheet takes for a formula, and that can't steer a terminal."""
+    if not isinstance(value, str):
+        return value
+    return printable(f"'{value}" if value[:1] in ("=", "+", "-", "@") else value)

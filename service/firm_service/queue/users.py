@@ -90,3 +90,10 @@ def job_of(number: int) -> str:
     if re.fullmatch(rf"[a-z0-9-]{{1,{MOST_NAME}}}", name) and not name.isdigit():
         return name
     return f"u{number}"
+
+
+def owner_of(job: str) -> int | None:
+    """Return the user for whom a job's name is reserved, if any."""
+    digits = job[1:]
+    is_reserved = job[:1] == "u" and digits.isdigit() and (digits[0] != "0" or digits == "0")
+    return int(digits) if is_reserved else None

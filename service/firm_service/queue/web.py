@@ -5,9 +5,12 @@ from __future__ import annotations
 import asyncio
 import re
 import time
+from collections import defaultdict
 from collections.abc import AsyncIterator, Iterator, Sequence
 from contextlib import asynccontextmanager, suppress
 from dataclasses import asdict, dataclass
+from functools import partial
+from itertools import islice
 from pathlib import Path
 
 from aiohttp import web
@@ -26,7 +29,7 @@ from .fields import Json, Refused
 from .front import share_of
 from .listing import Lists
 from .requests import Requests
-from .rows import Submission
+from .rows import Submission, Task
 from .shares import Share, Shares
 from .states import ENDED, State
 from .sums import WITH_PROCESS
@@ -34,7 +37,8 @@ from .users import Operators, User
 
 MOST_SUBMISSIONS, MOST_TASKS, TAIL_BYTES = 100, 200, 8_192
 COMMAND_LETTERS = 80
-DAY_AGE_SECONDS = 10.0  # for which a day that was read is shown
+# Seconds before a day is read again: at least; this multiple of the time that reading took; at most.
+DAY_AGE_SECONDS, READ_SHARE, LONGEST_DAY_AGE = 10.0, 50, 3_600.0
 TEMPLATE = Path(__file__).parents[1] / "queue.html"
 
 
@@ -210,23 +214,29 @@ class QueueSite(Pages):
 
     def _submissions(self, user: User) -> list[Json]:
         """The newest that have not ended."""
-        found: list[Json] = []
-        for submission in reversed(self._parts.core.rows.submissions.values()):
-            if submission.live and user.may_see(submission.user) and len(found) < MOST_SUBMISSIONS:
-                found.append(self._submission(submission))
-        return found
+        core, begun = self._parts.core, defaultdict[int, list[Task]](list)
+        for task in core.begun().values():
+            begun[task.submission.number].append(task)
+        all_of_user = (
+            submission
+            for submission in reversed(core.rows.submissions.values())
+            if submission.live and user.may_see(submission.user)
+        )
+        return [self._submission(one, begun[one.number]) for one in islice(all_of_user, MOST_SUBMISSIONS)]
 
-    def _submission(self, submission: Submission) -> Json:
-        counts = self._parts.core.counts(submission.tasks.values())
+    def _submission(self, submission: Submission, begun: Sequence[Task]) -> Json:
+        states = self._parts.core.states_of_submission(submission, begun)
         row = {"number": submission.number, "user": User(submission.user).name, "job": submission.job}
         command = head_of(submission.spec.command)
-        return {**row, "command": command, "tasks": len(submission.tasks), "states": dict(counts)}
+        return {**row, "command": command, "tasks": len(submission.tasks), "states": states}
 
     async def _day(self, user: User) -> Day:
-        owner, now = None if user.is_operator else user.number, time.time()
-        known = self._days.get(owner)
-        if known is None or not 0 <= now - known[0] < DAY_AGE_SECONDS:
-            day = await self._parts.core.store.read(lambda connection: day_of(connection, now, owner))
-            self._days = {name: one for name, one in self._days.items() if now - one[0] < DAY_AGE_SECONDS}
-            self._days[owner] = known = now, day
-        return known[1]
+        now = time.time()
+        for owner, (until, _) in list(self._days.items()):
+            if not now < until < now + LONGEST_DAY_AGE:
+                del self._days[owner]
+        if user.sees not in self._days:
+            day = await self._parts.core.store.read(partial(day_of, now=now, user=user.sees), aside=True)
+            age = min(max(DAY_AGE_SECONDS, READ_SHARE * (time.time() - now)), LONGEST_DAY_AGE / 2)
+            self._days[user.sees] = now + age, day
+        return self._days[user.sees][1]
