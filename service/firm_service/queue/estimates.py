@@ -55,11 +55,11 @@ class Estimates:
     async def _waiting(self) -> list[Task]:
         """Return what waits for a slot, in the order in which slots are taken."""
         rows, found = self._core.firm.rows, list[tuple[int, int, int, Task]]()
+        rounds = rows.rounds if rows is not None else 0
         for place, task in enumerate([*self._core.rows.live_tasks()]):
             if state_of(self._core.facts(task)) in (State.QUEUED, State.WAITING):
-                row = rows.tasks.get(task.firm) if rows is not None else None
-                waited = rows.waited(row) if rows is not None and row is not None else 0
-                found.append((-task.submission.weight - waited, task.submission.number, task.index, task))
+                since = rounds if task.since is None else task.since
+                found.append((since - task.submission.weight, task.submission.number, task.index, task))
             if place % AT_ONCE == 0:
                 await asyncio.sleep(0)
         return [task for *_, task in sorted(found, key=lambda entry: entry[:3])]
