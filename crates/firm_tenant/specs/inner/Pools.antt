@@ -84,7 +84,8 @@ abbrev pub IsMadeFor : ℕ × ℕ → TenantLimits → Type 0
 IsMadeFor room limits = room ≡ (limits.nodes, limits.arcs)
 
 -- a choice was begun once, and the counts since then are its own: few searches, each with at most two looks per arc; at
--- most one proposal, which with its check takes no more looks than are allowed, and no fewer than it has to read entries
+-- most one proposal, which with its check takes no more looks than are allowed, and no fewer than there are tasks and
+-- machines, if these are allowed
 pub record HasBegunOnce (old new : Pool) : Type 0 where
   pub begins : HasCounted old.workspace.net.begins new.workspace.net.begins 1
   pub searches : new.workspace.net.searches ≤ length old.rows.tasks * (length old.rows.machines + 4)
