@@ -76,8 +76,8 @@
 //! ```
 //!
 //! A round's line, as `alpha 2 29 0`, has the tenant's name, the round's path searches, their looks, and the looks of
-//! its proposals. For these lines each tenant that the service opens with, but none that a line admits, answers its own
-//! lines once more (`replay`). With `--counts` or `--search` the whole input is read first.
+//! its proposal and its check. For these lines each tenant that the service opens with, but none that a line admits,
+//! answers its own lines once more (`replay`). With `--counts` or `--search` the whole input is read first.
 #![tactic(auto)]
 
 mod choices;

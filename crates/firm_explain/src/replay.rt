@@ -82,7 +82,7 @@ impl Replay {
     }
 
     /// Adds a line for each round, tenant by tenant: the tenant's name, how many path searches the round made, how many
-    /// looks they took, and how many its proposals.
+    /// looks they took, and how many its proposal took with its check.
     pub(crate) fn put_counts(&self, page: &mut Page) {
         for replayed in self.tenants.iter() {
             page.put_page(&replayed.counts);
@@ -107,7 +107,7 @@ impl Replayed {
         self.counts.put_name(self.name);
         self.counts.put_number(b" ", scratch.searches());
         self.counts.put_number(b" ", scratch.looks());
-        self.counts.put_number(b" ", scratch.proposed());
+        self.counts.put_number(b" ", self.tenant.proposed());
         self.counts.put(b"\n");
     }
 }

@@ -1,5 +1,5 @@
 //! The two sides of a search for a path: what leads on from its start, and what leads to its goal.
-ghost use Rattle.std.specs.Prelude.{◌≡◌};
+ghost use Rattle.firm_levels.specs.Work.{GoesOn};
 
 use crate::classes::Classes;
 use crate::draft::{Draft, Step, UNIT};
@@ -7,7 +7,7 @@ use crate::links::{Link, Links, UnitLinks, Walk};
 use crate::memory::Memory;
 use crate::numbers::{NONE, Stack};
 use crate::table::Table;
-use crate::work::Work;
+use firm_levels::Work;
 
 /// How many looks a side has at most before it is the other's turn.
 const MOST_IN_TURN: u32 = 8;
@@ -178,13 +178,15 @@ impl Side {
     }
 
     /// Forgets all searches, and reads between which machines and the hub or the outside units may go.
-    pub(crate) fn read(&mut self, table: &Table, draft: &Draft, links: &Links) {
-        let end = self.marks.len().min(table.places() as usize);
+    pub(crate) fn read(&mut self, table: &Table, draft: &Draft, links: &Links, work: &mut Work)
+        ensures work { GoesOn work.old work.new }
+    {
+        let end = self.marks.len().min(work.pass(table.places()) as usize);
         self.marks[..end].fill(Mark::NONE);
         self.at_hub.clear();
         self.at_edge.clear();
         let hub = draft.price(table.hub());
-        for machine in 0..table.machines() {
+        for machine in 0..work.pass(table.machines()) {
             if draft.price(machine) == hub {
                 self.at_hub.machines.push(machine);
             }
@@ -249,12 +251,12 @@ impl Side {
     /// the most.
     #[inline(always)]
     pub(crate) fn look(&mut self, view: &View, other: &Side, work: &mut Work) -> Found
-        ensures most { work.new.most ≡ work.old.most }
+        ensures work { GoesOn work.old work.new }
     {
         self.turn = self.turn.saturating_mul(2).clamp(1, MOST_IN_TURN);
         let place = if !self.units.are_none() {
             self.look_at_unit(view, work)
-        } else if !self.walk.is_done() || self.goes_on(view) {
+        } else if !self.walk.is_done() || self.goes_on(view, work) {
             let mut walk = self.walk;
             let place = self.look_along(view, &mut walk, work);
             self.walk = walk;
@@ -283,7 +285,7 @@ impl Side {
     // Looks at a link of units of the machine that was seen last; gives the place at its other end if that is new, else
     // `NONE`.
     fn look_at_unit(&mut self, view: &View, work: &mut Work) -> u32
-        ensures most { work.new.most ≡ work.old.most }
+        ensures work { GoesOn work.old work.new }
     {
         if !work.look() {
             return NONE;
@@ -298,8 +300,13 @@ impl Side {
     }
 
     // Goes into the next machine that leads on, and says whether there is one.
-    fn goes_on(&mut self, view: &View) -> bool {
+    fn goes_on(&mut self, view: &View, work: &mut Work) -> bool
+        ensures work { GoesOn work.old work.new }
+    {
         for next in self.entered..self.near.count() {
+            if !work.look() {
+                return false;
+            }
             self.entered = next.saturating_add(1);
             let place = self.near.at(next);
             self.walk = self.walk_from(view, place);
@@ -312,7 +319,7 @@ impl Side {
 
     // Looks whether the hub or the outside is left.
     fn look_far(&mut self, view: &View, work: &mut Work) -> Found
-        ensures most { work.new.most ≡ work.old.most }
+        ensures work { GoesOn work.old work.new }
     {
         if !work.look() {
             return Found::Short;
@@ -344,7 +351,7 @@ impl Side {
     // gives; `NONE` if there is none.
     #[inline(always)]
     fn look_round(&mut self, view: &View, other: &Side, walk: &mut Walk, work: &mut Work) -> u32
-        ensures most { work.new.most ≡ work.old.most }
+        ensures work { GoesOn work.old work.new }
     {
         let from = walk.place;
         let is_hub = from == view.table.hub();
@@ -386,7 +393,7 @@ impl Side {
     // Looks along a walk, up to a new place, which it gives; `NONE` if there is none.
     #[inline(always)]
     fn look_along(&mut self, view: &View, walk: &mut Walk, work: &mut Work) -> u32
-        ensures most { work.new.most ≡ work.old.most }
+        ensures work { GoesOn work.old work.new }
     {
         let from = walk.place;
         for _ in 0..self.turn {
@@ -483,11 +490,13 @@ impl Side {
     }
 
     /// Makes the steps between a place and where this side began.
-    pub(crate) fn make(&self, table: &Table, draft: &mut Draft, end: u32) {
+    pub(crate) fn make(&self, table: &Table, draft: &mut Draft, end: u32, work: &mut Work)
+        ensures work { GoesOn work.old work.new }
+    {
         let mut place = end;
         for _ in 0..table.places() {
             let Mark { before, by, .. } = self.mark(place);
-            if before == NONE {
+            if before == NONE || !work.look() {
                 return;
             }
             let (from, to) = if self.is_ahead {
