@@ -336,7 +336,7 @@ impl Side {
     // is none. Machines and tasks take turns: where thousands of machines lead nowhere, a task often leads on.
     #[inline(always)]
     fn look_from_afar(&mut self, view: &View, other: &Side, walk: &mut Walk, work: &mut Work) -> u32
-        ensures most { work.new.most ≡ work.old.most }
+        ensures work { GoesOn work.old work.new }
     {
         let is_tasks_turn = self.is_tasks_turn;
         self.is_tasks_turn = !is_tasks_turn;
