@@ -181,7 +181,7 @@ def kept_ages(folder: Path) -> None:
 
 
 def old_history(folder: Path) -> None:
-    """Old submissions are removed in small commits, a large array too, and nothing else; numbers go on."""
+    """Old submissions are removed in small commits, arrays of any form too, and nothing else; numbers go on."""
 
     async def play() -> None:
         parts = Parts(folder)
@@ -192,9 +192,11 @@ def old_history(folder: Path) -> None:
         attempt(core, done, 0, 1)
         large = submit(core, ANN, array=[1, 1_200])
         core.change(Change.CANCEL, large.submission.tasks.values())
-        half = submit(core, BOB, array=[1, 3])
+        half = submit(core, BOB, array="1,3,5")
         attempt(core, half, 0, 2)
         waiter = submit(core, BOB, after_any=["3"])
+        gaps = submit(core, ANN, array="2,4-6")
+        core.change(Change.CANCEL, gaps.submission.tasks.values())
         await parts.store.settled()
         commit, step = parts.store._commit, retention.STEP_SECONDS
 
@@ -210,15 +212,15 @@ def old_history(folder: Path) -> None:
         finally:
             retention.STEP_SECONDS = step
         require(early == 0, f"{early} were removed at once")
-        require(count == 2, f"{count} were removed")
+        require(count == 3, f"{count} were removed")
         require(max(sizes) <= retention.MAX_ROWS + 5, f"a commit of {max(sizes)} changes")
         await parts.store.close()
         again = Parts(folder)
         kept = await again.begin()
-        require(kept.rows.last_number == 4 and sorted(kept.rows.submissions) == [3, 4], sorted(kept.rows.submissions))
+        require(kept.rows.last_number == 5 and sorted(kept.rows.submissions) == [3, 4], sorted(kept.rows.submissions))
         rows = await again.store.read(lambda connection: tuple(connection.execute(COUNTS).fetchone()))
         require(rows == (2, 4, 1, 1, 0), f"submissions, tasks, attempts, needs, requests: {rows}")
-        require(submit(again.core, ANN).submission.number == 5, "a number is given again")
+        require(submit(again.core, ANN).submission.number == 6, "a number is given again")
         await again.store.close()
         require(waiter.submission.is_blocked, "what waits for others waits on")
 
