@@ -4,14 +4,12 @@ use crate::page::Page;
 use firm_rules::{Command, Name};
 use firm_table::Opening;
 use firm_tenant::Tenant;
-use firm_text::{Heading, Line, PLACES, line_under};
+use firm_text::{Line, PLACES, line};
 use std::alloc::{AllocError, Global};
 
 /// The tenants that a service opens with, but none that a line admits.
 #[derive(Drop)]
 pub(crate) struct Replay {
-    // Under which lines are read.
-    heading: Heading,
     tenants: Vec<Replayed>,
 }
 
@@ -33,7 +31,6 @@ impl Replay {
     ) -> Result<Replay, AllocError> {
         let register = opening.register();
         let mut replay = Replay {
-            heading: opening.heading(),
             tenants: Vec::new(alloc),
         };
         for place in 0..PLACES {
@@ -64,10 +61,11 @@ impl Replay {
         Ok(())
     }
 
-    /// Adds the tenants' replies to their lines of an input. All other lines are skipped.
+    /// Adds the tenants' replies to their lines of an input, which read alike under each heading. All other lines are
+    /// skipped.
     pub(crate) fn play(&mut self, page: &mut Page, input: &[u8]) {
         for bytes in input.split(|byte| *byte == b'\n') {
-            if let Line::For(name, command) = line_under(self.heading, bytes) {
+            if let Line::For(name, command) = line(bytes) {
                 self.answer(page, name, command);
             }
         }
