@@ -333,7 +333,7 @@ def cut_power(daemon: Daemon, shadow: Path, draw: random.Random) -> None:
     if last.exists() and draw.random() < 0.7:
         synced = last.read_bytes()
         rest = unsynced[len(synced) :][: draw.randrange(200)]
-        last.write_bytes(synced + draw.choice([rest, bytes(len(rest)), rest[:-1] + b"\0"]))
+        last.write_bytes(synced + draw.choice([rest, bytes(len(rest)), rest[:-1] + bytes(len(rest[-1:]))]))
     shutil.rmtree(shadow)
     shadow.mkdir()
     for path in journal.iterdir():  # which are on the disk now, and may have numbers that others had
