@@ -104,8 +104,8 @@ COUNTS = [
 
 NO_NOTIFICATION = Edit(
     "firm_bell/src/bell.rt",
-    "let resting = table.load::<LooksForRest>(&mut seat, RESTING);\n        if resting != 0 {",
-    "let resting = table.load::<LooksForRest>(&mut seat, RESTING);\n        if self.workers < resting {",
+    "let resting = table.load::<LooksForRest>(&mut caller.seat, RESTING);\n        if resting != 0 {",
+    "let resting = table.load::<LooksForRest>(&mut caller.seat, RESTING);\n        if self.workers < resting {",
 )
 
 

@@ -28,7 +28,7 @@ from harness.kinds import read_size
 from harness.service import FULL_HEADING
 
 SIZES = "6x4,24x8,120x40,1000x350"
-MOST_LOOKS = 1 << 24  # for a proposal, by firm_tenant
+MOST_LOOKS = 1 << 26  # for a proposal, by firm_tenant
 MOST_TENANTS = 64
 LINES_AT_A_TIME = 4_000  # of all books that are played in one run
 MOST_LINES = 30_000  # of a book

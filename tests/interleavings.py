@@ -97,8 +97,8 @@ def change(form: str, *acts: Act) -> Steps:
 
 # The workers of a hall, which rest until they are woken for a round or the hall is shut; callers, which may sleep at a
 # full queue; and the clerk, which sleeps until there is room for a round, or an answer. That each step keeps the rule
-# of the bell's words is proved (`crates/firm_bell/specs/Bell.antt`); here stands what no clause sees: the queue, the
-# event counts, and the kernel, which lays threads down and wakes them.
+# of the bell's words is proved (`crates/firm_bell/specs/Bell.antt`), and that they count the queue's rounds; here is
+# what no clause sees: the event counts, and the kernel, which lays threads down and wakes them.
 #
 # What is left out changes nothing: the notifications of a queue with room for all rounds and of a clerk that is not
 # there, which find no waiter; answers and the stop word, where workers stay in their gates; and each read by which a
@@ -194,12 +194,13 @@ def is_hall_shut() -> Steps:
 
 def worker_with_round(hall: Hall, owes_call: bool) -> Steps:
     """Goes into its gate, in which it stays for ever; or answers, where the hall is shut at the end."""
-    if hall.may_be_full:
-        yield from notify(hall.form, ROOM)
-    if (yield fetch_add("waiting", -1)) == hall.room and hall.rounds and hall.form != ROOM_UNTOLD:
-        yield from notify(hall.form, ANSWERS)
+    was_full = (yield fetch_add("waiting", -1)) == hall.room
     if owes_call and hall.form != ALONE:
         yield from call_if_waiting(hall)
+    if hall.may_be_full:
+        yield from notify(hall.form, ROOM)
+    if was_full and hall.rounds and hall.form != ROOM_UNTOLD:
+        yield from notify(hall.form, ANSWERS)
     if not hall.is_shut:
         return None
     return begin(answering_worker, hall) if hall.rounds else begin(worker, hall)
@@ -229,22 +230,25 @@ def resting_worker(hall: Hall) -> Steps:
     return begin(worker, hall, True)
 
 
-def caller(hall: Hall, puts: int) -> Steps:
+def caller(hall: Hall, puts: int, owes: bool = False) -> Steps:
     """Puts rounds, and rings behind the last, before it waits."""
-    yield from put(hall)
+    owes = (yield from put(hall)) or owes
     if puts > 1:
-        return begin(caller, hall, puts - 1)
-    yield from ring(hall)
+        return begin(caller, hall, puts - 1, owes)
+    yield from ring(hall, owes)
     return None
 
 
 def put(hall: Hall) -> Steps:
-    if hall.form == NO_CALL:
-        yield from count_and_put(hall)
-    else:
-        yield from call(hall, (yield from resting_to_call(hall, (yield from count_and_put(hall)))))
+    """Whether a wake is owed for the round."""
+    owes = False
+    many_wait = yield from count_and_put(hall)
+    if hall.form != NO_CALL:
+        resting, owes = yield from resting_to_call(hall, many_wait)
+        yield from call(hall, resting)
     if hall.form == LATE_COUNT:
         yield add("waiting", 1)
+    return owes
 
 
 def count_and_put(hall: Hall) -> Steps:
@@ -256,12 +260,14 @@ def count_and_put(hall: Hall) -> Steps:
 
 
 def resting_to_call(hall: Hall, many_wait: bool) -> Steps:
-    """How many workers rest, if one is to be woken: where all rest or many rounds wait. Else a wake is owed."""
+    """Return the number of resting workers if one is to be woken, as all rest or many rounds wait; and whether a wake
+    is owed.
+    """
     resting = yield load("resting")
     if many_wait or resting in (0, hall.workers):
-        return resting
+        return resting, False
     yield store("owes", 1)
-    return 0
+    return 0, True
 
 
 def put_in_full_queue(hall: Hall) -> Steps:
@@ -283,9 +289,9 @@ def sleep_by(key: int, name: str, awaits: str = "") -> Steps:
         is_woken = yield Sleep(name + "epoch", key, awaits=awaits)
 
 
-def ring(hall: Hall) -> Steps:
-    """Wakes a worker if one is owed and a round waits."""
-    if hall.form != NO_RING and (yield swap("owes", 0)):
+def ring(hall: Hall, owes: bool) -> Steps:
+    """Wakes a worker if this caller left a wake that is owed, and a round waits."""
+    if owes and hall.form != NO_RING and (yield swap("owes", 0)):
         yield from call_if_waiting(hall)
 
 
@@ -299,34 +305,39 @@ def shutter(hall: Hall) -> Steps:
 
 def hall_clerk(hall: Hall, rounds: int, away: int = 0) -> Steps:
     """Puts rounds, each once there is room, and takes the answers. Shuts the hall once all are back."""
-    rounds, away = yield from looks(hall, rounds, away)
+    rounds, away, owes = yield from looks(hall, rounds, away)
     if not rounds and not away:
         return begin(shutter, hall)
-    yield from ring(hall)
+    yield from ring(hall, owes)
+    del owes
     return begin(waiting_clerk, hall, rounds, away)
 
 
 def waiting_clerk(hall: Hall, rounds: int, away: int) -> Steps:
     """Sleeps until there is room for a round that is left, or an answer, unless all are back."""
     key = yield from announce(ANSWERS)
+    owes = False
     if hall.form != NO_LOOK:
-        rounds, away = yield from looks(hall, rounds, away)
+        rounds, away, owes = yield from looks(hall, rounds, away)
     if rounds or away:
-        yield from ring(hall)
+        yield from ring(hall, owes)
         yield from sleep_by(key, ANSWERS, ROOM * (rounds > 0) + ANSWERS * (away > 0))
-    del key
+    del key, owes
     yield from cancel(ANSWERS)
     return begin(hall_clerk, hall, rounds, away) if rounds or away else begin(shutter, hall)
 
 
 def looks(hall: Hall, rounds: int, away: int) -> Steps:
-    """Takes the answers that are there, and puts rounds while there is room; how many are left, and how many away."""
+    """Takes the answers that are there, and puts rounds while there is room; how many are left, how many away, and
+    whether a wake is owed.
+    """
+    owes = False
     while away and (yield pop("answers")):
         away -= 1
     while rounds and (yield load("waiting")) < hall.room:
-        yield from put(hall)
+        owes = (yield from put(hall)) or owes
         rounds, away = rounds - 1, away + 1
-    return rounds, away
+    return rounds, away, owes
 
 
 def open_hall(form: str, hall: Hall) -> Model:

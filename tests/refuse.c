@@ -9,6 +9,7 @@
 //   REFUSE_THREAD                       which thread can't be started
 //   DELAY_MEMORY                        how many milliseconds each request for memory takes on another thread than the first
 //   HOLD_MEMORY                         no number, but a file: as long as it is there these requests wait
+//   HOLD_ONE                            1: only the first of them does
 //   COUNTS                              a file to which the counts are written: memory, reads, writes, other reads, threads
 #define _GNU_SOURCE
 #include <dlfcn.h>
@@ -38,8 +39,9 @@ enum { WARM_BYTES = 120 * 1024 };
 static atomic_ulong unshared[COUNTED];
 static atomic_ulong *counts = unshared;
 static unsigned long refuse_first, refuse_last, fail_read, fail_write, fail_file, fail_with, read_most, write_most;
-static unsigned long refuse_warm_up, refuse_thread, delay_memory;
+static unsigned long refuse_warm_up, refuse_thread, delay_memory, hold_one;
 static const char *hold_memory;
+static atomic_int has_held;
 static int is_ready;
 
 static unsigned long number(const char *name) {
@@ -60,6 +62,7 @@ __attribute__((constructor)) static void begin(void) {
     refuse_thread = number("REFUSE_THREAD");
     delay_memory = number("DELAY_MEMORY");
     hold_memory = getenv("HOLD_MEMORY");
+    hold_one = number("HOLD_ONE");
     const char *path = getenv("COUNTS");
     int file = path ? open(path, O_RDWR | O_CREAT | O_TRUNC, 0600) : -1;
     if (file >= 0 && ftruncate(file, sizeof unshared) == 0) {
@@ -87,7 +90,8 @@ static void rest(unsigned long milliseconds) {
 static int is_refused(void) {
     if (!is_ready) return 0;
     if ((delay_memory != 0 || hold_memory != NULL) && !is_first_thread()) {
-        while (hold_memory != NULL && access(hold_memory, F_OK) == 0) rest(5);
+        int holds = hold_memory != NULL && !(atomic_exchange(&has_held, 1) && hold_one);
+        while (holds && access(hold_memory, F_OK) == 0) rest(5);
         rest(delay_memory);
     }
     unsigned long place = count(MEMORY);

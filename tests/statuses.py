@@ -368,7 +368,7 @@ def states(built: str, folder: Path) -> None:
         found = run(built, words, b"a show\n")
         require(found == (3, b"", b"firm: cannot read state\n"), found)
     found = run(built, ["--state", "/dev/zero"])
-    require(found == (3, b"", b"firm: state fault 1 version in line 1\n"), found)
+    require(found == (3, b"", b"firm: state too long\n"), found)
 
 
 def bytes_of_the_roster(built: str, folder: Path) -> None:

@@ -12,11 +12,12 @@ use Rattle.atomic_table.proofs.Lists.{at_set, at_snoc, at_last, at_longer, set_a
 use Rattle.firm_bell.specs.declared.rule.Stage.{Stage}
 use Rattle.firm_bell.specs.declared.rule.Stage.TheVariants.{Awake, Putting, Announced, Resting, Ended}
 use Rattle.firm_bell.specs.declared.rule.BellSight.{BellSight}
-use Rattle.firm_bell.specs.Bell.{BellWords, laid, everyone, IsShut, sight, newcomer, puts, in_rest, rests, seats}
-use Rattle.firm_bell.specs.Bell.{Each, Any}
+use Rattle.firm_bell.specs.Bell.{BellWords, laid, everyone, IsShut, newcomer, seen, puts, in_rest, rests, seats}
+use Rattle.firm_bell.specs.Bell.{Each, Any, total}
 use Rattle.firm_bell.specs.Bell.{IsHeard, none_rests, wake_comes, wake_is_owed, call_is_owed, IsKept, BellState}
 use Rattle.firm_bell.specs.Bell.{KeepsRule}
-use Rattle.firm_bell.specs.Steps.{Hand, Found, at_stage, free, owing, knowing, comes, expects, looks_for_rest}
+use Rattle.firm_bell.specs.Steps.{Hand, Found, at_stage, free, owing, knowing, ringing, tallied, one_taken}
+use Rattle.firm_bell.specs.Steps.{comes, expects, looks_for_rest, owes}
 use Rattle.firm_bell.specs.Steps.{looks_for_round, discharges, rings, shuts, learns_shut, announces, lies_down}
 use Rattle.firm_bell.specs.Steps.{wakes_up, ends_rest, takes, ends}
 
@@ -44,6 +45,36 @@ module _ (kind : Stage → ℕ) where
   seats_more : (xs : List BellSight) (x : BellSight) → seats kind (xs ++ x ∷ []) ≡ seats kind xs + kind x.stage
   seats_more [] x = omega arith
   seats_more (y ∷ ys) x = omega (arith, seats_more ys x)
+
+module _ (of : BellSight → ℕ) where
+  total_set : (xs : List BellSight) (i : ℕ) (v x : BellSight) → get_elem? xs i ≡ some v
+      → total of (set xs i x) + of v ≡ total of xs + of x
+  total_set [] i v x e = absurd (some-ne-none v (sym e))
+  total_set (y ∷ ys) zero v x e =
+      let same : of y ≡ of v = ap of (some-injective y v e) in
+      omega arith
+  total_set (y ∷ ys) (suc i) v x e = omega (arith, total_set ys i v x e)
+
+  total_more : (xs : List BellSight) (x : BellSight) → total of (xs ++ x ∷ []) ≡ total of xs + of x
+  total_more [] x = omega arith
+  total_more (y ∷ ys) x = omega (arith, total_more ys x)
+
+abbrev Rings : BellSight → Type 0
+Rings v = v.owes_ring ≡ true
+
+took_of : BellSight → ℕ
+took_of v = v.took
+
+counted_of : BellSight → ℕ
+counted_of v = v.counted
+
+-- what waits is what was counted and not taken, before a step and after it
+exact_after : (waiting waiting' took took' counted counted' t t' c c' : ℕ)
+    → (waiting + took) % 2 ^ 64 ≡ counted % 2 ^ 64
+    → took' + t ≡ took + t' → counted' + c ≡ counted + c'
+    → (waiting' + t' + c) % 2 ^ 64 ≡ (waiting + t + c') % 2 ^ 64
+    → (waiting' + took') % 2 ^ 64 ≡ counted' % 2 ^ 64
+exact_after waiting waiting' took took' counted counted' t t' c c' before tooks counts step = omega arith
 
 resting_less : (stage : Stage) → rests stage ≤ in_rest stage
 resting_less Awake = omega arith
@@ -97,6 +128,13 @@ module _ (views : List BellSight) (id : ℕ) (v x : BellSight) (at : get_elem? v
     pub late : v.is_late ≡ true → x.is_late ≡ true
     pub came : x.is_late ≡ true → IsShut w
     pub first : IsShut w → w.waiting ≡ 0 → (u.waiting ≡ 0) ⊎ (x.is_late ≡ true)
+    pub rung : u.owes ≢ 0 → Any Rings (set views id x)
+    pub exact : (u.waiting + x.took + v.counted) % 2 ^ 64 ≡ (w.waiting + v.took + x.counted) % 2 ^ 64
+
+  -- a seat that has still to ring has so after the step
+  rung_set : (owes : ℕ) → (v.owes_ring ≡ true → x.owes_ring ≡ true) → (owes ≢ 0 → Any Rings views) → owes ≢ 0
+      → Any Rings (set views id x)
+  rung_set owes keep rung e = any_set Rings keep (rung e)
 
   kept : (w u : BellWords) → IsKept w views → Turns w u → IsKept u (set views id x)
   kept w u k t =
@@ -121,6 +159,12 @@ module _ (views : List BellSight) (id : ℕ) (v x : BellSight) (at : get_elem? v
         counted = (let turn = seats_set in_rest views id v x at in
             let before = k.counted in let now = t.counted in omega arith);
         few = t.few;
+        rung = t.rung;
+        exact =
+            exact_after w.waiting u.waiting (total (λ y. y.took) views) (total (λ y. y.took) (set views id x))
+            (total (λ y. y.counted) views) (total (λ y. y.counted) (set views id x)) v.took x.took v.counted
+            x.counted k.exact (total_set (λ y. y.took) views id v x at) (total_set (λ y. y.counted) views id v x at)
+            t.exact;
       }
 
   -- the same where the rounds do not change and no worker ends
@@ -129,8 +173,9 @@ module _ (views : List BellSight) (id : ℕ) (v x : BellSight) (at : get_elem? v
       → (seats puts (set views id x) < u.waiting → IsHeard u.owes u.wakes (set views id x))
       → u.wakes ≤ everyone → (w.wakes ≡ everyone → u.wakes ≡ everyone) → (u.wakes ≡ everyone → w.wakes ≡ everyone)
       → (v.knows_shut ≡ true → x.knows_shut ≡ true) → (x.knows_shut ≡ true → IsShut w) → x.stage ≢ Ended
-      → x.is_late ≡ v.is_late → IsKept u (set views id x)
-  plain w u k waiting counted heard few enough only knows knew lives late =
+      → x.is_late ≡ v.is_late → (u.owes ≢ 0 → Any Rings (set views id x)) → x.took ≡ v.took → x.counted ≡ v.counted
+      → IsKept u (set views id x)
+  plain w u k waiting counted heard few enough only knows knew lives late rung took counts =
       kept w u k (record {
         counted = counted;
         heard = heard;
@@ -143,6 +188,8 @@ module _ (views : List BellSight) (id : ℕ) (v x : BellSight) (at : get_elem? v
         late = λ e. late ∙ e;
         came = λ e. k.late id v at (sym late ∙ e);
         first = λ n zero_is. inl (waiting ∙ zero_is);
+        rung = rung;
+        exact = omega (arith, waiting, took, counts);
       })
 
 -- the views with a new one behind them
@@ -166,14 +213,15 @@ module _ (views : List BellSight) (x : BellSight) where
   heard_snoc owes wakes awake (wake_is_owed is) = wake_is_owed is
   heard_snoc owes wakes awake (call_is_owed any) = call_is_owed (any_snoc (λ (u : BellSight). u.owes_call ≡ true) any)
 
-  -- a seat comes that neither puts nor rests nor is late; whether a wake is owed and how many are left may change
-  joined : (w : BellWords) (owes wakes : ℕ) → IsKept w views → puts x.stage ≡ 0 → in_rest x.stage ≡ 0
-      → (IsHeard w.owes w.wakes views → IsHeard owes wakes (views ++ x ∷ []))
+  -- a seat comes that neither puts nor rests nor is late; how many wakes are left may change
+  joined : (w : BellWords) (wakes : ℕ) → IsKept w views → puts x.stage ≡ 0 → in_rest x.stage ≡ 0
+      → (IsHeard w.owes w.wakes views → IsHeard w.owes wakes (views ++ x ∷ []))
       → wakes ≤ everyone → (IsShut w → wakes ≡ everyone) → (wakes ≡ everyone → IsShut w ⊎ (x.knows_shut ≡ true))
-      → (x.knows_shut ≡ true → wakes ≡ everyone) → (x.stage ≢ Ended) → x.is_late ≡ false
+      → (x.knows_shut ≡ true → wakes ≡ everyone) → (x.stage ≢ Ended) → x.is_late ≡ false → x.took ≡ 0
+      → x.counted ≡ 0
       → IsKept
-      (record { waiting = w.waiting; owes = owes; resting = w.resting; wakes = wakes }) (views ++ x ∷ [])
-  joined w owes wakes k zero_is up heard few stays only knows lives early =
+      (record { waiting = w.waiting; owes = w.owes; resting = w.resting; wakes = wakes }) (views ++ x ∷ [])
+  joined w wakes k zero_is up heard few stays only knows lives early took counts =
       let Late : BellSight → Type 0 = λ (y : BellSight). y.is_late ≡ true in
       let Knows : BellSight → Type 0 = λ (y : BellSight). y.knows_shut ≡ true in
       record {
@@ -191,6 +239,12 @@ module _ (views : List BellSight) (x : BellSight) where
             (λ e. let no : false ≡ true = sym early ∙ e in cc) (λ j y is e. stays (k.late j y is e));
         counted = seats_snoc in_rest up ∙ k.counted;
         few = few;
+        rung = λ e. any_snoc Rings (k.rung e);
+        exact =
+            exact_after w.waiting w.waiting (total (λ y. y.took) views) (total (λ y. y.took) (views ++ x ∷ []))
+            (total (λ y. y.counted) views) (total (λ y. y.counted) (views ++ x ∷ [])) 0 x.took 0 x.counted k.exact
+            (omega (arith, total_more (λ y. y.took) views x)) (omega (arith, total_more (λ y. y.counted) views x))
+            (omega (arith, took, counts));
       }
 
 -- A step at a word: what it owes is a step of the words that the rule names.
@@ -280,6 +334,8 @@ opens = (
     late = alone (λ (y : BellSight). y.is_late ≡ true → 0 ≡ everyone) newcomer (λ (e : false ≡ true). cc);
     counted = refl;
     few = omega arith;
+    rung = λ e. absurd (e refl);
+    exact = refl;
   },
 )
 
@@ -291,34 +347,12 @@ comes_in slots s k _ _ =
       (
         w,
         k.1,
-        joined s.views newcomer w w.owes w.wakes k.2 refl refl
+        joined s.views newcomer w w.wakes k.2 refl refl
             (λ h. heard_snoc s.views newcomer w.owes w.wakes refl h)
-            k.2.few (λ e. e) (λ e. inl e) (λ (e : false ≡ true). cc) (λ (e : Awake ≡ Ended). cc) refl,
+            k.2.few (λ e. e) (λ e. inl e) (λ (e : false ≡ true). cc) (λ (e : Awake ≡ Ended). cc) refl refl refl,
       ),
       refl,
     )
-
-pub rings_in : (slots : ℕ) → Arrives KeepsRule slots 8 (λ _. 0) (rings (step slots 8 0 0 none) (newcomer, []))
-rings_in slots =
-    entering 8 (λ w. w.owes) with_owes (λ w. refl) (λ n w. refl) slots 0 (rings (step slots 8 0 0 none) (newcomer, []))
-    (λ w views k.
-    dite (ℕ_discrete w.owes 0)
-    (λ zero_is. (
-      newcomer,
-      joined views newcomer w 0 w.wakes k refl refl
-          (λ h. subst (λ (o : ℕ). IsHeard o w.wakes (views ++ newcomer ∷ [])) zero_is
-          (heard_snoc views newcomer w.owes w.wakes refl h))
-          k.few (λ e. e) (λ e. inl e) (λ (e : false ≡ true). cc) (λ (e : Awake ≡ Ended). cc) refl,
-      ((λ _. refl), λ n. absurd (n zero_is)),
-    ))
-    (λ owed. (
-      owing Awake newcomer,
-      joined views (owing Awake newcomer) w 0 w.wakes k refl refl
-          (λ h. call_is_owed
-          (any_last views (owing Awake newcomer) (λ (u : BellSight). u.owes_call ≡ true) refl))
-          k.few (λ e. e) (λ e. inl e) (λ (e : false ≡ true). cc) (λ (e : Awake ≡ Ended). cc) refl,
-      ((λ e. absurd (owed e)), λ _. refl),
-    )))
 
 pub shuts_in : (slots : ℕ)
     → Arrives KeepsRule slots 24 (λ _. 65536) (shuts (step slots 24 65536 0 none) (newcomer, []))
@@ -328,8 +362,8 @@ shuts_in slots =
     (shuts (step slots 24 65536 0 none) (newcomer, []))
     (λ w views k. (
       x,
-      joined views x w w.owes 65536 k refl refl (λ _. wake_comes (λ e. absurd (omega (arith, e))))
-          (omega arith) (λ _. refl) (λ _. inr refl) (λ _. refl) (λ (e : Awake ≡ Ended). cc) refl,
+      joined views x w 65536 k refl refl (λ _. wake_comes (λ e. absurd (omega (arith, e))))
+          (omega arith) (λ _. refl) (λ _. inr refl) (λ _. refl) (λ (e : Awake ≡ Ended). cc) refl refl refl,
       refl,
     ))
 
@@ -338,8 +372,9 @@ module _ (w : BellWords) (views : List BellSight) (id : ℕ) (v : BellSight) (k 
     (at : get_elem? views id ≡ some v) where
   -- where no round waits, any view keeps the rule that has announced a rest or not as before, and knows no more
   quiet : (x : BellSight) → w.waiting ≡ 0 → in_rest x.stage ≡ in_rest v.stage → x.knows_shut ≡ v.knows_shut
-      → (x.stage ≡ Ended → v.knows_shut ≡ true) → x.is_late ≡ v.is_late → IsKept w (set views id x)
-  quiet x zero_is up knows ends_so late =
+      → (x.stage ≡ Ended → v.knows_shut ≡ true) → x.is_late ≡ v.is_late → x.owes_ring ≡ v.owes_ring
+      → x.took ≡ v.took → x.counted ≡ v.counted → IsKept w (set views id x)
+  quiet x zero_is up knows ends_so late ring took counts =
       kept views id v x at w w k (record {
         counted = omega arith;
         heard = λ more. absurd (omega (arith, more, zero_is));
@@ -352,6 +387,8 @@ module _ (w : BellWords) (views : List BellSight) (id : ℕ) (v : BellSight) (k 
         late = λ e. late ∙ e;
         came = λ e. k.late id v at (sym late ∙ e);
         first = λ n e. inl e;
+        rung = rung_set views id v x at w.owes (λ e. ring ∙ e) k.rung;
+        exact = omega (arith, took, counts);
       })
 
   -- a call is no longer owed, or is owed from now on, by a seat that does not rest
@@ -359,10 +396,21 @@ module _ (w : BellWords) (views : List BellSight) (id : ℕ) (v : BellSight) (k 
       → in_rest v.stage ≡ 0 → in_rest x.stage ≡ 0 → x.stage ≢ Ended → x.knows_shut ≡ v.knows_shut
       → x.is_late ≡ v.is_late → u.wakes ≤ everyone → (w.wakes ≡ everyone → u.wakes ≡ everyone)
       → (u.wakes ≡ everyone → w.wakes ≡ everyone)
-      → IsHeard u.owes u.wakes (set views id x) → IsKept u (set views id x)
-  turns x u waiting resting up down lives knew late few enough only heard =
+      → IsHeard u.owes u.wakes (set views id x) → (u.owes ≢ 0 → Any Rings (set views id x)) → x.took ≡ v.took
+      → x.counted ≡ v.counted → IsKept u (set views id x)
+  turns x u waiting resting up down lives knew late few enough only heard rung took counts =
       plain views id v x at w u k waiting (omega arith) (λ _. heard) few enough only (λ e. knew ∙ e)
-      (λ e. k.knew id v at (sym knew ∙ e)) lives late
+      (λ e. k.knew id v at (sym knew ∙ e)) lives late rung took counts
+
+  -- a caller rings, and no wake was owed
+  rung_quietly : w.owes ≡ 0 → v.stage ≢ Ended → IsKept (with_owes 0 w) (set views id (ringing false v))
+  rung_quietly zero_is lives =
+      let x = ringing false v in
+      let turn = seats_set puts views id v x at in
+      plain views id v x at w (with_owes 0 w) k refl (omega arith)
+      (λ more. subst (λ (o : ℕ). IsHeard o w.wakes (set views id x)) zero_is
+      (heard_set views id v x at w.owes w.wakes (omega arith) (λ o. o) (k.heard (omega (arith, more)))))
+      k.few (λ e. e) (λ e. e) (λ e. e) (λ e. k.knew id v at e) lives refl (λ e. absurd (e refl)) refl refl
 
   none_left : (x : BellSight) → w.resting ≡ 0 → rests x.stage ≡ 0 → seats rests (set views id x) ≡ 0
   none_left x zero_is awake =
@@ -378,21 +426,26 @@ module _ (w : BellWords) (views : List BellSight) (id : ℕ) (v : BellSight) (k 
       (λ zero_is. (
         free Awake v,
         turns (free Awake v) w refl refl up refl (λ (e : Awake ≡ Ended). cc) refl refl k.few (λ e. e) (λ e. e)
-            (none_rests (none_left (free Awake v) zero_is refl)),
+            (none_rests (none_left (free Awake v) zero_is refl))
+            (rung_set views id v (free Awake v) at w.owes (λ e. e) k.rung) refl refl,
         ((λ _. refl), λ n. absurd (n zero_is)),
       ))
       (λ more. (
         owing Awake v,
         turns (owing Awake v) w refl refl up refl (λ (e : Awake ≡ Ended). cc) refl refl k.few (λ e. e) (λ e. e)
-            (call_is_owed (any_here views id v (owing Awake v) at (λ (u : BellSight). u.owes_call ≡ true) refl)),
+            (call_is_owed (any_here views id v (owing Awake v) at (λ (u : BellSight). u.owes_call ≡ true) refl))
+            (rung_set views id v (owing Awake v) at w.owes (λ e. e) k.rung) refl refl,
         ((λ e. absurd (more e)), λ _. refl),
       ))
 
+  abbrev counting : BellSight → Bool → BellSight
+  counting v late = tallied (v.counted + 1) v.took v.left (seen v Putting v.owes_call v.knows_shut late)
+
   counted_late : (late : Bool) → v.stage ≡ Awake → (v.is_late ≡ true → late ≡ true) → (IsShut w → late ≡ true)
       → (late ≡ true → IsShut w) → IsKept (with_waiting ((w.waiting + 1) % 2 ^ 64) w)
-      (set views id (sight Putting v.owes_call v.knows_shut late))
+      (set views id (counting v late))
   counted_late late is keep closed came =
-      let x = sight Putting v.owes_call v.knows_shut late in
+      let x = counting v late in
       let u = with_waiting ((w.waiting + 1) % 2 ^ 64) w in
       let up : in_rest v.stage ≡ 0 = ap in_rest is in
       let off : puts v.stage ≡ 0 = ap puts is in
@@ -409,20 +462,22 @@ module _ (w : BellWords) (views : List BellSight) (id : ℕ) (v : BellSight) (k 
         late = keep;
         came = came;
         first = λ n e. inr (closed n);
+        rung = rung_set views id v x at w.owes (λ e. e) k.rung;
+        exact = omega arith;
       })
 
   counts : v.stage ≡ Awake
       → (x : BellSight) × IsKept (with_waiting ((w.waiting + 1) % 2 ^ 64) w) (set views id x)
-      × (x ≡ sight Putting v.owes_call v.knows_shut x.is_late)
+      × (x ≡ counting v x.is_late)
   counts is =
       dite (ℕ_discrete w.wakes everyone)
       (λ closed. (
-        sight Putting v.owes_call v.knows_shut true,
+        counting v true,
         counted_late true is (λ _. refl) (λ _. refl) (λ _. closed),
         refl,
       ))
       (λ open_is. (
-        sight Putting v.owes_call v.knows_shut v.is_late,
+        counting v v.is_late,
         counted_late v.is_late is (λ e. e) (λ e. absurd (open_is e)) (λ e. k.late id v at e),
         refl,
       ))
@@ -430,9 +485,9 @@ module _ (w : BellWords) (views : List BellSight) (id : ℕ) (v : BellSight) (k 
   none_was_counted : (late : Bool) → v.stage ≡ Awake → (v.is_late ≡ true → late ≡ true)
       → (IsShut w → late ≡ true) → (late ≡ true → IsShut w)
       → IsKept (with_waiting ((w.waiting + (2 ^ 64 - 1)) % 2 ^ 64) w)
-      (set views id (sight Awake true v.knows_shut late))
+      (set views id (one_taken (seen v Awake true v.knows_shut late)))
   none_was_counted late is keep closed came =
-      let x = sight Awake true v.knows_shut late in
+      let x = one_taken (seen v Awake true v.knows_shut late) in
       let up : in_rest v.stage ≡ 0 = ap in_rest is in
       kept views id v x at w (with_waiting ((w.waiting + (2 ^ 64 - 1)) % 2 ^ 64) w) k (record {
         counted = omega arith;
@@ -446,18 +501,21 @@ module _ (w : BellWords) (views : List BellSight) (id : ℕ) (v : BellSight) (k 
         late = keep;
         came = came;
         first = λ n e. inr (closed n);
+        rung = rung_set views id v x at w.owes (λ e. e) k.rung;
+        exact = omega arith;
       })
 
   one_was_counted : v.stage ≡ Awake → w.waiting < 18446744073709551616 → w.waiting ≢ 0
-      → IsKept (with_waiting ((w.waiting + (2 ^ 64 - 1)) % 2 ^ 64) w) (set views id v)
+      → IsKept (with_waiting ((w.waiting + (2 ^ 64 - 1)) % 2 ^ 64) w) (set views id (one_taken v))
   one_was_counted is small more =
       let n : ℕ = w.waiting in
-      kept views id v v at w (with_waiting ((w.waiting + (2 ^ 64 - 1)) % 2 ^ 64) w) k (record {
+      let x = one_taken v in
+      kept views id v x at w (with_waiting ((w.waiting + (2 ^ 64 - 1)) % 2 ^ 64) w) k (record {
         counted = refl;
         heard = λ less.
-            let turn = seats_set puts views id v v at in
+            let turn = seats_set puts views id v x at in
             let fewer : (n + 18446744073709551615) % 18446744073709551616 ≡ n - 1 = omega (arith, more, small) in
-            heard_set views id v v at w.owes w.wakes (omega arith) (λ o. o) (k.heard (omega (arith, less)));
+            heard_set views id v x at w.owes w.wakes (omega arith) (λ o. o) (k.heard (omega (arith, less)));
         few = k.few;
         enough = λ e. e;
         only = λ e. e;
@@ -467,26 +525,28 @@ module _ (w : BellWords) (views : List BellSight) (id : ℕ) (v : BellSight) (k 
         late = λ e. e;
         came = λ e. k.late id v at e;
         first = λ _ zero_is. absurd (more zero_is);
+        rung = rung_set views id v x at w.owes (λ e. e) k.rung;
+        exact = omega arith;
       })
 
   taken : v.stage ≡ Awake → w.waiting < 18446744073709551616
       → (x : BellSight) × IsKept (with_waiting ((w.waiting + (2 ^ 64 - 1)) % 2 ^ 64) w) (set views id x)
-      × Found w.waiting 0 (x ≡ sight Awake true v.knows_shut x.is_late) (x ≡ v)
+      × Found w.waiting 0 (x ≡ one_taken (seen v Awake true v.knows_shut x.is_late)) (x ≡ one_taken v)
   taken is small =
       dite (ℕ_discrete w.waiting 0)
       (λ zero_is.
       dite (ℕ_discrete w.wakes everyone)
       (λ closed. (
-        sight Awake true v.knows_shut true,
+        one_taken (seen v Awake true v.knows_shut true),
         none_was_counted true is (λ _. refl) (λ _. refl) (λ _. closed),
         ((λ _. refl), λ m. absurd (m zero_is)),
       ))
       (λ open_is. (
-        sight Awake true v.knows_shut v.is_late,
+        one_taken (seen v Awake true v.knows_shut v.is_late),
         none_was_counted v.is_late is (λ e. e) (λ e. absurd (open_is e)) (λ e. k.late id v at e),
         ((λ _. refl), λ m. absurd (m zero_is)),
       )))
-      (λ more. (v, one_was_counted is small more, ((λ e. absurd (more e)), λ _. refl)))
+      (λ more. (one_taken v, one_was_counted is small more, ((λ e. absurd (more e)), λ _. refl)))
 
   shut_seen : v.stage ≡ Awake
       → (x : BellSight) × IsKept w (set views id x) × Found w.wakes everyone (x ≡ knowing v) (x ≡ v)
@@ -501,7 +561,8 @@ module _ (w : BellWords) (views : List BellSight) (id : ℕ) (v : BellSight) (k 
         plain views id v x at w w k refl (omega arith)
             (λ more. heard_set views id v x at w.owes w.wakes (omega arith) (λ o. o)
             (k.heard (omega (arith, more))))
-            k.few (λ e. e) (λ e. e) (λ _. refl) (λ _. closed) (λ (e : Awake ≡ Ended). cc) refl,
+            k.few (λ e. e) (λ e. e) (λ _. refl) (λ _. closed) (λ (e : Awake ≡ Ended). cc) refl
+            (rung_set views id v x at w.owes (λ e. e) k.rung) refl refl,
         ((λ _. refl), λ n. absurd (n closed)),
       ))
       (λ open_is. (v, same w views id v k at, ((λ e. absurd (open_is e)), λ _. refl)))
@@ -516,6 +577,7 @@ module _ (w : BellWords) (views : List BellSight) (id : ℕ) (v : BellSight) (k 
       plain views id v x at w (with_resting new w) k refl (omega arith)
       (λ more. heard_set views id v x at w.owes w.wakes (omega arith) (λ o. o) (k.heard (omega (arith, more))))
       k.few (λ e. e) (λ e. e) (λ e. e) (λ e. k.knew id v at e) (λ (e : Announced ≡ Ended). cc) refl
+      (rung_set views id v x at w.owes (λ e. e) k.rung) refl refl
 
   rest_ended : v.stage ≡ Announced → w.resting < 18446744073709551616
       → IsKept (with_resting ((w.resting + (2 ^ 64 - 1)) % 2 ^ 64) w) (set views id (at_stage Awake v))
@@ -533,6 +595,7 @@ module _ (w : BellWords) (views : List BellSight) (id : ℕ) (v : BellSight) (k 
       (omega (arith, fewer, some_rest, up))
       (λ more. heard_set views id v x at w.owes w.wakes (omega arith) (λ o. o) (k.heard (omega (arith, more))))
       k.few (λ e. e) (λ e. e) (λ e. e) (λ e. k.knew id v at e) (λ (e : Awake ≡ Ended). cc) refl
+      (rung_set views id v x at w.owes (λ e. e) k.rung) refl refl
 
   woken : (left : ℕ) → v.stage ≡ Resting → left ≤ everyone → (w.wakes ≡ everyone → left ≡ everyone)
       → (left ≡ everyone → w.wakes ≡ everyone) → IsKept (with_wakes left w) (set views id (owing Announced v))
@@ -542,20 +605,21 @@ module _ (w : BellWords) (views : List BellSight) (id : ℕ) (v : BellSight) (k 
       plain views id v x at w (with_wakes left w) k refl (omega arith)
       (λ _. call_is_owed (any_here views id v x at (λ (y : BellSight). y.owes_call ≡ true) refl))
       few enough only (λ e. e) (λ e. k.knew id v at e) (λ (e : Announced ≡ Ended). cc) refl
+      (rung_set views id v x at w.owes (λ e. e) k.rung) refl refl
 
 -- what a look at whether a round waits makes of a seat
 looked : (slots id : ℕ) (me : Hand) (x : BellSight) → in_rest x.stage ≡ in_rest me.0.stage
     → x.knows_shut ≡ me.0.knows_shut → (x.stage ≡ Ended → me.0.knows_shut ≡ true)
-    → x.is_late ≡ me.0.is_late
+    → x.is_late ≡ me.0.is_late → x.owes_ring ≡ me.0.owes_ring → x.took ≡ me.0.took → x.counted ≡ me.0.counted
     → Allows KeepsRule slots id me 0 (λ n. n) (λ n after. Found n 0 (after.0 ≡ x) (after.0 ≡ me.0))
-looked slots id me x up knows ends_so late =
+looked slots id me x up knows ends_so late ring took counts =
     stepping 0 (λ w. w.waiting) with_waiting (λ w. refl) (λ n w. refl) slots id me (λ n. n)
     (λ n after. Found n 0 (after.0 ≡ x) (after.0 ≡ me.0))
     (λ w views k at _.
     dite (ℕ_discrete w.waiting 0)
     (λ zero_is. (
       x,
-      quiet w views id me.0 k at x zero_is up knows ends_so late,
+      quiet w views id me.0 k at x zero_is up knows ends_so late ring took counts,
       ((λ _. refl), λ n. absurd (n zero_is)),
     ))
     (λ more. (me.0, same w views id me.0 k at, ((λ e. absurd (more e)), λ _. refl))))
@@ -563,17 +627,19 @@ looked slots id me x up knows ends_so late =
 pub looks_for_round_in : (slots id : ℕ) (me : Hand) → me.0.stage ≡ Awake
     → Allows KeepsRule slots id me 0 (λ n. n) (looks_for_round (step slots 0 0 0 none) me)
 looks_for_round_in slots id me is =
-    looked slots id me (free Awake me.0) (sym (ap in_rest is)) refl (λ (e : Awake ≡ Ended). cc) refl
+    looked slots id me (free Awake me.0) (sym (ap in_rest is)) refl (λ (e : Awake ≡ Ended). cc) refl refl refl
+    refl
 
 pub lies_down_in : (slots id : ℕ) (me : Hand) → me.0.stage ≡ Announced
     → Allows KeepsRule slots id me 0 (λ n. n) (lies_down (step slots 0 0 0 none) me)
 lies_down_in slots id me is =
-    looked slots id me (free Resting me.0) (sym (ap in_rest is)) refl (λ (e : Resting ≡ Ended). cc) refl
+    looked slots id me (free Resting me.0) (sym (ap in_rest is)) refl (λ (e : Resting ≡ Ended). cc) refl refl refl
+    refl
 
 pub ends_in : (slots id : ℕ) (me : Hand) → me.0.stage ≡ Awake → me.0.knows_shut ≡ true
     → Allows KeepsRule slots id me 0 (λ n. n) (ends (step slots 0 0 0 none) me)
 ends_in slots id me is knows =
-    looked slots id me (free Ended me.0) (sym (ap in_rest is)) refl (λ _. knows) refl
+    looked slots id me (free Ended me.0) (sym (ap in_rest is)) refl (λ _. knows) refl refl refl refl
 
 pub expects_in : (slots id : ℕ) (me : Hand) → me.0.stage ≡ Awake
     → Allows KeepsRule slots id me 0 (λ n. (n + 1) % 2 ^ 64) (expects (step slots 0 1 0 none) me)
@@ -602,17 +668,40 @@ learns_shut_in slots id me is =
     (learns_shut (step slots 24 0 0 none) me) (λ w views k at _. shut_seen w views id me.0 k at is)
 
 pub owes_in : (slots id : ℕ) (me : Hand) → me.0.stage ≡ Awake
-    → Allows KeepsRule slots id me 8 (λ _. 1) (λ _. discharges (step slots 8 1 0 none) me 1)
+    → Allows KeepsRule slots id me 8 (λ _. 1) (λ _. owes (step slots 8 1 0 none) me 1)
 owes_in slots id me is =
+    let x = ringing true (free Awake me.0) in
     stepping 8 (λ w. w.owes) with_owes (λ w. refl) (λ n w. refl) slots id me (λ _. 1)
-    (λ _. discharges (step slots 8 1 0 none) me 1)
+    (λ _. owes (step slots 8 1 0 none) me 1)
     (λ w views k at _. (
-      free Awake me.0,
-      turns w views id me.0 k at (free Awake me.0) (with_owes 1 w) refl refl (ap in_rest is) refl
+      x,
+      turns w views id me.0 k at x (with_owes 1 w) refl refl (ap in_rest is) refl
           (λ (e : Awake ≡ Ended). cc) refl refl k.few (λ e. e) (λ e. e)
-          (wake_is_owed (λ e. absurd (omega (arith, e)))),
+          (wake_is_owed (λ e. absurd (omega (arith, e)))) (λ _. any_here views id me.0 x at Rings refl) refl refl,
       refl,
     ))
+
+pub rings_in : (slots id : ℕ) (me : Hand) → me.0.stage ≡ Awake
+    → Allows KeepsRule slots id me 8 (λ _. 0) (rings (step slots 8 0 0 none) me)
+rings_in slots id me is =
+    let y = ringing false (owing Awake me.0) in
+    stepping 8 (λ w. w.owes) with_owes (λ w. refl) (λ n w. refl) slots id me (λ _. 0)
+    (rings (step slots 8 0 0 none) me)
+    (λ w views k at _.
+    dite (ℕ_discrete w.owes 0)
+    (λ zero_is. (
+      ringing false me.0,
+      rung_quietly w views id me.0 k at zero_is (λ e. let no : Awake ≡ Ended = sym is ∙ e in cc),
+      ((λ _. refl), λ n. absurd (n zero_is)),
+    ))
+    (λ owed. (
+      y,
+      turns w views id me.0 k at y (with_owes 0 w) refl refl (ap in_rest is) refl
+          (λ (e : Awake ≡ Ended). cc) refl refl k.few (λ e. e) (λ e. e)
+          (call_is_owed (any_here views id me.0 y at (λ (u : BellSight). u.owes_call ≡ true) refl))
+          (λ e. absurd (e refl)) refl refl,
+      ((λ e. absurd (owed e)), λ _. refl),
+    )))
 
 pub calls_in : (slots id : ℕ) (me : Hand) (wakes : ℕ) → me.0.stage ≡ Awake → 1 ≤ wakes → wakes < everyone
     → Allows KeepsRule slots id me 24 (λ n. max n wakes) (discharges (step slots 24 wakes 0 none) me)
@@ -620,12 +709,14 @@ calls_in slots id me wakes is some_are few =
     stepping 24 (λ w. w.wakes) with_wakes (λ w. refl) (λ n w. refl) slots id me (λ n. max n wakes)
     (discharges (step slots 24 wakes 0 none) me)
     (λ w views k at _.
-    let before = k.few in (
-      free Awake me.0,
-      turns w views id me.0 k at (free Awake me.0) (with_wakes (max w.wakes wakes) w) refl refl (ap in_rest is)
+    let before = k.few in
+    let x = tallied me.0.counted me.0.took (me.0.left + (wakes - w.wakes)) (free Awake me.0) in (
+      x,
+      turns w views id me.0 k at x (with_wakes (max w.wakes wakes) w) refl refl (ap in_rest is)
           refl (λ (e : Awake ≡ Ended). cc) refl refl (omega arith) (λ e. omega (arith, e))
           (λ e. omega (arith, e, few))
-          (wake_comes (λ e. absurd (omega (arith, e)))),
+          (wake_comes (λ e. absurd (omega (arith, e))))
+          (rung_set views id me.0 x at w.owes (λ e. e) k.rung) refl refl,
       refl,
     ))
 

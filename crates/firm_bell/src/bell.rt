@@ -1,12 +1,14 @@
 //! The bell as callers ring it and workers listen to it. Each step here keeps the rule of `specs/Bell.antt`.
-ghost use Rattle.std.specs.Prelude.{◌≡◌, ◌≤◌, MatchBool, false, true};
+ghost use Rattle.std.specs.Prelude.{◌≡◌, ◌+◌, ◌<◌, ◌≤◌, MatchBool, false, true};
 ghost use Rattle.firm_bell.specs.declared.rule.Stage.TheVariants.{Awake, Putting, Announced, Resting, Ended};
-ghost use Rattle.firm_bell.specs.Steps.{Knows, StandsAt, at_stage, free, owing};
+ghost use Rattle.firm_bell.specs.Bell.{newcomer};
+ghost use Rattle.firm_bell.specs.Steps.{HasCalled, HasTaken, HasWoken, Knows, OwesNothing, StandsAt};
+ghost use Rattle.firm_bell.specs.Steps.{at_stage, free, owing};
 
 use crate::rule::{
     Announces, BellSeat, Board, Comes, Discharges, EVERYONE, Ends, EndsRest, Expects, LearnsShut,
-    LiesDown, LooksForRest, LooksForRound, OWES, RESTING, Rings, Shuts, Takes, WAITING, WAKES,
-    WORDS, Wakes,
+    LiesDown, LooksForRest, LooksForRound, OWES, Owes, RESTING, Rings, Shuts, Takes, WAITING,
+    WAKES, WORDS, Wakes,
 };
 use std::alloc::{AllocError, Global};
 use std::hint::spin_loop;
@@ -45,17 +47,21 @@ impl Model for Bell {
     ghost invariant = { λ b. (1 ≤ b.workers) × (b.workers ≤ 8) × (b.board.shared.table_id.words ≡ 32) };
 }
 
-/// A thread that puts a round, rings or shuts the bell. It is not `Drop`, so whatever it owes must be done.
+/// A thread that puts rounds and rings, or shuts the bell. It is not `Drop`: it ends by `end`, once it owes nothing.
 pub struct Caller {
     seat: BellSeat,
+    owes_ring: bool,
 }
 
 impl Model for Caller {
+    ghost use Rattle.std.specs.Prelude.{◌≡◌};
     ghost use Rattle.firm_bell.specs.Steps.{BellSeat};
 
     ghost Value = { BellSeat };
 
     ghost view = { λ c. c.seat };
+
+    ghost invariant = { λ c. c.owes_ring ≡ c.seat.me.0.owes_ring };
 }
 
 /// A worker as the bell sees it. One that was woken owes a call: once it has a round, it wakes another worker if more
@@ -89,31 +95,44 @@ impl Bell {
         })
     }
 
-    /// Called before a round is put. Returns the caller and how many rounds already wait.
-    pub fn expect(&self) -> (Caller, u64)
-        ensures { StandsAt self.now Putting result.0 }
+    /// A new caller, which owes nothing.
+    pub fn caller(&self) -> Caller
+        ensures called { HasCalled self.now 0 result }
+        ensures nothing { OwesNothing result }
     {
-        let table = &self.board.shared;
-        let (_, mut seat) = table.load_new_seat::<Comes>(WAITING);
-        let older = table.fetch_add::<Expects>(&mut seat, WAITING, 1);
-        (Caller { seat }, older)
+        let (_, seat) = self.board.shared.load_new_seat::<Comes>(WAITING);
+        Caller {
+            seat,
+            owes_ring: false,
+        }
     }
 
-    /// Called once the round is put, with the number that waited before it.
-    pub fn came(&self, caller: Caller, older: u64)
-        requires { StandsAt self.now Putting caller }
+    /// Called before a round is put: counts it. Returns how many rounds already wait.
+    pub fn expect(&self, caller: &mut Caller) -> u64
+        requires { StandsAt self.now Awake caller.old }
+        ensures puts { StandsAt self.now Putting caller.new }
+        ensures counted { caller.new.me.0.counted ≡ caller.old.me.0.counted + 1 }
+    {
+        self.board
+            .shared
+            .fetch_add::<Expects>(&mut caller.seat, WAITING, 1)
+    }
+
+    /// Called once the round is put, with the number that waited before it. The caller may have to ring from now on.
+    pub fn came(&self, caller: &mut Caller, older: u64)
+        requires { StandsAt self.now Putting caller.old }
+        ensures { HasCalled self.now caller.old.me.0.counted caller.new }
     {
         let table = &self.board.shared;
-        let Caller { mut seat } = caller;
-        let resting = table.load::<LooksForRest>(&mut seat, RESTING);
+        let resting = table.load::<LooksForRest>(&mut caller.seat, RESTING);
         if resting != 0 {
             if resting == self.workers || MOST_UNCALLED <= older {
-                self.call(&mut seat, resting);
+                self.call(&mut caller.seat, resting);
             } else {
-                table.store::<Discharges>(&mut seat, OWES, 1);
+                table.store::<Owes>(&mut caller.seat, OWES, 1);
+                caller.owes_ring = true;
             }
         }
-        Caller { seat }.end();
     }
 
     /// Whether the queue has room for one more round. If so, and no other thread puts rounds, a put does not wait.
@@ -121,13 +140,20 @@ impl Bell {
         self.board.shared.peek(WAITING) < ROOM
     }
 
-    /// Wakes a worker if one is owed and a round waits.
-    pub fn ring(&self) {
-        let (owed, mut seat) = self.board.shared.swap_new_seat::<Rings>(OWES, 0);
-        if owed != 0 {
-            self.call_if_waiting(&mut seat);
+    /// Rings, if the caller has to: wakes a worker for an owed wake while a round waits.
+    pub fn ring(&self, caller: &mut Caller)
+        requires { HasCalled self.now caller.old.me.0.counted caller.old }
+        ensures called { HasCalled self.now caller.old.me.0.counted caller.new }
+        ensures nothing { OwesNothing caller.new }
+    {
+        if !caller.owes_ring {
+            return;
         }
-        Caller { seat }.end();
+        caller.owes_ring = false;
+        let owed = self.board.shared.swap::<Rings>(&mut caller.seat, OWES, 0);
+        if owed != 0 {
+            self.call_if_waiting(&mut caller.seat);
+        }
     }
 
     /// Wakes all workers for good. Each may end once no round waits.
@@ -135,13 +161,17 @@ impl Bell {
         let table = &self.board.shared;
         let (_, seat) = table.swap_new_seat::<Shuts>(WAKES, EVERYONE);
         table.wake_all(WAKES);
-        Caller { seat }.end();
+        let caller = Caller {
+            seat,
+            owes_ring: false,
+        };
+        caller.end();
     }
 
     // Wakes a worker if a round waits and one rests.
     fn call_if_waiting(&self, seat: &mut BellSeat)
         requires { StandsAt self.now Awake seat.old }
-        ensures { Knows self.now (free Awake seat.old.me.0) seat.new }
+        ensures { HasWoken self.now seat.old.me.0 seat.new.me.0.left seat.new }
     {
         let table = &self.board.shared;
         if table.load::<LooksForRound>(seat, WAITING) == 0 {
@@ -153,29 +183,56 @@ impl Bell {
         }
     }
 
-    // Leaves a wake for one of the workers that rest, unless each has one.
-    fn call(&self, seat: &mut BellSeat, resting: u64)
+    // Leaves a wake for one of the workers that rest, unless each has one. Calls the kernel for each wake that it
+    // leaves, so none is left while all that rest sleep.
+    fn call(&self, seat: &mut BellSeat, resting: u64) -> Woken
         requires seat { StandsAt self.now Awake seat.old }
         requires some { 1 ≤ resting }
-        ensures { Knows self.now (free Awake seat.old.me.0) seat.new }
+        ensures { HasWoken self.now seat.old.me.0 (seat.old.me.0.left + result.wakes) seat.new }
     {
         let table = &self.board.shared;
         let most = resting.min(self.workers);
         let wakes = table.peek(WAKES).saturating_add(1).min(most);
-        let left = table.fetch_max::<Discharges>(seat, WAKES, wakes);
-        // Each wake that is left has its call of the kernel, so none is left while all that rest sleep.
-        for _ in left..wakes {
-            table.wake_one(WAKES);
+        let before = table.fetch_max::<Discharges>(seat, WAKES, wakes);
+        self.wake(wakes.saturating_sub(before))
+    }
+
+    // Calls the kernel for N wakes.
+    fn wake(&self, wakes: u64) -> Woken
+        ensures { result.wakes ≡ wakes }
+    {
+        let mut woken = Woken { wakes: 0 };
+        for _ in 0..wakes {
+            self.wake_one(&mut woken);
         }
+        woken
+    }
+
+    // The one call of the kernel for a wake.
+    fn wake_one(&self, woken: &mut Woken)
+        requires { woken.old.wakes < 18446744073709551615 }
+        ensures { woken.new.wakes ≡ woken.old.wakes + 1 }
+    {
+        self.board.shared.wake_one(WAKES);
+        woken.wakes += 1;
     }
 }
 
+// For how many wakes the kernel was called. Only `Bell::wake_one` raises it.
+#[derive(Drop)]
+struct Woken {
+    wakes: u64,
+}
+
 impl Caller {
-    // Lets the caller go, which owes nothing.
-    fn end(self)
-        requires { (self.me.0.stage ≡ Awake) × (self.me.0.owes_call ≡ false) }
+    /// Lets the caller go, which owes nothing.
+    pub fn end(self)
+        requires { OwesNothing self }
     {
-        let Caller { seat: _ } = self;
+        let Caller {
+            seat: _,
+            owes_ring: _,
+        } = self;
     }
 }
 
@@ -183,7 +240,7 @@ impl Caller {
 impl Bell {
     /// A worker that has just come.
     pub fn listener(&self) -> Listener
-        ensures { StandsAt self.now Awake result }
+        ensures { Knows self.now newcomer result }
     {
         let (_, seat) = self.board.shared.load_new_seat::<Comes>(WAITING);
         Listener {
@@ -197,6 +254,8 @@ impl Bell {
         requires { StandsAt self.now Awake listener.old }
         ensures listens { StandsAt self.now Awake listener.new }
         ensures knows { result ≡ true → listener.new.me.0.knows_shut ≡ true }
+        ensures took { listener.new.me.0.took ≡ listener.old.me.0.took }
+        ensures owes { listener.new.me.0.owes_call ≡ listener.old.me.0.owes_call }
     {
         self.board
             .shared
@@ -207,13 +266,14 @@ impl Bell {
     /// Called once a round is taken. Returns whether the queue was full until then.
     pub fn took(&self, listener: &mut Listener) -> bool
         requires { StandsAt self.now Awake listener.old }
-        ensures { StandsAt self.now Awake listener.new }
+        ensures listens { StandsAt self.now Awake listener.new }
+        ensures took { HasTaken 1 listener.old listener.new }
     {
         let before = self
             .board
             .shared
             .fetch_sub::<Takes>(&mut listener.seat, WAITING, 1);
-        // Never, since a round is counted before it is put. The bell's rule does not see the queue.
+        // Never, since a round is counted before it is put: the rule counts modulo 2^64.
         if before == 0 {
             listener.owes_call = true;
         }
@@ -225,6 +285,7 @@ impl Bell {
         requires { StandsAt self.now Awake listener.old }
         ensures listens { StandsAt self.now Awake listener.new }
         ensures owes { listener.new.me.0.owes_call ≡ false }
+        ensures took { HasTaken 0 listener.old listener.new }
     {
         if listener.owes_call {
             self.call_if_waiting(&mut listener.seat);
@@ -249,7 +310,8 @@ impl Bell {
     /// many there were since the last rest.
     pub fn rest_or_look<R: Wait>(&self, rt: &R, listener: &mut Listener, looks: u32) -> u32
         requires { StandsAt self.now Awake listener.old }
-        ensures { StandsAt self.now Awake listener.new }
+        ensures listens { StandsAt self.now Awake listener.new }
+        ensures took { HasTaken 0 listener.old listener.new }
     {
         if self.is_to_look_on(looks) || !self.announce(&mut listener.seat) {
             spin_loop();
@@ -265,7 +327,8 @@ impl Bell {
     // Sleeps until a wake if no round waits.
     fn sleep_if_none_waits<R: Wait>(&self, rt: &R, listener: &mut Listener)
         requires { StandsAt self.now Announced listener.old }
-        ensures { StandsAt self.now Announced listener.new }
+        ensures listens { StandsAt self.now Announced listener.new }
+        ensures took { HasTaken 0 listener.old listener.new }
     {
         if self.lies_down(&mut listener.seat) {
             self.sleep(rt, &mut listener.seat);

@@ -1,18 +1,19 @@
 //! The bell that wakes the workers of a hall when rounds are put. It sees neither rounds nor their queue, only a count
 //! of the rounds that wait. After a ring no worker sleeps on while a round waits, whatever the interleaving.
 //!
-//! A thread that puts a round is a `Caller` of the bell from `Bell::expect`, before the round is put, to `Bell::came`,
-//! after it; it also calls `ring` and `shut`. A worker is a `Listener`: it says with `took` that it took a round, and
-//! calls `rest_or_look` after a look in vain. Once it knows by `is_shut` that the bell is shut, `ends` says whether it
-//! may end.
+//! A thread that puts rounds is a `Caller`. `Bell::expect` counts its round before it is put, and `Bell::came` says
+//! that it was put; from then on the caller may have to `ring`, and it ends only once it has rung. A worker is a
+//! `Listener`: it says with `took` that it took a round, and calls `rest_or_look` after a look in vain. Once it knows
+//! by `is_shut` that the bell is shut, `ends` says whether it may end.
 //!
 //! # What is proved
 //!
 //! Each step on the bell's words keeps the rule of `specs/Bell.antt`, and makes of the seat that takes it what
-//! `specs/Steps.antt` says. If more rounds wait than are being put, then no worker rests, a wake is left, one is owed
-//! until a caller rings, or a caller or a woken worker has still to call one. Once the bell is shut each rest ends, and
-//! a worker ends only then, when no round waits. That callers ring, that the count is the queue's, and that the kernel
-//! wakes a thread for each wake, no clause sees.
+//! `specs/Steps.antt` says. The rounds that wait are those that were counted and not taken. If more wait than are being
+//! put, then no worker rests, a wake is left, one is owed, or a caller or a woken worker has still to call one; and
+//! while one is owed, some caller has still to ring. For each wake that is left the kernel is called. Once the bell is
+//! shut each rest ends, and a worker ends only then, when no round waits. That the kernel then wakes a thread no clause
+//! sees. `firm_rounds` ties the count to its queue.
 //!
 //! # How it works
 //!

@@ -36,13 +36,18 @@ pub enum Stage {
     Ended,
 }
 
-/// A seat's knowledge: its stage; whether it has still to wake a worker if a round waits; whether it knows that the
-/// bell is shut; and whether it is late, as it raised the count of rounds once the bell was shut. Never constructed.
+/// A seat's knowledge: its stage; whether it has still to wake a worker if a round waits; whether it has still to ring;
+/// whether it knows that the bell is shut; whether it is late, as it raised the count of rounds once the bell was shut;
+/// and how many rounds it counted, how many it took, and how many wakes it left. Never constructed.
 pub struct BellSight {
     pub stage: Stage,
     pub owes_call: bool,
+    pub owes_ring: bool,
     pub knows_shut: bool,
     pub is_late: bool,
+    pub counted: u64,
+    pub took: u64,
+    pub left: u64,
 }
 
 /// The rule that every step keeps.
@@ -96,7 +101,7 @@ impl Play<(), BellSight> for LooksForRound {
     ghost then = { looks_for_round };
 }
 
-/// A seat leaves a wake for a worker that rests, or a wake that is owed.
+/// A seat leaves wakes for workers that rest.
 pub struct Discharges;
 
 impl Play<(), BellSight> for Discharges {
@@ -105,7 +110,16 @@ impl Play<(), BellSight> for Discharges {
     ghost then = { discharges };
 }
 
-/// A caller takes over the wake that is owed, if one is.
+/// A caller leaves a wake that is owed until it rings.
+pub struct Owes;
+
+impl Play<(), BellSight> for Owes {
+    ghost use Rattle.firm_bell.specs.Steps.{owes};
+
+    ghost then = { owes };
+}
+
+/// A caller rings: it takes over an owed wake.
 pub struct Rings;
 
 impl Play<(), BellSight> for Rings {

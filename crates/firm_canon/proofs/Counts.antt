@@ -11,8 +11,8 @@ use Rattle.firm_canon.specs.Counts.{HasLookedUpTo, HasMadeUpTo}
 
 -- no search was made
 pub same_counts : (old new : Workspace) (arcs : ℕ) → new.limits ≡ old.limits → new.begins ≡ old.begins
-    → new.searches ≡ old.searches → new.looks ≡ old.looks → new.proposed ≡ old.proposed → HasSearched old new 0 arcs
-same_counts old new arcs limits begins searches looks proposed = record {
+    → new.searches ≡ old.searches → new.looks ≡ old.looks → HasSearched old new 0 arcs
+same_counts old new arcs limits begins searches looks = record {
   limits = limits;
   begins = begins;
   searches = record {
@@ -23,11 +23,10 @@ same_counts old new arcs limits begins searches looks proposed = record {
   };
   looks_kept = omega (arith, looks);
   looks = omega (arith, looks);
-  proposed = proposed;
 }
 
 pub nothing_made : (s : Workspace) (arcs : ℕ) → HasSearched s s 0 arcs
-nothing_made s arcs = same_counts s s arcs refl refl refl refl refl
+nothing_made s arcs = same_counts s s arcs refl refl refl refl
 
 pub none_made : (s : Workspace) (most arcs : ℕ) → HasMadeUpTo s s most arcs
 none_made s most arcs = record { made = 0; few = omega arith; searched = nothing_made s arcs }
@@ -59,7 +58,6 @@ made_both old now new first then arcs one two = record {
   };
   looks_kept = omega (arith, one.looks_kept, two.looks_kept);
   looks = omega (arith, one.looks, two.looks, add-mul first then (2 * arcs));
-  proposed = two.proposed ∙ one.proposed;
 }
   where
     add-mul : (a b c : ℕ) → (a + b) * c ≡ a * c + b * c

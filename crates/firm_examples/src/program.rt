@@ -1,9 +1,12 @@
-use firm_program::{Fault, Named, read_roster, read_state};
+use firm_program::{Fault, FileSystem, Named, read_roster, read_state};
 use std::alloc::Global;
-use std::rt::Files;
 
 /// How many tenants a service has that opens with a file.
-pub fn tenants_named<R: Files>(rt: &R, alloc: Global, named: Named<'_>) -> Result<usize, Fault> {
+pub fn tenants_named<R: FileSystem>(
+    rt: &R,
+    alloc: Global,
+    named: Named<'_>,
+) -> Result<usize, Fault> {
     match named {
         Named::Roster(path) => Ok(read_roster(rt, alloc, path)?.len()),
         Named::State(path) => {

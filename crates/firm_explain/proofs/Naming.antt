@@ -13,7 +13,7 @@ use Rattle.firm_table.specs.Opened.{Opened}
 use Rattle.firm_table.specs.Service.{Device, ServedFrom, StoppedFrom}
 use Rattle.firm_table.specs.declared.faults.ServeFault.{ServeFault}
 use Rattle.firm_program.specs.Faults.{status_of}
-use Rattle.firm_program.specs.Files.{Opens}
+use Rattle.firm_program.specs.Files.{KnownFiles, Opens}
 use Rattle.firm_program.specs.Laws.{adds_option, names_file, names_not_one}
 use Rattle.firm_program.specs.Options.{HasRule, roster_option, state_option}
 use Rattle.firm_program.specs.Runs.{NotServed, ServesFile}
@@ -92,17 +92,18 @@ misasked given fault (NoTenantNamed none status) = status
 misasked given fault (NoTaskNamed none status) = status
 
 -- what becomes of a service that opened with the file that is named
-pub explains_or_stops : (named : Named) (reader replies : Device) (opened : Opened) → Opens named opened
+pub explains_or_stops : (files : KnownFiles) (named : Named) (reader replies : Device) (opened : Opened)
+    → Opens files named opened
     → (served : Result Bool ServeFault) {A : Type 0} (result : Result A Fault)
     → OnOk served (ServedFrom opened (2 ^ 32) reader replies)
     → IfErr served (StoppedFrom opened (2 ^ 32) reader replies) → EndsAs served result
-    → MatchResult result (λ _. ServesFile named reader replies) (StopsExplaining named reader replies)
-explains_or_stops named reader replies opened opens (Ok has_lost) (Ok done) serves stops ends =
+    → MatchResult result (λ _. ServesFile files named reader replies) (StopsExplaining files named reader replies)
+explains_or_stops files named reader replies opened opens (Ok has_lost) (Ok done) serves stops ends =
     record { opened = opened; opens = opens; served = serves }
-explains_or_stops named reader replies opened opens (Ok has_lost) (Err fault) serves stops ends =
+explains_or_stops files named reader replies opened opens (Ok has_lost) (Err fault) serves stops ends =
     LosesReasons ends.1 (record { opened = opened; opens = opens; served = serves })
-explains_or_stops named reader replies opened opens (Err cause) (Ok done) serves stops ends = absurd ends
-explains_or_stops named reader replies opened opens (Err cause) (Err fault) serves stops ends =
+explains_or_stops files named reader replies opened opens (Err cause) (Ok done) serves stops ends = absurd ends
+explains_or_stops files named reader replies opened opens (Err cause) (Err fault) serves stops ends =
     StopsServing (NotServed (record {
       opened = opened;
       opens = opens;

@@ -10,8 +10,8 @@
 //! `run` ends in one of four ways (`Exits`). The words ask for the rounds of a service (`AskFor`): they name one file
 //! to open with, and a tenant and a task, if these are given, by names.
 //!
-//! - With status 0 some text was a roster, or there was a sound state, as the words have it, and the sink of replies
-//!   got what `firm` writes.
+//! - With status 0 all of the file that the words name was a roster, or a state, and the sink of replies got what
+//!   `firm` writes.
 //! - With a fault's status the file was refused, and nothing was read; or the service stopped; or all replies were
 //!   written, and the status is that of a failed write.
 //!
@@ -76,8 +76,8 @@
 //! ```
 //!
 //! A round's line, as `alpha 2 29 0`, has the tenant's name, the round's path searches, their looks, and the looks of
-//! its proposals. For these lines each tenant that the service opens with, but none that a line admits, answers its own
-//! lines once more (`replay`). With `--counts` or `--search` the whole input is read first.
+//! its proposal and its check. For these lines each tenant that the service opens with, but none that a line admits,
+//! answers its own lines once more (`replay`). With `--counts` or `--search` the whole input is read first.
 #![tactic(auto)]
 
 mod choices;

@@ -9,12 +9,11 @@ ghost use Rattle.firm_explain.specs.inner.Asking.{EndsAs};
 
 use crate::explainer::Explainer;
 use crate::options::{Asked, Request, read};
-use firm_program::{Fault, Named, answer_words, read_roster, read_state, tell};
+use firm_program::{Fault, FileSystem, Named, answer_words, read_roster, read_state, tell};
 use firm_table::{Opening, ServeFault, serve_watched_from};
 use firm_text::{Sink, Source};
 use std::alloc::Global;
 use std::convert::AsStr;
-use std::rt::Files;
 
 /// The program's name, before its faults.
 pub(crate) const NAME: &str = "firm_explain";
@@ -30,7 +29,7 @@ pub struct Sinks<O: Sink, C: Sink, F: Sink> {
 /// Runs the program on its words, the first of which is its name, and returns its exit status. A failed write to the
 /// sink of faults changes no status. The first fault decides, in this order: the command line, the file of the roster
 /// or the state, the service, writing the reasons.
-pub fn run<R: Files, S: AsStr, I: Source, O: Sink, C: Sink, F: Sink>(
+pub fn run<R: FileSystem, S: AsStr, I: Source, O: Sink, C: Sink, F: Sink>(
     rt: &R,
     alloc: Global,
     words: &[S],
@@ -39,7 +38,8 @@ pub fn run<R: Files, S: AsStr, I: Source, O: Sink, C: Sink, F: Sink>(
 ) -> u8
     requires reader { I.read_failed reader.old ≡ false }
     requires replies { O.write_failed sinks.old.replies ≡ false }
-    ensures { Exits (map S.text words.now) (device (I.left reader.old) (I.left reader.new) (I.read_failed reader.new))
+    ensures { Exits (R.bytes_at rt.now) (map S.text words.now)
+        (device (I.left reader.old) (I.left reader.new) (I.read_failed reader.new))
         (device (O.written sinks.old.replies) (O.written sinks.new.replies) (O.write_failed sinks.new.replies)) result }
 {
     let given = match read(alloc, words) {
@@ -59,7 +59,7 @@ pub fn run<R: Files, S: AsStr, I: Source, O: Sink, C: Sink, F: Sink>(
 }
 
 // Answers the input for the tenants of the roster's or the state's file, with the reasons of its rounds.
-fn serve_file<R: Files, I: Source, O: Sink, C: Sink, F: Sink>(
+fn serve_file<R: FileSystem, I: Source, O: Sink, C: Sink, F: Sink>(
     rt: &R,
     alloc: Global,
     asked: &Asked<'_>,
@@ -69,10 +69,10 @@ fn serve_file<R: Files, I: Source, O: Sink, C: Sink, F: Sink>(
     requires reader { I.read_failed reader.old ≡ false }
     requires replies { O.write_failed sinks.old.replies ≡ false }
     ensures { MatchResult result
-        (λ _. ServesFile asked.now.named
+        (λ _. ServesFile (R.bytes_at rt.now) asked.now.named
         (device (I.left reader.old) (I.left reader.new) (I.read_failed reader.new))
         (device (O.written sinks.old.replies) (O.written sinks.new.replies) (O.write_failed sinks.new.replies)))
-        (StopsExplaining asked.now.named
+        (StopsExplaining (R.bytes_at rt.now) asked.now.named
         (device (I.left reader.old) (I.left reader.new) (I.read_failed reader.new))
         (device (O.written sinks.old.replies) (O.written sinks.new.replies) (O.write_failed sinks.new.replies))) }
 {

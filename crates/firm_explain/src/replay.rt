@@ -4,14 +4,12 @@ use crate::page::Page;
 use firm_rules::{Command, Name};
 use firm_table::Opening;
 use firm_tenant::Tenant;
-use firm_text::{Heading, Line, PLACES, line_under};
+use firm_text::{Line, PLACES, line};
 use std::alloc::{AllocError, Global};
 
 /// The tenants that a service opens with, but none that a line admits.
 #[derive(Drop)]
 pub(crate) struct Replay {
-    // Under which lines are read.
-    heading: Heading,
     tenants: Vec<Replayed>,
 }
 
@@ -33,7 +31,6 @@ impl Replay {
     ) -> Result<Replay, AllocError> {
         let register = opening.register();
         let mut replay = Replay {
-            heading: opening.heading(),
             tenants: Vec::new(alloc),
         };
         for place in 0..PLACES {
@@ -64,10 +61,11 @@ impl Replay {
         Ok(())
     }
 
-    /// Adds the tenants' replies to their lines of an input. All other lines are skipped.
+    /// Adds the tenants' replies to their lines of an input, which read alike under each heading. All other lines are
+    /// skipped.
     pub(crate) fn play(&mut self, page: &mut Page, input: &[u8]) {
         for bytes in input.split(|byte| *byte == b'\n') {
-            if let Line::For(name, command) = line_under(self.heading, bytes) {
+            if let Line::For(name, command) = line(bytes) {
                 self.answer(page, name, command);
             }
         }
@@ -82,7 +80,7 @@ impl Replay {
     }
 
     /// Adds a line for each round, tenant by tenant: the tenant's name, how many path searches the round made, how many
-    /// looks they took, and how many its proposals.
+    /// looks they took, and how many its proposal took with its check.
     pub(crate) fn put_counts(&self, page: &mut Page) {
         for replayed in self.tenants.iter() {
             page.put_page(&replayed.counts);
@@ -107,7 +105,7 @@ impl Replayed {
         self.counts.put_name(self.name);
         self.counts.put_number(b" ", scratch.searches());
         self.counts.put_number(b" ", scratch.looks());
-        self.counts.put_number(b" ", scratch.proposed());
+        self.counts.put_number(b" ", self.tenant.proposed());
         self.counts.put(b"\n");
     }
 }

@@ -1,5 +1,5 @@
 -- What contracts see of a desk, and what a command makes of it.
-use Rattle.std.specs.Prelude.{◌≡◌, ℕ, ◌+◌, ◌*◌, ◌<◌, ◌≤◌, ◌^◌, ◌⊎◌}
+use Rattle.std.specs.Prelude.{◌≡◌, ℕ, Bool, ◌+◌, ◌*◌, ◌<◌, ◌≤◌, ◌^◌, ◌⊎◌}
 use Rattle.firm_rules.specs.Book.{Book}
 use Rattle.firm_rules.specs.declared.commands.Command.{Command}
 use Rattle.firm_rules.specs.declared.commands.Command.TheVariants.{Round}
@@ -23,6 +23,11 @@ place_is queue place put admissions = record { queue = queue; place = place; put
 -- a place whose hall has ended
 abbrev pub spent_place : PlaceIs → PlaceIs
 spent_place place = place_is (no_queue place.queue) place.place place.put place.admissions
+
+-- who asks for rounds: its hall's queue, and whether it has still to ring
+pub record AskerIs : Type 0 where
+  pub queue : QueueId
+  pub owes : Bool
 
 -- a place with its tenant's book; if its round is away, the book that was handed over
 pub record DeskIs : Type 0 where

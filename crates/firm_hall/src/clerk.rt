@@ -7,6 +7,7 @@ ghost use Rattle.firm_rounds.specs.Passes.{QueueIs, new_puts};
 ghost use Rattle.firm_hall.specs.inner.Ending.{AreOf, Ran};
 ghost use Rattle.firm_hall.specs.inner.Serving.{IsFinished, IsOpen, IsReserved, IsWrittenOut, TellsAll};
 
+use crate::asker::Asker;
 use crate::desks::Desk;
 use crate::empty::EmptyDesk;
 use crate::ending::Ended;
@@ -34,19 +35,20 @@ pub(crate) struct HallClerk<'h, R: Wait> {
     pub(crate) empty: Vec<EmptyDesk>,
     ghost desks_room: { IsReserved desks.items (vec_capacity desks) },
     ghost empty_room: { IsReserved empty.items (vec_capacity empty) },
+    ghost of_hall: { IsOpen setting.hall.now.id serving },
 }
 
 impl<R: Wait> Drop for HallClerk<'_, R> {
     // Written out, so that who owns a clerk has one call where it is dropped.
     fn drop(self) {
         let Self {
-            setting: _,
+            setting,
             opening: _,
             serving,
             desks,
             empty,
         } = self;
-        drop(serving);
+        serving.discard(setting.hall);
         drop(desks);
         drop(empty);
     }
@@ -76,6 +78,7 @@ impl<'h, R: Wait> HallClerk<'h, R> {
         let held = Held::open(setting.alloc)?;
         let serving = Serving {
             hall: Snapshot::of(setting.hall),
+            asker: Asker::of(setting.hall),
             register: opening.register(),
             desk_states,
             held,
@@ -113,13 +116,13 @@ impl<'h, R: Wait> HallClerk<'h, R> {
     {
         serve_lines(reader, writer, &mut self, most)?;
         let Self {
-            setting: _,
+            setting,
             opening: _,
             serving,
             desks,
             empty,
         } = self;
-        Ok(serving.end(desks, empty))
+        Ok(serving.end(setting.hall, desks, empty))
     }
 }
 
@@ -159,8 +162,7 @@ impl<'h, R: Wait> Clerk for HallClerk<'h, R> {
         reader: &mut S,
         writer: &mut W,
     ) -> Result<(), ServeFault> {
-        let hall = self.setting.hall;
-        hall.bell.ring();
+        self.serving.ring(self.setting.hall);
         let mut input = Input { reader };
         self.serving.wait(&self.setting, writer, &mut input)
     }

@@ -7,6 +7,7 @@ ghost use Rattle.firm_hall.specs.inner.Ending.{AreOf, IsOf};
 ghost use Rattle.firm_hall.specs.inner.Serving.{asked_at};
 ghost use Rattle.firm_rules.specs.declared.commands.Command.TheVariants.{Round};
 
+use crate::asker::Asker;
 use crate::desks::{Asked, AskedPoll, Desk};
 use crate::empty::{AdmitFault, EmptyDesk};
 use crate::setting::Setting;
@@ -126,12 +127,15 @@ impl DeskState {
         &mut self,
         setting: &Setting<'_, R>,
         command: &Command,
+        asker: &mut Asker,
     ) -> Option<Reply>
-        requires { IsHomeOf setting.now.hall.now.id self.old }
-        ensures { IsTakenAt self.old command.now self.new result }
+        requires home { IsHomeOf setting.now.hall.now.id self.old }
+        requires asker { asker.old.queue ≡ setting.now.hall.now.id }
+        ensures taken { IsTakenAt self.old command.now self.new result }
+        ensures asker { asker.new.queue ≡ asker.old.queue }
     {
         if *command == Command::Round {
-            return self.ask(setting);
+            return self.ask(setting, asker);
         }
         let DeskState::Home(desk, _) = self else {
             unreachable!()
@@ -153,23 +157,31 @@ impl DeskState {
 
     // The same for a round, out of line so that other commands do not pay for its locals.
     #[inline(never)]
-    fn ask<R: Wait>(&mut self, setting: &Setting<'_, R>) -> Option<Reply>
-        requires { IsHomeOf setting.now.hall.now.id self.old }
-        ensures { IsTakenAt self.old Round self.new result }
+    fn ask<R: Wait>(&mut self, setting: &Setting<'_, R>, asker: &mut Asker) -> Option<Reply>
+        requires home { IsHomeOf setting.now.hall.now.id self.old }
+        requires asker { asker.old.queue ≡ setting.now.hall.now.id }
+        ensures taken { IsTakenAt self.old Round self.new result }
+        ensures asker { asker.new.queue ≡ asker.old.queue }
     {
-        let (desk_state, reply) = mem::replace(self, DeskState::Gone).asked(setting);
+        let (desk_state, reply) = mem::replace(self, DeskState::Gone).asked(setting, asker);
         let _gone = mem::replace(self, desk_state);
         reply
     }
 
     // The same by value.
-    fn asked<R: Wait>(self, setting: &Setting<'_, R>) -> (DeskState, Option<Reply>)
-        requires { IsHomeOf setting.now.hall.now.id self }
-        ensures { IsTakenAt self Round result.0 result.1 }
+    fn asked<R: Wait>(
+        self,
+        setting: &Setting<'_, R>,
+        asker: &mut Asker,
+    ) -> (DeskState, Option<Reply>)
+        requires home { IsHomeOf setting.now.hall.now.id self }
+        requires asker { asker.old.queue ≡ setting.now.hall.now.id }
+        ensures taken { IsTakenAt self Round result.0 result.1 }
+        ensures asker { asker.new.queue ≡ asker.old.queue }
     {
         match self {
             DeskState::Home(desk, waits) => {
-                match desk.ask_unrung(setting.rt, setting.alloc, setting.hall) {
+                match desk.ask_unrung(setting.rt, setting.alloc, setting.hall, asker) {
                     Ok(asked) => (DeskState::Away(asked), None),
                     Err((desk, reply)) => (DeskState::Home(desk, waits), Some(reply)),
                 }

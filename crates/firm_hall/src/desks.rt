@@ -7,6 +7,7 @@ ghost use Rattle.firm_rounds.specs.Rounds.{share};
 ghost use Rattle.firm_hall.specs.Desks.{desk_is, place_is, spent_desk, IsLive, IsStep, IsRefused};
 ghost use Rattle.firm_hall.specs.Polls.{IsAskedPoll};
 
+use crate::asker::Asker;
 use crate::empty::EmptyDesk;
 use crate::halls::Hall;
 use crate::places::Place;
@@ -118,19 +119,24 @@ impl Desk {
             (λ back. IsRefused self back.1 back.0) }
         ensures left { OnOk result (self.book.given < self.book.rows.limits.life) }
     {
-        let asked = self.ask_unrung(rt, alloc, hall);
-        hall.bell.ring();
+        let mut asker = Asker::of(hall);
+        let asked = self.ask_unrung(rt, alloc, hall, &mut asker);
+        asker.ring(hall);
+        asker.end();
         asked
     }
 
-    // The same for a caller that asks for more before it waits, and rings then.
+    // The same for an asker that asks for more before it waits, and rings then.
     pub(crate) fn ask_unrung<R: Wait>(
         self,
         rt: &R,
         alloc: Global,
         hall: &Hall,
+        asker: &mut Asker,
     ) -> Result<Asked, (Desk, Reply)>
-        requires { self.queue ≡ hall.now.id }
+        requires of { self.queue ≡ hall.now.id }
+        requires asker { asker.old.queue ≡ hall.now.id }
+        ensures asker { asker.new.queue ≡ asker.old.queue }
         ensures asked { MatchResult result
             (λ asked. asked ≡ desk_is self.queue self.place (self.put + 1) self.admissions self.book)
             (λ back. IsRefused self back.1 back.0) }
@@ -151,7 +157,7 @@ impl Desk {
             return Err((Desk { tenant, place }, reply));
         };
         let job = Job::new(place.next(), tenant, answer);
-        place.put(rt, hall, job);
+        place.put(rt, hall, job, asker);
         Ok(Asked { side, place })
     }
 

@@ -11,7 +11,6 @@ use crate::places::Place;
 use crate::workers::WorkerPass;
 use crossbeam_utils::CachePadded;
 use crossbeam_utils::sync::EventCount;
-use firm_bell::Bell;
 use firm_rounds::{PopPass, PutPass, Queue};
 use firm_text::{PLACES, Roster};
 use firm_tray::Spent;
@@ -22,11 +21,10 @@ use std::sync::atomic::{AtomicBool, Ordering};
 
 /// What desks and workers share. Contracts see which queue it has, and how many desks and workers.
 pub struct Hall {
+    // Workers without a round sleep until its bell wakes them, for a round or for good.
     pub(crate) queue: Queue,
     // Set once the hall is shut. Each worker reads it before each look at the queue, so it shares no cache line.
     stop: CachePadded<AtomicBool>,
-    // Workers without a round sleep until it wakes them, for a round or for good.
-    pub(crate) bell: Bell,
     // Notified of each solved round, and of room in a queue that was full. The clerk sleeps on it, for these or for
     // input.
     pub(crate) answers: Arc<EventCount, Global>,
@@ -38,11 +36,9 @@ impl Drop for Hall {
         let Self {
             queue,
             stop: _,
-            bell,
             answers,
         } = self;
         drop(queue);
-        drop(bell);
         drop(answers);
     }
 }
@@ -94,13 +90,11 @@ impl Hall {
         ensures passes { IfOk result (λ r. r.2.items ≡ new_pops r.0.id workers) }
         ensures of_this { IfOk result (λ r. All (λ p. p.queue ≡ r.0.id) r.2.items) }
     {
-        let bell = Bell::open(alloc, workers)?;
         let answers = Arc::new(alloc, EventCount::new())?;
         let (queue, puts, pops) = Queue::open(alloc, places, workers)?;
         let hall = Hall {
             queue,
             stop: CachePadded::new(AtomicBool::new(false)),
-            bell,
             answers,
         };
         let passes = open_passes(alloc, pops)?;
@@ -109,9 +103,9 @@ impl Hall {
 
     /// Tells the workers to end once the queue is empty. Takes no memory.
     pub fn shut(&self) {
-        // In this order, so that each worker that the bell wakes finds the stop word set.
+        // In this order, so that each worker that is woken finds the stop word set.
         self.stop.store(true, Ordering::SeqCst);
-        self.bell.shut();
+        self.queue.shut();
     }
 
     // Whether the stop word is set.
@@ -137,7 +131,6 @@ impl Hall {
         let Self {
             queue,
             stop: _,
-            bell: _,
             answers: _,
         } = self;
         queue

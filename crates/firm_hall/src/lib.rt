@@ -39,21 +39,22 @@
 //! A worker without a round looks 16 times, the last one awake 512 times, the clerk 1,024 times, or 16 where
 //! rounds come late or none has come yet (`patience.rt`). Then they sleep:
 //!
-//! - a worker without a round: sleeps until it is called for a round, or the hall is shut; woken by the hall's bell
+//! - a worker without a round: sleeps until it is called for a round, or the hall is shut; woken by the queue's bell
 //!   (firm_bell); `shut` wakes all
 //! - the clerk: sleeps until a round is solved, a full queue has room, or input is there; woken by the worker that
 //!   solved a round or took one from a full queue, or by the source
 //! - `Asked::wait`: sleeps until the round is solved; woken by its tray
 //! - `Desk::ask` at a full queue: sleeps until a worker takes a round; woken by the queue
 //!
-//! A round may be put without waking a worker. The wake is then owed, until a caller *rings*: `Desk::ask` does at once;
-//! the clerk before each read, after each 256 looks in vain, and before it sleeps. So after a ring no worker sleeps on
-//! while a round waits: firm_bell has the rule over the bell's words, which each step of callers and workers keeps, and
-//! says how a worker rests.
+//! A round may be put without waking a worker. The wake is then owed, until its asker *rings*: `Desk::ask` does before
+//! it returns; the clerk before each read, after each 256 looks in vain, before it sleeps and before it ends. So after
+//! a ring no worker sleeps on while a round waits: firm_bell has the rule over the bell's words, which each step of
+//! callers and workers keeps, and says how a worker rests. A worker rests or ends only after a look that found the
+//! queue empty.
 //!
-//! `Hall::shut` sets the hall's stop word, then shuts the bell. A worker reads the word before each look at the queue
-//! and, once it is set, asks the bell too. After a look that finds the queue empty it ends if the bell was shut before
-//! and counts no round.
+//! `Hall::shut` sets the hall's stop word, then shuts the queue's bell. A worker reads the word before each look at the
+//! queue and, once it is set, asks the bell too. After a look that finds the queue empty it ends if the bell was shut
+//! before and counts no round.
 //!
 //! The clerk announces its sleep on an event count (`answers`) and then looks once more. A change that this look misses
 //! follows the announcement, so its notification ends the sleep, even one not yet begun.
@@ -61,6 +62,7 @@
 //! `serve` and `worker` call a `Gate` between taking a round and solving it; the program's is `Open`.
 #![tactic(auto)]
 
+mod asker;
 mod clerk;
 mod close;
 mod desk_states;

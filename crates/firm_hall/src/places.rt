@@ -5,6 +5,7 @@ ghost use Rattle.firm_rounds.specs.Rounds.{ticket, share};
 ghost use Rattle.firm_text.specs.Registers.{most_admissions};
 ghost use Rattle.firm_hall.specs.Desks.{place_is, spent_place, rounds_of};
 
+use crate::asker::Asker;
 use crate::halls::Hall;
 use firm_rounds::{Closing, Job, PutPass};
 use firm_rules::Ticket;
@@ -75,16 +76,16 @@ impl Place {
     }
 
     // Asks for a round, whose job has the next ticket. If others wait or are being solved, possibly no worker is woken
-    // until the bell rings.
-    pub(crate) fn put<R: Wait>(&mut self, rt: &R, hall: &Hall, job: Job)
+    // until the asker rings.
+    pub(crate) fn put<R: Wait>(&mut self, rt: &R, hall: &Hall, job: Job, asker: &mut Asker)
         requires of { self.old.queue ≡ hall.now.id }
         requires next { job.ticket ≡ ticket self.old.place (self.old.put + 1) }
         requires room { self.old.put < rounds_of self.old.admissions }
-        ensures { self.new ≡ place_is self.old.queue self.old.place (self.old.put + 1) self.old.admissions }
+        requires asker { asker.old.queue ≡ hall.now.id }
+        ensures place { self.new ≡ place_is self.old.queue self.old.place (self.old.put + 1) self.old.admissions }
+        ensures asker { asker.new.queue ≡ asker.old.queue }
     {
-        let (caller, older) = hall.bell.expect();
-        hall.queue.put(rt, &mut self.pass, job);
-        hall.bell.came(caller, older);
+        asker.put(rt, hall, &mut self.pass, job);
     }
 
     // Hands in the pass.

@@ -81,7 +81,7 @@ impl Serving {
         ensures keeps { Keeps self.old self.new }
     {
         if !self.desk_states[place].is_away() {
-            return self.desk_states[place].has_waiting() && hall.bell.has_room();
+            return self.desk_states[place].has_waiting() && hall.queue.has_room();
         }
         let Some(reply) = self.desk_states[place].look() else {
             return false;
@@ -112,10 +112,10 @@ impl Serving {
         ensures keeps { Keeps self.old self.new }
     {
         let hall = setting.hall;
-        if command == Command::Round && !hall.bell.has_room() {
+        if command == Command::Round && !hall.queue.has_room() {
             return false;
         }
-        let Some(reply) = self.desk_states[place].take(setting, &command) else {
+        let Some(reply) = self.desk_states[place].take(setting, &command, &mut self.asker) else {
             return false;
         };
         self.held.fill(at, place, reply);

@@ -16,6 +16,7 @@ ghost use Rattle.firm_rounds.specs.Passes.{QueueId};
 ghost use Rattle.firm_rounds.specs.Rounds.{weigh};
 ghost use Rattle.firm_text.specs.declared.registers.Entry.{Entry};
 
+use crate::asker::Asker;
 use crate::desk_states::DeskState;
 use crate::desks::Desk;
 use crate::empty::EmptyDesk;
@@ -39,28 +40,15 @@ use std::sync::Wait;
 pub(crate) struct Serving {
     // The hall of the desks; only clauses read it.
     pub(crate) hall: Snapshot<Hall>,
+    // Asks for the rounds. It is not `Drop`, so neither is a serving hall.
+    pub(crate) asker: Asker,
     pub(crate) register: Register,
     pub(crate) desk_states: Vec<DeskState>,
     pub(crate) held: Held,
     pub(crate) unsettled: Unsettled,
     // How long those that wait are looked for.
     pub(crate) patience: Patience,
-}
-
-impl Drop for Serving {
-    // Written out, so that who owns a serving hall has one call where it is dropped.
-    fn drop(self) {
-        let Self {
-            hall: _,
-            register: _,
-            desk_states,
-            held,
-            unsettled: _,
-            patience: _,
-        } = self;
-        drop(desk_states);
-        drop(held);
-    }
+    ghost asks_there: { asker.queue ≡ hall.value.id },
 }
 
 impl Model for Serving {
@@ -74,6 +62,33 @@ impl Model for Serving {
 }
 
 impl Serving {
+    /// Rings, if the asker has to.
+    pub(crate) fn ring(&mut self, hall: &Hall)
+        requires { IsOpen hall.now.id self.old }
+        ensures { self.new ≡ self.old }
+    {
+        self.asker.ring(hall);
+    }
+
+    /// Drops it, as where the service ends with a fault. It has rung before.
+    pub(crate) fn discard(self, hall: &Hall)
+        requires { IsOpen hall.now.id self }
+    {
+        let Self {
+            hall: _,
+            mut asker,
+            register: _,
+            desk_states,
+            held,
+            unsettled: _,
+            patience: _,
+        } = self;
+        asker.ring(hall);
+        asker.end();
+        drop(desk_states);
+        drop(held);
+    }
+
     /// Waits for the turn, if it has not come.
     pub(crate) fn take_turn<R: Wait, W: Sink>(
         &mut self,
@@ -145,7 +160,7 @@ impl Serving {
         requires { place < most_places }
         ensures { result ≡ true → IsBackAt place self.now.desk_states }
     {
-        self.desk_states[place].is_back() && (!is_round(command) || hall.bell.has_room())
+        self.desk_states[place].is_back() && (!is_round(command) || hall.queue.has_room())
     }
 
     // Gives a command to the tenant of the place, which is at home. Out of line, so that lines other than rounds do not
@@ -170,7 +185,7 @@ impl Serving {
         // Laws: of one more line, and of the marks that replies tell.
         answers_add_up();
         replies_tell_their_marks();
-        let reply = self.desk_states[place].take(setting, &command);
+        let reply = self.desk_states[place].take(setting, &command, &mut self.asker);
         self.unsettled.set(place, reply.is_none());
         self.held.push(HeldAnswer::to(place, name, command, reply));
     }
@@ -240,7 +255,8 @@ impl Serving {
 
     /// Ends the service, all of whose desks are home since no answer is held. The desks go into these vectors, reserved
     /// for them.
-    pub(crate) fn end(self, room: Vec<Desk>, empty_room: Vec<EmptyDesk>) -> Ended
+    pub(crate) fn end(self, hall: &Hall, room: Vec<Desk>, empty_room: Vec<EmptyDesk>) -> Ended
+        requires open { IsOpen hall.now.id self }
         requires finished { IsFinished self }
         requires room { IsReserved room.items (vec_capacity room) }
         requires empty_room { IsReserved empty_room.items (vec_capacity empty_room) }
@@ -250,12 +266,15 @@ impl Serving {
     {
         let Self {
             hall: _,
+            mut asker,
             register: _,
             desk_states,
             held: _,
             unsettled: _,
             patience: _,
         } = self;
+        asker.ring(hall);
+        asker.end();
         let mut desks = room;
         let mut empty = empty_room;
         let mut rounds = 0;

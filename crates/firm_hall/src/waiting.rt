@@ -7,10 +7,11 @@ ghost use Rattle.firm_table.specs.Service.{IsWritingFault};
 ghost use Rattle.firm_hall.specs.inner.Serving.{Begins, Follows, HasTurn, IsFinished, IsOpen, IsWrittenOut, Passes};
 ghost use Rattle.firm_hall.specs.inner.Serving.{ServingIs};
 
+use crate::asker::Announced;
 use crate::patience::Looks;
 use crate::serving::Serving;
 use crate::setting::Setting;
-use crossbeam_utils::sync::{EventCount, Key};
+use crossbeam_utils::sync::EventCount;
 use firm_table::ServeFault;
 use firm_text::{Sink, Source};
 use std::alloc::Global;
@@ -139,7 +140,7 @@ impl Serving {
             // Whatever the looks that follow miss comes after the announcement and so ends the sleep.
             let most = self.patience.most_looks(self.unsettled.are_several());
             let announced = if most <= looks {
-                Some(answers.prepare_wait())
+                Some(Announced::on(answers))
             } else {
                 None
             };
@@ -164,19 +165,20 @@ impl Serving {
     // else, and here each answer that could be written by its order has been written. Returns the number of looks in
     // vain since the last sleep, or the last that was not.
     fn rest<R: Wait>(
-        &self,
+        &mut self,
         setting: &Setting<'_, R>,
-        announced: Option<Key<'_>>,
+        announced: Option<Announced<'_>>,
         looks: u32,
         is_vain: bool,
     ) -> u32
-        requires { IsWrittenOut self.now }
+        requires written { IsWrittenOut self.old }
+        requires open { IsOpen setting.now.hall.now.id self.old }
+        ensures { self.new ≡ self.old }
     {
         if !is_vain {
             return 0;
         }
-        let hall = setting.hall;
-        let Some(key) = announced else {
+        let Some(announced) = announced else {
             let more = if self.unsettled.are_several() {
                 LOOKS_OF_SEVERAL
             } else {
@@ -184,14 +186,14 @@ impl Serving {
             };
             let next = looks.saturating_add(more);
             if looks / LOOKS_BEFORE_RING < next / LOOKS_BEFORE_RING {
-                hall.bell.ring();
+                self.ring(setting.hall);
             }
             spin_loop();
             return next;
         };
         // While it sleeps, no round of its own waits unheard.
-        hall.bell.ring();
-        key.wait(setting.rt);
+        self.asker.ring(setting.hall);
+        announced.sleep(setting.rt, &self.asker);
         0
     }
 }

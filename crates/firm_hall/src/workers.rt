@@ -5,8 +5,7 @@ ghost use Rattle.firm_rounds.specs.Passes.{closing_is, spent_pop};
 ghost use Rattle.firm_rounds.specs.Rounds.{share};
 
 use crate::halls::Hall;
-use firm_bell::Listener;
-use firm_rounds::{Closing, Job, PopPass, Queue};
+use firm_rounds::{Closing, Ended, Job, PopPass, Queue};
 use firm_rules::Ticket;
 use std::alloc::Global;
 use std::marker::Model;
@@ -47,20 +46,19 @@ impl Model for WorkerPass {
 #[derive(Drop)]
 pub struct Report {
     taken: PopPass,
-    // Its worker ended as the bell's rule asks: once the bell was shut, when no round waited.
-    listener: Listener,
+    // Its worker ended as the bell's rule asks: once the hall was shut, when no round waited.
+    ended: Ended,
 }
 
 impl Model for Report {
     ghost use Rattle.std.specs.Prelude.{◌≡◌};
     ghost use Rattle.firm_rounds.specs.Passes.{PopIs};
-    ghost use Rattle.firm_bell.specs.declared.rule.Stage.TheVariants.{Ended};
 
     ghost Value = { PopIs };
 
     ghost view = { λ r. r.taken };
 
-    ghost invariant = { λ r. r.listener.me.0.stage ≡ Ended };
+    ghost invariant = { λ r. r.ended ≡ r.taken.queue.bell };
 }
 
 impl Report {
@@ -107,26 +105,26 @@ pub fn worker<R: Wait, G: Gate>(
 {
     warm_up(alloc);
     let WorkerPass { mut taken } = pass;
-    let bell = &hall.bell;
-    let mut listener = bell.listener();
+    let queue = &hall.queue;
     let mut looks = 0;
     for _ in rt.forever() {
         // The bell's rule says when a worker may end, so one that finds the stop word set asks the bell too.
-        let is_shut = hall.is_shut() && bell.is_shut(&mut listener);
-        match hall.queue.pop(rt, &mut taken) {
+        let is_shut = hall.is_shut() && queue.is_shut(&mut taken);
+        match queue.pop(rt, &mut taken) {
             Some(job) => {
-                if bell.took(&mut listener) {
+                if taken.was_full() {
                     hall.answers.notify_one();
                 }
-                bell.make_owed_call(&mut listener);
-                solve(alloc, hall, job, gate, &listener);
+                solve(alloc, hall, job, gate, &taken);
                 looks = 0;
             }
             None => {
-                if is_shut && bell.ends(&mut listener) {
-                    return Report { taken, listener };
+                if is_shut {
+                    if let Some(ended) = queue.ends(&taken) {
+                        return Report { taken, ended };
+                    }
                 }
-                looks = bell.rest_or_look(rt, &mut listener, looks);
+                looks = queue.rest_or_look(rt, &mut taken, looks);
             }
         }
     }
@@ -141,10 +139,10 @@ fn warm_up(alloc: Global) {
 
 // Solves the round behind the gate, and tells the clerk. That may take long, so the worker has made the call that it
 // owed.
-fn solve<G: Gate>(alloc: Global, hall: &Hall, job: Job, gate: &G, listener: &Listener)
-    requires { listener.now.me.0.owes_call ≡ false }
+fn solve<G: Gate>(alloc: Global, hall: &Hall, job: Job, gate: &G, taken: &PopPass)
+    requires { taken.now.owes_call ≡ false }
 {
-    let _ = listener;
+    let _ = taken;
     gate.pass(job.ticket());
     let answered = job.finish(alloc);
     hall.tell(answered);

@@ -1,10 +1,15 @@
-//! Rents in levels, as one crate proposes them and another judges them: for each machine, and for waiting, an amount
-//! and behind it a number at each time. `specs/Levels.antt` of firm_rents says what a time is, and how they compare.
+//! The types by which one crate proposes a round and another judges it, so that neither rests on the other: rents in
+//! levels, and the `Work` in which both count. For each machine, and for waiting, the rents have an amount and behind
+//! it a number at each time. `specs/Levels.antt` of firm_rents says what a time is, and how they compare.
 //!
 //! A proposer of firm_proposals writes `LevelRents`, and so does firm_rents for a ladder; `shows_first` of firm_rents
-//! reads them. They stand in a crate of their own so that neither of those two crates rests on the other. Nothing is
-//! required of them: no clause asks anything, and `shows_first` itself checks the form that is described here.
+//! reads them. No clause asks anything of them: `shows_first` itself checks the form that is described here. A `Work`
+//! never exceeds its allowance, and no call sets its counts back (`specs/Work.antt`).
 #![tactic(auto)]
+
+mod work;
+
+pub use work::{Allowance, Work};
 
 /// A class of places: at its time their rents have its number, else they are those of its parent's. A rent of the first
 /// class has 1 at each time.

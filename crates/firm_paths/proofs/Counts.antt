@@ -18,7 +18,6 @@ none_counts_nothing scratch arcs = record {
       };
   looks_kept = omega arith;
   looks = omega arith;
-  proposed = refl;
 }
 
 pub searches_add_up : SearchesAddUp
@@ -46,5 +45,4 @@ searches_add_up old now new made more arcs first then = record {
   };
   looks_kept = omega (arith, first.looks_kept, then.looks_kept);
   looks = omega (arith, first.looks, then.looks, add-mul made more (2 * arcs));
-  proposed = then.proposed ∙ first.proposed;
 }

@@ -1,12 +1,12 @@
 -- The queue and the visits beside the states: at the start, when a node is settled, and at the end.
-use Rattle.std.proofs.Common.{◌≡◌, ℕ, ◌+◌, ◌-◌, ◌<◌, true, false, Some, None, List, [], ◌∷◌, ◌++◌, length, set, arith}
+use Rattle.std.proofs.Common.{◌≡◌, ℕ, ◌-◌, ◌<◌, true, false, Some, None, List, [], ◌∷◌, ◌++◌, length, set, arith}
 use Rattle.std.proofs.Common.{sym, ap, refl, ◌∙◌, inl, inr, ⊎_elim}
 use Rattle.std.specs.Prelude.{slice_index, is_some}
 use Rattle.std.proofs.lemmas.List.{get_or-set_other, get_or-set_same, length-set}
 use Rattle.std.proofs.lemmas.Bool.{cases_eq, cases_Bool, both_ways}
 use Rattle.firm_net.specs.declared.row.NodeId.{NodeId}
 use Rattle.firm_paths.specs.Visits.{visit}
-use Rattle.firm_paths.specs.inner.Search.{state, known, settled, label, with_settled, IsLowered, IsNearest}
+use Rattle.firm_paths.specs.inner.Search.{state, known, settled, with_settled, IsLowered, IsNearest}
 use Rattle.firm_paths.specs.inner.Queue.{IsQueued, IsIdle, IsLeastKey, IsVisited, AreVisited, AreLeft}
 use Rattle.firm_paths.specs.declared.search.NodeState.{NodeState}
 use Rattle.firm_paths.specs.declared.search.Visit.{Visit}

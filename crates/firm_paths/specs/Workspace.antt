@@ -3,13 +3,12 @@ use Rattle.std.specs.Prelude.{◌≡◌, ℕ, List, ◌+◌, ◌-◌, ◌*◌, �
 use Rattle.firm_paths.specs.declared.search.Visit.{Visit}
 
 -- the limits of the net for whose searches the room was reserved, how often `begin` was called, how many searches and
--- looks, and how many looks of proposals, were counted since, and the visits of the last search for tight paths
+-- looks were counted since, and the visits of the last search for tight paths
 pub record Workspace : Type 0 where
   pub limits : ℕ × ℕ
   pub begins : ℕ
   pub searches : ℕ
   pub looks : ℕ
-  pub proposed : ℕ
   pub visits : List Visit
 
 -- a counter grew by this number where there was room for it below 2^64; else it stands at 2^64 - 1, and did not fall
@@ -26,4 +25,3 @@ pub record HasSearched (old new : Workspace) (made arcs : ℕ) : Type 0 where
   pub searches : HasCounted old.searches new.searches made
   pub looks_kept : old.looks ≤ new.looks
   pub looks : new.looks ≤ old.looks + made * (2 * arcs)
-  pub proposed : new.proposed ≡ old.proposed

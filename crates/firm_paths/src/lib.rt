@@ -8,8 +8,8 @@
 //!
 //! A path meets no node twice, and is lent from the scratch until its next search. A *look* reads an arc, even if
 //! barred, full or not tight; with b barred arcs it takes up to b comparisons. A search takes at most two looks for
-//! each arc of the net; counts stop at 2^64 - 1. A scratch counts the looks of proposals, which are sought outside the
-//! net, apart. Only the two `new` take memory. No clause bounds other work than looks.
+//! each arc of the net; counts stop at 2^64 - 1. Only the two `new` take memory. No clause bounds other work than
+//! looks.
 //!
 //! - `raise` requires two different nodes, valid prices, none above that of `to`, and that at most 2^60.
 //! - `tight_paths` finds a path to a node from a goal or, where there is none, from every other that has one, in one
@@ -24,9 +24,9 @@
 //! the base, as after a search for another goal.
 //!
 //! `tight_path` and `tight_paths` are one breadth-first search from the end of the paths against the arcs, up to where
-//! the path begins, or else through all nodes. A search resets only the nodes that the one before visited. `path_from`,
-//! which `first_best` of firm_canon calls for each open arc that it tries, looks for its node among all visits: up to a
-//! step for each node of the net, and none of them is counted as a look.
+//! the path begins, or else through all nodes. A search resets only the nodes that the one before visited, and writes
+//! down as which number it visited each of its own. So `path_from`, which `first_best` of firm_canon calls for each
+//! open arc that it tries, scans nothing.
 
 mod laws;
 mod prices;

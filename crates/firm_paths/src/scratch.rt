@@ -21,9 +21,10 @@ pub struct Scratch {
     begins: u64,
     pub(crate) searches: u64,
     pub(crate) looks: u64,
-    proposed: u64,
     pub(crate) labels: Labels,
     pub(crate) reach: Reach,
+    // As which number the node at each place was visited, if the last search for tight paths did.
+    pub(crate) numbers: Vec<usize>,
     pub(crate) steps: Vec<Step>,
 }
 
@@ -31,7 +32,7 @@ impl Model for Scratch {
     ghost use Rattle.std.specs.Prelude.{◌≡◌, ◌≤◌, length, vec_capacity};
     ghost use Rattle.firm_paths.specs.Workspace.{Workspace};
     ghost use Rattle.firm_paths.specs.inner.Queue.{IsIdle};
-    ghost use Rattle.firm_paths.specs.inner.Spread.{Agree};
+    ghost use Rattle.firm_paths.specs.inner.Spread.{Agree, AreNumbered};
 
     ghost Value = { Workspace };
 
@@ -40,7 +41,6 @@ impl Model for Scratch {
       begins = s.begins;
       searches = s.searches;
       looks = s.looks;
-      proposed = s.proposed;
       visits = s.reach.visits.items;
     } };
 
@@ -48,7 +48,8 @@ impl Model for Scratch {
         × (length s.reach.seen.items ≡ s.limits.0)
         × IsIdle s.labels.states.items s.labels.queue × Agree s.reach.seen.items s.reach.visits.items
         × (s.limits.0 ≤ vec_capacity s.labels.visits) × (s.limits.0 ≤ vec_capacity s.reach.visits)
-        × (s.limits.0 ≤ vec_capacity s.steps) };
+        × (s.limits.0 ≤ vec_capacity s.steps) × (length s.numbers.items ≡ s.limits.0)
+        × AreNumbered s.numbers.items s.reach.visits.items };
 }
 
 impl Scratch {
@@ -56,20 +57,20 @@ impl Scratch {
     pub fn new(alloc: Global, net: &Net) -> Result<Scratch, AllocError>
         ensures limits { IfOk result (λ scratch. scratch.limits ≡ limits_of net.now) }
         ensures counts { IfOk result (λ scratch. (scratch.begins ≡ 0) × (scratch.searches ≡ 0) × (scratch.looks ≡ 0)) }
-        ensures proposed { IfOk result (λ scratch. scratch.proposed ≡ 0) }
     {
         let limits = net.limits();
         let steps = Vec::with_capacity(alloc, limits.0 as usize)?;
         let reach = Reach::new(alloc, limits.0)?;
+        let numbers = vec![in alloc; 0; limits.0 as usize]?;
         let labels = Labels::new(alloc, limits.0)?;
         Ok(Scratch {
             limits,
             begins: 0,
             searches: 0,
             looks: 0,
-            proposed: 0,
             labels,
             reach,
+            numbers,
             steps,
         })
     }
@@ -79,20 +80,10 @@ impl Scratch {
         ensures limits { self.new.limits ≡ self.old.limits }
         ensures begins { HasCounted self.old.begins self.new.begins 1 }
         ensures counts { (self.new.searches ≡ 0) × (self.new.looks ≡ 0) }
-        ensures proposed { self.new.proposed ≡ 0 }
     {
         self.begins = self.begins.saturating_add(1);
         self.searches = 0;
         self.looks = 0;
-        self.proposed = 0;
-    }
-
-    /// Counts the looks of a proposal, which was sought outside the net.
-    pub fn count_proposed(&mut self, looks: u64)
-        ensures counted { HasCounted self.old.proposed self.new.proposed looks }
-        ensures rest { self.new ≡ record self.old { proposed = self.new.proposed } }
-    {
-        self.proposed = self.proposed.saturating_add(looks);
     }
 
     /// How often `begin` was called; `u64::MAX` for more than can be told.
@@ -116,14 +107,6 @@ impl Scratch {
         self.looks
     }
 
-    /// How many looks proposals took since the last `begin`, each search of theirs counted as one more; `u64::MAX` for
-    /// more than can be told.
-    pub fn proposed(&self) -> u64
-        ensures { result ≡ self.now.proposed }
-    {
-        self.proposed
-    }
-
     /// The path from a node that the last search of `tight_paths` found. `None` only where it found none. Takes no
     /// memory.
     pub fn path_from(&mut self, net: &Net, node: NodeId) -> Option<&[Step]>
@@ -136,7 +119,7 @@ impl Scratch {
         let Some(place) = net.place(node) else {
             unreachable!()
         };
-        let Some(number) = self.reach.number_at(place as usize) else {
+        let Some(number) = self.reach.number_at(&self.numbers, place as usize) else {
             return None;
         };
         walk_on(&self.reach.visits, number, &mut self.steps);

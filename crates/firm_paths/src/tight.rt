@@ -13,7 +13,7 @@ ghost use Rattle.firm_paths.specs.Visits.{number_of, paths_of, visit};
 ghost use Rattle.firm_paths.specs.inner.Search.{side_of, start_of};
 ghost use Rattle.firm_paths.specs.inner.Queue.{IsVisited};
 ghost use Rattle.firm_paths.specs.inner.Spread.{seen_with, visits_with, IsGrown, IsCounted, Spreads, SpreadsAll};
-ghost use Rattle.firm_paths.specs.inner.Spread.{SpreadsBoth, Agree, IsFoundBy, IsSpent};
+ghost use Rattle.firm_paths.specs.inner.Spread.{SpreadsBoth, Agree, AreApart, AreNumbered, IsFoundBy, IsSpent};
 ghost use Rattle.firm_paths.specs.Workspace.{HasSearched};
 ghost use Rattle.firm_paths.specs.declared.search.Step.{Step as AStep};
 ghost use Rattle.firm_paths.specs.Lending.{Rests};
@@ -69,11 +69,25 @@ pub fn unmark(seen: &mut [bool], visits: &[Visit])
     }
 }
 
+/// Writes at each place as which number its node was visited.
+pub fn number_visits(numbers: &mut Vec<usize>, visits: &Vec<Visit>)
+    requires places { (k : ℕ) → k < length visits.now.items
+        → (visit visits.now.items k).place < length numbers.old.items }
+    requires apart { AreApart visits.now.items }
+    ensures numbered { AreNumbered numbers.new.items visits.now.items }
+    ensures size { length numbers.new.items ≡ length numbers.old.items }
+{
+    for number in 0..visits.len() {
+        numbers[visits[number].place] = number;
+    }
+}
+
 impl Reach {
     /// Room for a search among this many nodes. `Err` only where memory is refused.
     pub fn new(alloc: Global, nodes: u32) -> Result<Reach, AllocError>
         ensures size { IfOk result (λ reach. length reach.seen.items ≡ nodes) }
         ensures agree { IfOk result (λ reach. Agree reach.seen.items reach.visits.items) }
+        ensures none { IfOk result (λ reach. reach.visits.items ≡ []) }
         ensures capacity { IfOk result (λ reach. nodes ≤ vec_capacity reach.visits) }
     {
         let nodes = nodes as usize;
@@ -224,6 +238,7 @@ impl Reach {
         ensures missed { IfNone result ((v : ℕ) → goal ≡ Some v → slice_index_or self.new.seen.items v false ≡ false) }
         ensures size { length self.new.seen.items ≡ length self.old.seen.items }
         ensures capacity { vec_capacity self.new.visits ≡ vec_capacity self.old.visits }
+        ensures apart { AreApart self.new.visits.items }
         ensures counts { self.new.looks ≤ 2 * length (arcs_of arcs.now.net.now) }
     {
         self.clear();
@@ -262,6 +277,7 @@ impl Reach {
         ensures missed { IfNone result ((v : ℕ) → goal ≡ Some v → slice_index_or self.new.seen.items v false ≡ false) }
         ensures size { length self.new.seen.items ≡ length self.old.seen.items }
         ensures capacity { vec_capacity self.new.visits ≡ vec_capacity self.old.visits }
+        ensures apart { AreApart self.new.visits.items }
         ensures counts { self.new.looks ≤ 2 * arc_count arcs.now.net.now }
     {
         let Some(place) = arcs.net.place(to) else {
@@ -275,16 +291,17 @@ impl Reach {
         self.breadth_first(arcs, root, goal)
     }
 
-    /// The number as which the node at a place was visited.
-    pub fn number_at(&self, place: usize) -> Option<usize>
-        requires place { place < length self.now.seen.items }
+    /// The number as which the node at a place was visited, which `number_visits` wrote down.
+    pub fn number_at(&self, numbers: &[usize], place: usize) -> Option<usize>
+        requires place { (place < length self.now.seen.items) × (place < length numbers.now) }
         requires agree { Agree self.now.seen.items self.now.visits.items }
+        requires numbered { AreNumbered numbers.now self.now.visits.items }
         ensures { result ≡ number_of self.now.visits.items place }
     {
         if !self.seen[place] {
             return None;
         }
-        self.visits.iter().position(|visit| visit.place == place)
+        Some(numbers[place])
     }
 }
 
@@ -318,6 +335,7 @@ pub fn tight_path<'s>(
         unreachable!()
     };
     let found = scratch.reach.find(&arcs, to, Some(goal as usize));
+    number_visits(&mut scratch.numbers, &scratch.reach.visits);
     scratch.searches = scratch.searches.saturating_add(1);
     scratch.looks = scratch.looks.saturating_add(scratch.reach.looks);
     let Some(start) = found else {
@@ -366,6 +384,7 @@ pub fn tight_paths(
     };
     let goal = place_of(net, goal);
     scratch.reach.find(&arcs, to, goal);
+    number_visits(&mut scratch.numbers, &scratch.reach.visits);
     scratch.searches = scratch.searches.saturating_add(1);
     scratch.looks = scratch.looks.saturating_add(scratch.reach.looks);
 }

@@ -7,7 +7,7 @@ use Rattle.firm_table.specs.declared.faults.ServeFault.{ServeFault}
 use Rattle.firm_table.specs.declared.faults.ServeFault.TheVariants.{Read, Write, TooLong, Memory}
 use Rattle.firm_program.specs.declared.faults.Fault.{Fault}
 use Rattle.firm_program.specs.declared.faults.Fault.TheVariants.{Words, UnreadableRoster, Roster, UnreadableState}
-use Rattle.firm_program.specs.declared.faults.Fault.TheVariants.{State, Tenant, Service}
+use Rattle.firm_program.specs.declared.faults.Fault.TheVariants.{LongState, State, Tenant, Service}
 use Rattle.firm_text.specs.declared.faults.RosterFault.{RosterFault}
 use Rattle.firm_text.specs.declared.faults.RosterFault.TheVariants.{Memory as RosterMemory}
 
@@ -38,6 +38,7 @@ status_of (Words text) = 2
 status_of UnreadableRoster = 3
 status_of (Roster fault) = 3
 status_of UnreadableState = 3
+status_of LongState = 3
 status_of (State fault) = 3
 status_of (Tenant name refusal) = 3
 status_of (Service fault) = status_of_service fault

@@ -10,14 +10,14 @@ use Rattle.clap.specs.declared.builder.arg.Arg.{Arg}
 use Rattle.clap.specs.declared.builder.command.Command.{Command}
 use Rattle.clap.specs.declared.error.Error.{Error}
 use Rattle.clap.specs.declared.parser.matches.ArgMatches.{ArgMatches}
-use Rattle.firm_saved.specs.Saved.{IsSoundSaved, SavedIs}
-use Rattle.firm_text.specs.Rosters.{RosterIs, roster_of}
+use Rattle.firm_saved.specs.Saved.{SavedIs}
+use Rattle.firm_text.specs.Rosters.{RosterIs}
 use Rattle.firm_table.specs.Opened.{Opened, opened_roster, opened_state}
 use Rattle.firm_table.specs.Service.{Device, ServedFrom, device}
-use Rattle.firm_program.specs.Files.{Opens, RefusesFile}
+use Rattle.firm_program.specs.Files.{IsReadRoster, IsReadState, KnownFiles, Opens, RefusesFile}
 use Rattle.firm_program.specs.Options.{GivesPaths, NamesFile, NamesNotOne, NamesRoster, NamesState}
 use Rattle.firm_program.specs.Options.{HasRule, IsOption, text_of, value_given}
-use Rattle.firm_program.specs.Runs.{IsUntouched, NotOpened, NotServed, ServesFile, StopsFile, StopsFrom}
+use Rattle.firm_program.specs.Runs.{NotOpened, NotServed, ServesFile, StopsFile, StopsFrom}
 use Rattle.firm_program.specs.Runs.{most_input}
 use Rattle.firm_program.specs.Words.{IsNamed}
 use Rattle.firm_program.specs.declared.faults.Fault.{Fault}
@@ -63,19 +63,17 @@ some_path (Some path) = refl
 -- what words name, by the paths that they give
 module _ (app : App) (words : List (List ℕ)) (roster state : Option (Bor (List ℕ))) (well : fault_of app words ≡ [])
     (given : GivesPaths app words roster state) where
-  names_roster : (path : Bor (List ℕ)) → roster ≡ Some path → state ≡ None → NamesRoster app words
+  names_roster : (path : Bor (List ℕ)) → roster ≡ Some path → state ≡ None → NamesRoster app words path.now
   names_roster path is none = record {
     well = well;
-    given = ap (λ (o : Option (List ℕ)). is_some o) (sym given.roster_path)
-        ∙ ap (λ (o : Option (Bor (List ℕ))). is_some (text_of o)) is;
+    given = sym given.roster_path ∙ ap text_of is;
     alone = sym given.state_path ∙ ap text_of none;
   }
 
-  names_state : (path : Bor (List ℕ)) → roster ≡ None → state ≡ Some path → NamesState app words
+  names_state : (path : Bor (List ℕ)) → roster ≡ None → state ≡ Some path → NamesState app words path.now
   names_state path none is = record {
     well = well;
-    given = ap (λ (o : Option (List ℕ)). is_some o) (sym given.state_path)
-        ∙ ap (λ (o : Option (Bor (List ℕ))). is_some (text_of o)) is;
+    given = sym given.state_path ∙ ap text_of is;
     alone = sym given.roster_path ∙ ap text_of none;
   }
 
@@ -91,28 +89,29 @@ module _ (app : App) (words : List (List ℕ)) (roster state : Option (Bor (List
   names_file (Roster path) is = names_roster path is.0 is.1
   names_file (State path) is = names_state path is.0 is.1
 
--- what a roster opens, and a sound state
-pub opens_roster : (path : Bor (List ℕ)) (text : List ℕ) (roster : RosterIs) → roster_of text ≡ Ok roster
-    → Opens (Roster path) (opened_roster roster)
-opens_roster path text roster judged = record { text = text; roster = roster; judged = judged; opened_is = refl }
+-- what the roster opens, and the state, that a file is
+pub opens_roster : (files : KnownFiles) (path : Bor (List ℕ)) (roster : RosterIs)
+    → IsReadRoster (files path.now) roster → Opens files (Roster path) (opened_roster roster)
+opens_roster files path roster read = record { roster = roster; read = read; opened_is = refl }
 
-pub opens_state : (path : Bor (List ℕ)) (saved : SavedIs) → IsSoundSaved saved
-    → Opens (State path) (opened_state saved)
-opens_state path saved sound = record { saved = saved; sound = sound; opened_is = refl }
+pub opens_state : (files : KnownFiles) (path : Bor (List ℕ)) (saved : SavedIs)
+    → IsReadState (files path.now) saved → Opens files (State path) (opened_state saved)
+opens_state files path saved read = record { saved = saved; read = read; opened_is = refl }
 
 -- what becomes of a service that opened with the file that is named
-pub serves_or_stops : (named : Named) (reader writer : Device) (opened : Opened) → Opens named opened
-    → {A : Type 0} (result : Result A Fault)
+pub serves_or_stops : (files : KnownFiles) (named : Named) (reader writer : Device) (opened : Opened)
+    → Opens files named opened → {A : Type 0} (result : Result A Fault)
     → MatchResult result (λ _. ServedFrom opened most_input reader writer) (StopsFrom opened reader writer)
-    → MatchResult result (λ _. ServesFile named reader writer) (StopsFile named reader writer)
-serves_or_stops named reader writer opened opens (Ok done) served =
+    → MatchResult result (λ _. ServesFile files named reader writer) (StopsFile files named reader writer)
+serves_or_stops files named reader writer opened opens (Ok done) served =
     record { opened = opened; opens = opens; served = served }
-serves_or_stops named reader writer opened opens (Err fault) stopped =
+serves_or_stops files named reader writer opened opens (Err fault) stopped =
     NotServed (record { opened = opened; opens = opens; stopped = stopped })
 
 -- a refused file leaves what would be read and written as it was
-pub stops_at_file : (named : Named) (left written : Option (List ℕ)) (read_failed write_failed : Bool)
-    → read_failed ≡ false → write_failed ≡ false → (fault : Fault) → RefusesFile named fault
-    → StopsFile named (device left left read_failed) (device written written write_failed) fault
-stops_at_file named left written read_failed write_failed reads writes fault refused =
+pub stops_at_file : (files : KnownFiles) (named : Named) (left written : Option (List ℕ))
+    (read_failed write_failed : Bool) → read_failed ≡ false → write_failed ≡ false → (fault : Fault)
+    → RefusesFile files named fault
+    → StopsFile files named (device left left read_failed) (device written written write_failed) fault
+stops_at_file files named left written read_failed write_failed reads writes fault refused =
     NotOpened refused (record { unread = refl; unwritten = refl; reads = reads; writes = writes })

@@ -1,5 +1,5 @@
 -- The options that the programs have in common, and what words give with them.
-use Rattle.std.specs.Prelude.{◌≡◌, ◌≤◌, ℕ, true, false, List, [], Option, Some, None, is_some, codes, option_map}
+use Rattle.std.specs.Prelude.{◌≡◌, ◌≤◌, ℕ, false, List, [], Option, Some, None, is_some, codes, option_map}
 use Rattle.std.specs.Borrow.{Bor}
 use Rattle.clap.specs.Facts.{least_values}
 use Rattle.clap.specs.Words.{App, IsPlainArg, Rule, fault_of, first_of, matches_of, new_rule, rule_of}
@@ -39,16 +39,16 @@ pub record HasRule (rule : Rule) (option : Arg) : Type 0 where
 abbrev pub value_given : App → List ℕ → List (List ℕ) → Option (List ℕ)
 value_given app name words = first_of name (matches_of app words)
 
--- the words have no fault, and give the path of a roster, and none of a state
-pub record NamesRoster (app : App) (words : List (List ℕ)) : Type 0 where
+-- the words have no fault, and give this path of a roster, and none of a state
+pub record NamesRoster (app : App) (words : List (List ℕ)) (path : List ℕ) : Type 0 where
   pub well : fault_of app words ≡ []
-  pub given : is_some (value_given app (codes "roster") words) ≡ true
+  pub given : value_given app (codes "roster") words ≡ Some path
   pub alone : value_given app (codes "state") words ≡ None
 
 -- the other way round
-pub record NamesState (app : App) (words : List (List ℕ)) : Type 0 where
+pub record NamesState (app : App) (words : List (List ℕ)) (path : List ℕ) : Type 0 where
   pub well : fault_of app words ≡ []
-  pub given : is_some (value_given app (codes "state") words) ≡ true
+  pub given : value_given app (codes "state") words ≡ Some path
   pub alone : value_given app (codes "roster") words ≡ None
 
 -- the words have no fault by `clap`'s rule, but give the paths of both, or of none
@@ -58,8 +58,8 @@ pub record NamesNotOne (app : App) (words : List (List ℕ)) : Type 0 where
 
 -- the words name the file to open with
 abbrev pub NamesFile : App → List (List ℕ) → Named → Type 0
-NamesFile app words (Roster path) = NamesRoster app words
-NamesFile app words (State path) = NamesState app words
+NamesFile app words (Roster path) = NamesRoster app words path.now
+NamesFile app words (State path) = NamesState app words path.now
 
 -- a value as it is given
 abbrev pub text_of : Option (Bor (List ℕ)) → Option (List ℕ)

@@ -1,9 +1,9 @@
 -- What a program takes, what it leaves as it was, and how a service that it opens with a file ends.
-use Rattle.std.specs.Prelude.{◌≡◌, ℕ, List, false}
+use Rattle.std.specs.Prelude.{◌≡◌, ℕ, false}
 use Rattle.firm_table.specs.Opened.{Opened}
 use Rattle.firm_table.specs.Service.{Device, ServedFrom, StoppedFrom}
 use Rattle.firm_table.specs.declared.faults.ServeFault.{ServeFault}
-use Rattle.firm_program.specs.Files.{Opens, RefusesFile}
+use Rattle.firm_program.specs.Files.{KnownFiles, Opens, RefusesFile}
 use Rattle.firm_program.specs.declared.faults.Fault.{Fault}
 use Rattle.firm_program.specs.declared.faults.Fault.TheVariants.{Service}
 use Rattle.firm_program.specs.declared.words.Named.{Named}
@@ -30,9 +30,9 @@ pub record IsUntouched (reader writer : Device) : Type 0 where
   pub writes : writer.failed ≡ false
 
 -- a service opened with the file that is named, and came to the end of the input with its output written
-pub record ServesFile (named : Named) (reader writer : Device) : Type 0 where
+pub record ServesFile (files : KnownFiles) (named : Named) (reader writer : Device) : Type 0 where
   pub opened : Opened
-  pub opens : Opens named opened
+  pub opens : Opens files named opened
   pub served : ServedFrom opened most_input reader writer
 
 -- a service that opened so stopped, for the fault's cause
@@ -42,13 +42,13 @@ pub record StopsFrom (opened : Opened) (reader writer : Device) (fault : Fault) 
   pub stopped : StoppedFrom opened most_input reader writer cause
 
 -- a service opened with the file that is named, and stopped
-pub record StopsService (named : Named) (reader writer : Device) (fault : Fault) : Type 0 where
+pub record StopsService (files : KnownFiles) (named : Named) (reader writer : Device) (fault : Fault) : Type 0 where
   pub opened : Opened
-  pub opens : Opens named opened
+  pub opens : Opens files named opened
   pub stopped : StopsFrom opened reader writer fault
 
 -- how a program stops that serves with the file that is named: the file is refused, or memory before the service, and
 -- nothing was read or written; or the service stopped
-pub data StopsFile (named : Named) (reader writer : Device) (fault : Fault) : Type 0 where
-  NotOpened : RefusesFile named fault → IsUntouched reader writer → StopsFile named reader writer fault
-  NotServed : StopsService named reader writer fault → StopsFile named reader writer fault
+pub data StopsFile (files : KnownFiles) (named : Named) (reader writer : Device) (fault : Fault) : Type 0 where
+  NotOpened : RefusesFile files named fault → IsUntouched reader writer → StopsFile files named reader writer fault
+  NotServed : StopsService files named reader writer fault → StopsFile files named reader writer fault

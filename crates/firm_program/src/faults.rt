@@ -25,6 +25,8 @@ pub enum Fault {
     Roster(RosterFault),
     #[error("cannot read state")]
     UnreadableState,
+    #[error("state too long")]
+    LongState,
     #[error("state fault {code} {name} in line {line}", code = .0.kind.code(), name = .0.kind.name(), line = .0.line)]
     State(StateFault),
     /// A tenant can't be in the state that is asked for.
@@ -58,7 +60,8 @@ impl Fault {
         match self {
             Fault::Words(_) => 2,
             Fault::UnreadableRoster | Fault::Roster(_) => 3,
-            Fault::UnreadableState | Fault::State(_) | Fault::Tenant(_, _) => 3,
+            Fault::UnreadableState | Fault::LongState => 3,
+            Fault::State(_) | Fault::Tenant(_, _) => 3,
             Fault::Service(ServeFault::Read | ServeFault::TooLong) => 4,
             Fault::Service(ServeFault::Write) => 5,
             Fault::Service(ServeFault::Memory) => 6,

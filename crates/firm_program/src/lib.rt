@@ -8,8 +8,8 @@
 //!
 //! # What is proved
 //!
-//! - `read_roster`, `read_state`: a roster that some text is, or a sound state; else some text's first fault, no file,
-//!   or refused memory
+//! - `read_roster`, `read_state`: the roster or the sound state whose text is all of the named file; else the first
+//!   fault of all of it, a state's file that is too long, no file, or refused memory
 //! - `option`, `roster_option`, `state_option`: the rule of an option with a value; its words name a file as
 //!   `NamesFile` has it
 //! - `Named::one_of`: the one path that is given; else a fault with status 2
@@ -17,9 +17,9 @@
 //! - `answer_words`, `refuse_words`: the status of words that ask for a text, are at fault, or find no memory; only a
 //!   text that was asked for is written
 //!
-//! No clause can say what a file holds: a contract speaks of some text, and says of a state only that it is sound. Nor
-//! does one say which failure of reading is refused memory; that is tested. Of a roster's file at most 65,537 bytes are
-//! read, of a state's 41,943,040. `tell` takes no memory.
+//! A `FileSystem` tells what its files hold (`bytes_at`). The operating system's tells nothing: that its `open` gives
+//! the bytes of the file at the path is only tested, and so is which failure of reading is refused memory. At most
+//! 65,537 bytes of a roster's file are read, and 41,943,041 of a state's. `tell` takes no memory.
 #![tactic(auto)]
 
 mod faults;
@@ -28,6 +28,6 @@ mod options;
 mod words;
 
 pub use faults::{Fault, WordsFault, tell};
-pub use files::{LONGEST_STATE, read_roster, read_state};
+pub use files::{FileSystem, LONGEST_STATE, read_roster, read_state};
 pub use options::{VERSION, option, roster_option, state_option};
 pub use words::{BAD_COMMAND_LINE, Named, answer_words, arguments, refuse_words};

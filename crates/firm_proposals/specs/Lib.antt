@@ -1,3 +1,2 @@
 pub mod Proposed
-pub mod Work
 pub mod inner

@@ -1,10 +1,11 @@
 //! The classes of places by which prices differ behind their amounts.
 ghost use Rattle.std.specs.Prelude.{◌≡◌, ◌+◌, length, IfOk};
+ghost use Rattle.firm_levels.specs.Work.{GoesOn};
 
 use crate::memory::Memory;
 use crate::numbers::{Numbers, Stack};
 use crate::table::Table;
-use firm_levels::Class;
+use firm_levels::{Class, Work};
 use std::alloc::AllocError;
 
 /// The number of the first class at each time, and of a class that is cheaper or dearer than its parent at its own.
@@ -37,12 +38,19 @@ impl Classes {
     }
 
     /// All places are of one class.
-    pub(crate) fn clear(&mut self, table: &Table) {
-        self.of.reset(table.places(), 0);
+    pub(crate) fn clear(&mut self, table: &Table, work: &mut Work)
+        ensures work { GoesOn work.old work.new }
+    {
+        self.of.reset(table.places(), 0, work);
         self.parents.clear();
         self.times.clear();
         self.numbers.clear();
         self.add(0, 0, PAR);
+    }
+
+    /// How many classes there are.
+    pub(crate) fn count(&self) -> u32 {
+        self.parents.count()
     }
 
     #[inline(always)]
@@ -56,11 +64,13 @@ impl Classes {
     }
 
     /// Parts these places, of one class, from it at this time, from which on they are dearer or cheaper.
-    pub(crate) fn part(&mut self, places: &Stack, time: u32, is_dearer: bool) {
+    pub(crate) fn part(&mut self, places: &Stack, time: u32, is_dearer: bool, work: &mut Work)
+        ensures work { GoesOn work.old work.new }
+    {
         let class = self.parents.count();
         let parent = self.of.at(places.at(0));
         self.add(parent, time, if is_dearer { DEARER } else { CHEAPER });
-        for at in 0..places.count() {
+        for at in 0..work.pass(places.count()) {
             self.of.set(places.at(at), class);
         }
     }

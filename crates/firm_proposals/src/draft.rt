@@ -1,8 +1,11 @@
 //! A placement while it is made: the way that each task takes, what stands on each machine, and the places' prices.
 
+ghost use Rattle.firm_levels.specs.Work.{GoesOn};
+
 use crate::memory::Memory;
 use crate::numbers::{NONE, Numbers};
 use crate::table::{Span, Table, TaskRow, Way};
+use firm_levels::Work;
 use std::mem;
 
 /// A price that no task pays: that of a full machine until a task on it had rather go.
@@ -241,17 +244,21 @@ impl Draft {
     }
 
     /// Leaves out each task, and empties each machine.
-    pub(crate) fn clear(&mut self, table: &Table) {
-        self.taken.reset(table.tasks(), NONE);
-        self.loads.reset(table.machines(), 0);
-        self.through.reset(table.machines(), 0);
-        self.held.reset(table.machines(), 0);
+    pub(crate) fn clear(&mut self, table: &Table, work: &mut Work)
+        ensures work { GoesOn work.old work.new }
+    {
+        self.taken.reset(table.tasks(), NONE, work);
+        self.loads.reset(table.machines(), 0, work);
+        self.through.reset(table.machines(), 0, work);
+        self.held.reset(table.machines(), 0, work);
         self.prices.set(table.outside(), 0);
     }
 
     /// Takes all tasks off the lists.
-    pub(crate) fn clear_lists(&mut self, table: &Table) {
-        self.first.reset(table.places(), NONE);
+    pub(crate) fn clear_lists(&mut self, table: &Table, work: &mut Work)
+        ensures work { GoesOn work.old work.new }
+    {
+        self.first.reset(table.places(), NONE, work);
     }
 
     /// The first task on the list of a place, `NONE` if there is none.

@@ -1,6 +1,6 @@
 //! The first of the least placements: for each task in order the choice that ranks first among those that others
 //! leave it. A search that fails parts the places by a class, which shows later why the choice was not made.
-ghost use Rattle.std.specs.Prelude.{◌≡◌};
+ghost use Rattle.firm_levels.specs.Work.{GoesOn};
 
 use crate::classes::Classes;
 use crate::draft::{Draft, Step, UNIT};
@@ -9,7 +9,7 @@ use crate::memory::Memory;
 use crate::numbers::{NONE, Numbers};
 use crate::sides::{Found, Side, View};
 use crate::table::{Span, Table};
-use crate::work::Work;
+use firm_levels::Work;
 
 /// A place from which a unit is to go to another one, and the time of the choice for which it is.
 #[derive(Clone, Copy)]
@@ -77,10 +77,10 @@ impl First {
 
     /// Makes the least placement of the draft the first one, and says whether it was able to.
     pub(crate) fn choose(&mut self, table: &Table, draft: &mut Draft, work: &mut Work) -> bool
-        ensures most { work.new.most ≡ work.old.most }
+        ensures work { GoesOn work.old work.new }
     {
         self.links.clear();
-        self.classes.clear(table);
+        self.classes.clear(table, work);
         self.search = 0;
         self.alive = 0;
         for task in 0..table.tasks() {
@@ -93,10 +93,10 @@ impl First {
 
     // Chooses for the task that is next, and says whether it was able to.
     fn choose_for(&mut self, table: &Table, draft: &mut Draft, task: u32, work: &mut Work) -> bool
-        ensures most { work.new.most ≡ work.old.most }
+        ensures work { GoesOn work.old work.new }
     {
         self.now = task;
-        let mut place = self.told_place(table, draft, task);
+        let mut place = self.told_place(table, draft, task, work);
         if place == NONE {
             place = self.place_for(table, draft, task, work);
         }
@@ -110,7 +110,9 @@ impl First {
 
     // The first place that the task can have, where that is told at once: it is on its own machine, or no machine costs
     // it less than others, and it had rather wait or a unit from the hub is left for it. Else `NONE`.
-    fn told_place(&mut self, table: &Table, draft: &mut Draft, task: u32) -> u32 {
+    fn told_place(&mut self, table: &Table, draft: &mut Draft, task: u32, work: &mut Work) -> u32
+        ensures work { GoesOn work.old work.new }
+    {
         let row = table.row(task);
         let taken = draft.taken(task);
         if row.home != NONE && taken == row.own_way() {
@@ -123,7 +125,7 @@ impl First {
         if taken == row.wait_way() && wide != row.wait {
             return table.outside();
         }
-        let machine = self.first_alive(table, draft);
+        let machine = self.first_alive(table, draft, work);
         if taken != row.hub_way() || !draft.is_loose(machine) {
             return NONE;
         }
@@ -133,7 +135,7 @@ impl First {
 
     // The first place that the task can have; `NONE` if none was found.
     fn place_for(&mut self, table: &Table, draft: &mut Draft, task: u32, work: &mut Work) -> u32
-        ensures most { work.new.most ≡ work.old.most }
+        ensures work { GoesOn work.old work.new }
     {
         let row = table.row(task);
         let (own, wait) = (row.own_way(), row.wait_way());
@@ -167,7 +169,7 @@ impl First {
 
     // The first machine, but for its own, that the task can have; `NONE` if there is none.
     fn machine_for(&mut self, table: &Table, draft: &mut Draft, task: u32, work: &mut Work) -> u32
-        ensures most { work.new.most ≡ work.old.most }
+        ensures work { GoesOn work.old work.new }
     {
         let row = table.row(task);
         let hub_way = row.hub_way();
@@ -175,7 +177,7 @@ impl First {
         let mut is_at_hub = draft.taken(task) == hub_way;
         // The next machine over the hub; behind all of them if the task can't be at the hub.
         let mut machine = if is_at_hub || draft.is_tight(table, hub_way) {
-            self.first_alive(table, draft)
+            self.first_alive(table, draft, work)
         } else {
             table.machines()
         };
@@ -184,7 +186,7 @@ impl First {
             let wanted = table.way(next).place;
             let place = wanted.min(machine);
             let time = begun.saturating_add(place);
-            if place >= table.machines() {
+            if place >= table.machines() || !work.look() {
                 return NONE;
             }
             if place == wanted {
@@ -211,9 +213,11 @@ impl First {
     }
 
     // The first machine to which a unit at the hub may yet go. Once one may not it never will.
-    fn first_alive(&mut self, table: &Table, draft: &Draft) -> u32 {
+    fn first_alive(&mut self, table: &Table, draft: &Draft, work: &mut Work) -> u32
+        ensures work { GoesOn work.old work.new }
+    {
         for machine in self.alive..table.machines() {
-            if self.is_alive(table, draft, machine) {
+            if self.is_alive(table, draft, machine) || !work.look() {
                 break;
             }
             self.alive = machine.saturating_add(1);
@@ -229,7 +233,7 @@ impl First {
 
     // Tries to have a task go a way, for a choice of this time.
     fn turn_to(&mut self, table: &Table, draft: &mut Draft, trial: Trial, work: &mut Work) -> bool
-        ensures most { work.new.most ≡ work.old.most }
+        ensures work { GoesOn work.old work.new }
     {
         let Trial { at, time } = trial;
         let way = table.way(at);
@@ -256,7 +260,7 @@ impl First {
         trial: Trial,
         work: &mut Work,
     ) -> bool
-        ensures most { work.new.most ≡ work.old.most }
+        ensures work { GoesOn work.old work.new }
     {
         let machine = trial.at;
         if draft.is_loose(machine) {
@@ -296,7 +300,7 @@ impl First {
 
     // Sends a unit from a place to another over links; where there is no path their class is parted.
     fn send(&mut self, table: &Table, draft: &mut Draft, wish: Wish, work: &mut Work) -> bool
-        ensures most { work.new.most ≡ work.old.most }
+        ensures work { GoesOn work.old work.new }
     {
         if !self.classes.are_one(wish.from, wish.to) {
             return false;
@@ -306,7 +310,7 @@ impl First {
             return false;
         }
         if !self.links.are_read() {
-            self.read(table, draft);
+            self.read(table, draft, work);
         }
         if self.is_dead_end(table, draft, wish.from) {
             // A search would see no other place.
@@ -317,21 +321,25 @@ impl First {
         if met == NONE {
             return false;
         }
-        self.make(table, draft, met);
+        self.make(table, draft, met, work);
         true
     }
 
     // Reads the links of the round.
-    fn read(&mut self, table: &Table, draft: &mut Draft) {
-        self.links.read(table, draft, self.now);
-        self.ahead.read(table, draft, &self.links);
-        self.behind.read(table, draft, &self.links);
+    fn read(&mut self, table: &Table, draft: &mut Draft, work: &mut Work)
+        ensures work { GoesOn work.old work.new }
+    {
+        self.links.read(table, draft, self.now, work);
+        self.ahead.read(table, draft, &self.links, work);
+        self.behind.read(table, draft, &self.links, work);
     }
 
     // Makes the steps of both sides to where they met.
-    fn make(&self, table: &Table, draft: &mut Draft, met: u32) {
-        self.ahead.make(table, draft, met);
-        self.behind.make(table, draft, met);
+    fn make(&self, table: &Table, draft: &mut Draft, met: u32, work: &mut Work)
+        ensures work { GoesOn work.old work.new }
+    {
+        self.ahead.make(table, draft, met, work);
+        self.behind.make(table, draft, met, work);
     }
 
     // Whether this is a machine from which nothing leads on: no task, and no unit to the outside or the hub.
@@ -345,7 +353,7 @@ impl First {
 
     // Searches from both ends. Gives the place where they meet; `NONE` if they don't.
     fn meet(&mut self, table: &Table, draft: &Draft, wish: Wish, work: &mut Work) -> u32
-        ensures most { work.new.most ≡ work.old.most }
+        ensures work { GoesOn work.old work.new }
     {
         let view = View {
             table,
@@ -357,19 +365,21 @@ impl First {
             now: self.now,
         };
         let outcome = look_in_turn(&view, wish, &mut self.ahead, &mut self.behind, work);
-        self.end(outcome, wish.time)
+        self.end(outcome, wish.time, work)
     }
 
     // Gives the place where a search ended, and parts a class where it did not.
-    fn end(&mut self, outcome: Outcome, time: u32) -> u32 {
+    fn end(&mut self, outcome: Outcome, time: u32, work: &mut Work) -> u32
+        ensures work { GoesOn work.old work.new }
+    {
         match outcome {
             Outcome::Met(place) => place,
             Outcome::ClosedAhead => {
-                self.classes.part(self.ahead.seen(), time, true);
+                self.classes.part(self.ahead.seen(), time, true, work);
                 NONE
             }
             Outcome::ClosedBehind => {
-                self.classes.part(self.behind.seen(), time, false);
+                self.classes.part(self.behind.seen(), time, false, work);
                 NONE
             }
             Outcome::Short => NONE,
@@ -385,7 +395,7 @@ fn look_in_turn(
     behind: &mut Side,
     work: &mut Work,
 ) -> Outcome
-    ensures most { work.new.most ≡ work.old.most }
+    ensures work { GoesOn work.old work.new }
 {
     ahead.begin(view, wish.from);
     behind.begin(view, wish.to);

@@ -3,13 +3,14 @@
 //! whose `shows_first` judges what is proposed.
 //!
 //! A caller makes a `Work` of an `Allowance`, calls `propose` with the hub's price of the round before, as `hub_price`
-//! gave it, and has `shows_first` judge `rents` and `placement`: if it says yes, the placement is the round's. Each
-//! call ends, faults nowhere, and leaves the allowance as it is, which the searches and looks that `Work` counts never
-//! exceed. Which are counted no clause says: `work.rt` does. A proposal has a choice for each task, an amount and a
-//! class for each machine, and a class for waiting (`specs/Proposed.antt`). No clause says that a round is proposed, or
-//! shown. A proposer takes its memory when it is made, for all rounds within a tenant's limits, and keeps of a round
-//! its last proposal, whose price of the hub the next one may try, and which of two prices that one is to try first. A
-//! tenant asks for one in each round.
+//! gave it, and has `shows_first` judge `rents` and `placement` with the same `Work`: if it says yes, the placement is
+//! the round's. Each call ends, faults nowhere, leaves the allowance as it is, which the searches and looks that `Work`
+//! counts never exceed, and counts itself and at least a look at each task and machine. A pass over a table is a loop
+//! up to what `Work::pass` returns, which counts its entries; that no loop goes without, no clause says. A proposal has
+//! a choice for each task, an amount and a class for each machine, and a class for waiting (`specs/Proposed.antt`). No
+//! clause says that a round is proposed, or shown. A proposer takes its memory when it is made, for all rounds within a
+//! tenant's limits, and keeps of a round its last proposal, whose price of the hub the next one may try, and which of
+//! two prices that one is to try first. A tenant requests one in each round.
 //!
 //! So that this needs few proofs, no table is read by an index that has to be in range: past its end a table of
 //! `Numbers` has `NONE`, where nothing is written. Sums saturate. Loops go over a span, or as long as a look is left. A
@@ -52,7 +53,5 @@ mod proposal;
 mod proposer;
 mod sides;
 mod table;
-mod work;
 
 pub use proposer::Proposer;
-pub use work::{Allowance, Work};

@@ -1,11 +1,11 @@
 //! What the tasks do at a price of the hub: prices of machines fall from it until no task on them had rather go.
-ghost use Rattle.std.specs.Prelude.{◌≡◌};
+ghost use Rattle.firm_levels.specs.Work.{GoesOn};
 
 use crate::draft::{Aside, Draft, FULL};
 use crate::memory::Memory;
 use crate::numbers::{NONE, Stack};
 use crate::table::{Span, Table, TaskRow};
-use crate::work::Work;
+use firm_levels::Work;
 use std::mem;
 
 /// How often prices fall at most; then the tasks that prefer machines are left out.
@@ -134,11 +134,13 @@ impl Traders {
         draft.exchange(&mut self.aside);
     }
 
-    pub(crate) fn read(&mut self, table: &Table) {
+    pub(crate) fn read(&mut self, table: &Table, work: &mut Work)
+        ensures work { GoesOn work.old work.new }
+    {
         self.movers.clear();
         self.near.clear();
         self.waiting.clear();
-        for task in 0..table.tasks() {
+        for task in 0..work.pass(table.tasks()) {
             let row = table.row(task);
             if row.is_plain() {
                 continue;
@@ -169,11 +171,11 @@ impl Traders {
         price: u32,
         work: &mut Work,
     ) -> Market
-        ensures most { work.new.most ≡ work.old.most }
+        ensures work { GoesOn work.old work.new }
     {
-        self.begin(table, draft, price);
+        self.begin(table, draft, price, work);
         for count in 1..=MOST_PREFERRED {
-            for at in 0..self.waiting.count() {
+            for at in 0..work.pass(self.waiting.count()) {
                 prefer(table, draft, self.waiting.at(at), count);
             }
         }
@@ -197,17 +199,19 @@ impl Traders {
                 *stand = found;
             }
         }
-        let slots = count_slots(table, draft, price);
+        let slots = count_slots(table, draft, price, work);
         market.needs = slots.from;
         market.spares = slots.to;
         market
     }
 
     // Each task that runs stays, and all others are left out.
-    fn begin(&self, table: &Table, draft: &mut Draft, price: u32) {
-        draft.clear(table);
+    fn begin(&self, table: &Table, draft: &mut Draft, price: u32, work: &mut Work)
+        ensures work { GoesOn work.old work.new }
+    {
+        draft.clear(table, work);
         draft.set_price(table.hub(), price);
-        for at in 0..self.movers.count() {
+        for at in 0..work.pass(self.movers.count()) {
             let task = self.movers.at(at);
             let row = table.row(task);
             if row.home != NONE {
@@ -215,7 +219,7 @@ impl Traders {
                 draft.add_load(row.home);
             }
         }
-        for machine in 0..table.machines() {
+        for machine in 0..work.pass(table.machines()) {
             let top = top_price(table, draft, machine);
             draft.set_price(machine, top);
         }
@@ -223,7 +227,7 @@ impl Traders {
 
     // Has prices fall until no task on a machine had rather go.
     fn fall(&self, table: &Table, draft: &mut Draft, work: &mut Work)
-        ensures most { work.new.most ≡ work.old.most }
+        ensures work { GoesOn work.old work.new }
     {
         let hub_price = draft.price(table.hub());
         let mut falls = false;
@@ -250,7 +254,7 @@ impl Traders {
             }
         }
         if falls {
-            forget(table, draft);
+            forget(table, draft, work);
         }
     }
 }
@@ -346,10 +350,12 @@ fn yields(table: &Table, draft: &mut Draft, task: u32) -> bool {
 }
 
 // Leaves out all tasks on machines.
-fn forget(table: &Table, draft: &mut Draft) {
+fn forget(table: &Table, draft: &mut Draft, work: &mut Work)
+    ensures work { GoesOn work.old work.new }
+{
     let hub = draft.price(table.hub());
-    draft.clear(table);
-    for machine in 0..table.machines() {
+    draft.clear(table, work);
+    for machine in 0..work.pass(table.machines()) {
         draft.set_price(machine, hub);
     }
 }
@@ -433,11 +439,13 @@ fn settle_near(table: &Table, draft: &mut Draft, task: u32) -> Stand {
 }
 
 /// How many slots are left on machines of this price that cost less, and how many that cost as much.
-pub(crate) fn count_slots(table: &Table, draft: &Draft, price: u32) -> Span {
+pub(crate) fn count_slots(table: &Table, draft: &Draft, price: u32, work: &mut Work) -> Span
+    ensures work { GoesOn work.old work.new }
+{
     let mut needs = 0u32;
     let mut spares = 0u32;
     let at_price = table.slots_at(price);
-    for machine in 0..table.machines() {
+    for machine in 0..work.pass(table.machines()) {
         if draft.price(machine) == price {
             let slots = at_price.up_to(table.slots(machine));
             let load = draft.load(machine);

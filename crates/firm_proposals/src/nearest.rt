@@ -1,7 +1,10 @@
 //! The places that a search has reached, the nearest first.
 
+ghost use Rattle.firm_levels.specs.Work.{GoesOn};
+
 use crate::memory::Memory;
 use crate::numbers::{NONE, Numbers, Stack};
+use firm_levels::Work;
 
 /// How deep the heap is at most.
 const MOST_DEPTH: u32 = 32;
@@ -26,10 +29,12 @@ impl Nearest {
     }
 
     /// Forgets all distances.
-    pub(crate) fn clear(&mut self, places: u32) {
+    pub(crate) fn clear(&mut self, places: u32, work: &mut Work)
+        ensures work { GoesOn work.old work.new }
+    {
         self.heap.clear();
-        self.distances.reset(places, NONE);
-        self.indices.reset(places, NONE);
+        self.distances.reset(places, NONE, work);
+        self.indices.reset(places, NONE, work);
     }
 
     /// How far the place is, as far as is known.

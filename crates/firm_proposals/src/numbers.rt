@@ -1,6 +1,9 @@
 //! Tables of numbers whose size is set once: after that they take no memory, and nothing in them fails.
 
+ghost use Rattle.firm_levels.specs.Work.{GoesOn};
+
 use crate::memory::Memory;
+use firm_levels::Work;
 
 /// No task, place, way or class.
 pub(crate) const NONE: u32 = u32::MAX;
@@ -53,8 +56,10 @@ impl Numbers {
     }
 
     /// Makes each of the first `count` this number.
-    pub(crate) fn reset(&mut self, count: u32, number: u32) {
-        let end = self.items.len().min(count as usize);
+    pub(crate) fn reset(&mut self, count: u32, number: u32, work: &mut Work)
+        ensures work { GoesOn work.old work.new }
+    {
+        let end = self.items.len().min(work.pass(count) as usize);
         self.items[..end].fill(number);
     }
 }

@@ -1,12 +1,12 @@
 //! Paths over the places that bring the tasks that were left out to a slot or outside, and to the hub what it lacks.
-ghost use Rattle.std.specs.Prelude.{◌≡◌};
+ghost use Rattle.firm_levels.specs.Work.{GoesOn};
 
 use crate::draft::{Draft, Step, UNIT};
 use crate::memory::Memory;
 use crate::nearest::Nearest;
 use crate::numbers::{NONE, Numbers, Stack};
 use crate::table::{LEVELS, Table};
-use crate::work::Work;
+use firm_levels::Work;
 
 /// From this sweep on those that find few ways are given up for searches from one task each.
 const FEWEST_SWEEPS: u32 = 6;
@@ -59,9 +59,11 @@ impl Paths {
     }
 
     /// Nothing is seen, and this many units are lacking at the hub.
-    pub(crate) fn clear(&mut self, table: &Table, lacks: u32) {
-        self.seen.reset(table.places(), NONE);
-        self.dead.reset(table.places(), NONE);
+    pub(crate) fn clear(&mut self, table: &Table, lacks: u32, work: &mut Work)
+        ensures work { GoesOn work.old work.new }
+    {
+        self.seen.reset(table.places(), NONE, work);
+        self.dead.reset(table.places(), NONE, work);
         self.search = 0;
         self.sweep = 0;
         self.lacks = lacks;
@@ -76,7 +78,7 @@ impl Paths {
         rest: &mut Stack,
         work: &mut Work,
     )
-        ensures most { work.new.most ≡ work.old.most }
+        ensures work { GoesOn work.old work.new }
     {
         for sweep in 0..=table.tasks() {
             let before = rest.count();
@@ -95,20 +97,20 @@ impl Paths {
 
     // Sends what can be sent over ways that cost nothing more.
     fn send_all_free(&mut self, table: &Table, draft: &mut Draft, rest: &mut Stack, work: &mut Work)
-        ensures most { work.new.most ≡ work.old.most }
+        ensures work { GoesOn work.old work.new }
     {
         if !self.begin_sweep(work) {
             return;
         }
-        for at in 0..rest.count() {
+        for at in 0..work.pass(rest.count()) {
             self.send_free(table, draft, rest.at(at), work);
         }
-        keep_rest(rest, draft);
+        keep_rest(rest, draft, work);
     }
 
     // Sends the task that has the cheapest path of all.
     fn send_nearest(&mut self, table: &Table, draft: &mut Draft, rest: &mut Stack, work: &mut Work)
-        ensures most { work.new.most ≡ work.old.most }
+        ensures work { GoesOn work.old work.new }
     {
         if !self.begin_far(table, table.outside(), work) {
             return;
@@ -117,12 +119,12 @@ impl Paths {
             self.start_at(table, draft, rest.at(at), work);
         }
         self.end_send(table, draft, work);
-        keep_rest(rest, draft);
+        keep_rest(rest, draft, work);
     }
 
     // Sends each task by its cheapest path.
     fn send_each(&mut self, table: &Table, draft: &mut Draft, rest: &mut Stack, work: &mut Work)
-        ensures most { work.new.most ≡ work.old.most }
+        ensures work { GoesOn work.old work.new }
     {
         for at in 0..rest.count() {
             if !self.begin_far(table, table.outside(), work) {
@@ -131,19 +133,19 @@ impl Paths {
             self.start_at(table, draft, rest.at(at), work);
             self.end_send(table, draft, work);
         }
-        keep_rest(rest, draft);
+        keep_rest(rest, draft, work);
     }
 
     /// Brings to the hub what it lacks: first over ways that cost nothing more, and where none is left by the cheapest
     /// path, which has prices fall.
     pub(crate) fn pull_lacking(&mut self, table: &Table, draft: &mut Draft, work: &mut Work)
-        ensures most { work.new.most ≡ work.old.most }
+        ensures work { GoesOn work.old work.new }
     {
         for _ in 0..=table.tasks() {
             if !self.is_lacking() || work.is_short() || !self.begin_sweep(work) {
                 return;
             }
-            for machine in 0..table.machines() {
+            for machine in 0..work.pass(table.machines()) {
                 self.pull_slots(table, draft, machine, work);
             }
             self.pull_tasks(table, draft, work);
@@ -155,9 +157,9 @@ impl Paths {
 
     // Brings tasks that wait, or others in their place.
     fn pull_tasks(&mut self, table: &Table, draft: &mut Draft, work: &mut Work)
-        ensures most { work.new.most ≡ work.old.most }
+        ensures work { GoesOn work.old work.new }
     {
-        for task in 0..table.tasks() {
+        for task in 0..work.pass(table.tasks()) {
             if self.is_lacking() && draft.taken(task) == table.row(task).wait_way() {
                 self.pull_task(table, draft, task, work);
             }
@@ -166,7 +168,7 @@ impl Paths {
 
     // Brings units from the slots of a machine that it as well gives up.
     fn pull_slots(&mut self, table: &Table, draft: &mut Draft, machine: u32, work: &mut Work)
-        ensures most { work.new.most ≡ work.old.most }
+        ensures work { GoesOn work.old work.new }
     {
         for _ in 0..LEVELS {
             let is_dead = self.dead.at(machine) == self.sweep;
@@ -186,7 +188,7 @@ impl Paths {
     // Begins a sweep, if a search is left, which it says: prices have changed, so what led nowhere may lead on again. A
     // sweep counts as one search, since no place that led nowhere is seen in it twice.
     fn begin_sweep(&mut self, work: &mut Work) -> bool
-        ensures most { work.new.most ≡ work.old.most }
+        ensures work { GoesOn work.old work.new }
     {
         self.sweep = self.sweep.saturating_add(1);
         work.begin_search()
@@ -194,7 +196,7 @@ impl Paths {
 
     // Sends a task that is left out over ways that cost nothing more, and says whether it found one.
     fn send_free(&mut self, table: &Table, draft: &mut Draft, task: u32, work: &mut Work) -> bool
-        ensures most { work.new.most ≡ work.old.most }
+        ensures work { GoesOn work.old work.new }
     {
         self.begin(table, table.outside());
         let paid = draft.cheapest(table, table.ways_of(task), NONE).paid;
@@ -213,7 +215,7 @@ impl Paths {
 
     // Brings a unit to the hub from a machine that as well gives up a slot, over ways that cost nothing more.
     fn pull_slot(&mut self, table: &Table, draft: &mut Draft, machine: u32, work: &mut Work) -> bool
-        ensures most { work.new.most ≡ work.old.most }
+        ensures work { GoesOn work.old work.new }
     {
         self.begin(table, table.hub());
         self.seen.set(table.outside(), self.search);
@@ -230,7 +232,7 @@ impl Paths {
 
     // Brings a task that waits to the hub, or another in its place, over ways that cost nothing more.
     fn pull_task(&mut self, table: &Table, draft: &mut Draft, task: u32, work: &mut Work) -> bool
-        ensures most { work.new.most ≡ work.old.most }
+        ensures work { GoesOn work.old work.new }
     {
         self.begin(table, table.hub());
         self.seen.set(table.outside(), self.search);
@@ -255,7 +257,7 @@ impl Paths {
 
     #[inline(always)]
     fn see(&mut self, step: Step, work: &mut Work)
-        ensures most { work.new.most ≡ work.old.most }
+        ensures work { GoesOn work.old work.new }
     {
         if !work.look() {
             return;
@@ -275,7 +277,7 @@ impl Paths {
     // Sees where a task's other ways lead that cost as much as it pays.
     #[inline(always)]
     fn see_ways(&mut self, table: &Table, draft: &Draft, leaving: Leaving, work: &mut Work)
-        ensures most { work.new.most ≡ work.old.most }
+        ensures work { GoesOn work.old work.new }
     {
         let ways = table.ways_of(leaving.task);
         let taken = draft.taken(leaving.task);
@@ -296,7 +298,7 @@ impl Paths {
 
     // Goes on from what was seen, breadth first, up to the first end, and makes the steps to it.
     fn follow(&mut self, table: &Table, draft: &mut Draft, work: &mut Work) -> bool
-        ensures most { work.new.most ≡ work.old.most }
+        ensures work { GoesOn work.old work.new }
     {
         for at in 0..table.places() {
             if self.end != NONE || at >= self.queue.count() {
@@ -307,10 +309,10 @@ impl Paths {
             self.see_tasks(table, draft, place, work);
         }
         if self.end != NONE {
-            self.make(table, draft, self.end);
+            self.make(table, draft, self.end, work);
             return true;
         }
-        for closed in 0..self.queue.count().min(table.places()) {
+        for closed in 0..work.pass(self.queue.count().min(table.places())) {
             self.dead.set(self.queue.at(closed), self.sweep);
         }
         false
@@ -318,7 +320,7 @@ impl Paths {
 
     // Sees where units may go from a place for nothing.
     fn see_units(&mut self, table: &Table, draft: &Draft, place: u32, work: &mut Work)
-        ensures most { work.new.most ≡ work.old.most }
+        ensures work { GoesOn work.old work.new }
     {
         let hub = table.hub();
         let price = draft.price(place);
@@ -330,7 +332,7 @@ impl Paths {
                 self.see(unit(place, hub), work);
             }
         } else if place == hub {
-            for machine in 0..hub {
+            for machine in 0..work.pass(hub) {
                 if draft.price(machine) == price {
                     self.see(unit(hub, machine), work);
                 }
@@ -339,11 +341,11 @@ impl Paths {
     }
 
     fn see_tasks(&mut self, table: &Table, draft: &Draft, place: u32, work: &mut Work)
-        ensures most { work.new.most ≡ work.old.most }
+        ensures work { GoesOn work.old work.new }
     {
         let mut task = draft.first(place);
         for _ in 0..table.tasks() {
-            if task == NONE || self.end != NONE {
+            if task == NONE || self.end != NONE || !work.look() {
                 return;
             }
             let paid = draft.paid_by(table, task);
@@ -362,7 +364,9 @@ impl Paths {
     }
 
     // Makes the steps from the search's beginning to this place.
-    fn make(&mut self, table: &Table, draft: &mut Draft, end: u32) {
+    fn make(&mut self, table: &Table, draft: &mut Draft, end: u32, work: &mut Work)
+        ensures work { GoesOn work.old work.new }
+    {
         if end == table.hub() {
             self.lacks = self.lacks.saturating_sub(1);
         }
@@ -370,7 +374,7 @@ impl Paths {
         for _ in 0..table.places() {
             let from = self.from.at(to);
             let by = self.by.at(to);
-            if by == NONE {
+            if by == NONE || !work.look() {
                 return;
             }
             draft.make(table, Step { from, to, by });
@@ -383,7 +387,7 @@ impl Paths {
 
     // Has the search start from this task too.
     fn start_at(&mut self, table: &Table, draft: &Draft, task: u32, work: &mut Work)
-        ensures most { work.new.most ≡ work.old.most }
+        ensures work { GoesOn work.old work.new }
     {
         let paid = draft.cheapest(table, table.ways_of(task), NONE).paid;
         let from = NONE;
@@ -392,20 +396,22 @@ impl Paths {
 
     // Sends the task that finds the cheapest path, and has prices rise by what it costs.
     fn end_send(&mut self, table: &Table, draft: &mut Draft, work: &mut Work)
-        ensures most { work.new.most ≡ work.old.most }
+        ensures work { GoesOn work.old work.new }
     {
         let end = self.find(table, draft, work);
         if end == NONE {
             return;
         }
-        self.raise_prices(table, draft, end);
-        self.make(table, draft, end);
+        self.raise_prices(table, draft, end, work);
+        self.make(table, draft, end, work);
     }
 
     // Has the prices of places nearer than this one rise by what they are nearer.
-    fn raise_prices(&self, table: &Table, draft: &mut Draft, end: u32) {
+    fn raise_prices(&self, table: &Table, draft: &mut Draft, end: u32, work: &mut Work)
+        ensures work { GoesOn work.old work.new }
+    {
         let far = self.nearest.distance(end);
-        for at in 0..self.settled.count().min(table.places()) {
+        for at in 0..work.pass(self.settled.count().min(table.places())) {
             let place = self.settled.at(at);
             let rise = far.saturating_sub(self.nearest.distance(place));
             draft.set_price(place, draft.price(place).saturating_add(rise));
@@ -414,7 +420,7 @@ impl Paths {
 
     // Brings a unit to the hub from the outside by the cheapest path, and has prices fall by what it costs.
     fn pull(&mut self, table: &Table, draft: &mut Draft, work: &mut Work)
-        ensures most { work.new.most ≡ work.old.most }
+        ensures work { GoesOn work.old work.new }
     {
         if !self.begin_far(table, table.hub(), work) {
             return;
@@ -424,8 +430,8 @@ impl Paths {
         if end == NONE {
             return;
         }
-        self.lower_prices(table, draft, end);
-        self.make(table, draft, end);
+        self.lower_prices(table, draft, end, work);
+        self.make(table, draft, end, work);
     }
 
     // Has the search start from the outside.
@@ -436,9 +442,11 @@ impl Paths {
     }
 
     // Has the prices of places fall by how far they are, but by no more than this one is.
-    fn lower_prices(&self, table: &Table, draft: &mut Draft, end: u32) {
+    fn lower_prices(&self, table: &Table, draft: &mut Draft, end: u32, work: &mut Work)
+        ensures work { GoesOn work.old work.new }
+    {
         let far = self.nearest.distance(end);
-        for place in 0..table.outside() {
+        for place in 0..work.pass(table.outside()) {
             let fall = far.min(self.nearest.distance(place));
             draft.set_price(place, draft.price(place).saturating_sub(fall));
         }
@@ -446,17 +454,17 @@ impl Paths {
 
     // Begins a search for a cheapest path to this place, if one is left, which it says.
     fn begin_far(&mut self, table: &Table, goal: u32, work: &mut Work) -> bool
-        ensures most { work.new.most ≡ work.old.most }
+        ensures work { GoesOn work.old work.new }
     {
         self.begin(table, goal);
-        self.nearest.clear(table.places());
+        self.nearest.clear(table.places(), work);
         self.settled.clear();
         work.begin_search()
     }
 
     // Settles places, the nearest first, up to an end, which it gives; `NONE` if there is none.
     fn find(&mut self, table: &Table, draft: &Draft, work: &mut Work) -> u32
-        ensures most { work.new.most ≡ work.old.most }
+        ensures work { GoesOn work.old work.new }
     {
         for _ in 0..table.places() {
             let place = self.nearest.take();
@@ -474,7 +482,7 @@ impl Paths {
     // Reaches a place from another one that is settled, by a step that costs this much.
     #[inline(always)]
     fn reach(&mut self, step: Step, cost: u32, work: &mut Work)
-        ensures most { work.new.most ≡ work.old.most }
+        ensures work { GoesOn work.old work.new }
     {
         if !work.look() {
             return;
@@ -498,7 +506,7 @@ impl Paths {
 
     #[inline(always)]
     fn reach_ways(&mut self, table: &Table, draft: &Draft, leaving: Leaving, work: &mut Work)
-        ensures most { work.new.most ≡ work.old.most }
+        ensures work { GoesOn work.old work.new }
     {
         let ways = table.ways_of(leaving.task);
         let taken = draft.taken(leaving.task);
@@ -516,7 +524,7 @@ impl Paths {
     }
 
     fn reach_units(&mut self, table: &Table, draft: &Draft, place: u32, work: &mut Work)
-        ensures most { work.new.most ≡ work.old.most }
+        ensures work { GoesOn work.old work.new }
     {
         let (hub, outside) = (table.hub(), table.outside());
         let price = draft.price(place);
@@ -531,7 +539,7 @@ impl Paths {
             }
             return;
         }
-        for machine in 0..hub {
+        for machine in 0..work.pass(hub) {
             let there = draft.price(machine);
             if place == hub {
                 self.reach(unit(hub, machine), there.saturating_sub(price), work);
@@ -543,7 +551,7 @@ impl Paths {
     }
 
     fn reach_tasks(&mut self, table: &Table, draft: &Draft, place: u32, work: &mut Work)
-        ensures most { work.new.most ≡ work.old.most }
+        ensures work { GoesOn work.old work.new }
     {
         let mut task = draft.first(place);
         for _ in 0..table.tasks() {
@@ -575,9 +583,11 @@ struct Leaving {
 }
 
 // Forgets the tasks that are no longer left out.
-fn keep_rest(rest: &mut Stack, draft: &Draft) {
+fn keep_rest(rest: &mut Stack, draft: &Draft, work: &mut Work)
+    ensures work { GoesOn work.old work.new }
+{
     let mut kept = 0u32;
-    for at in 0..rest.count() {
+    for at in 0..work.pass(rest.count()) {
         let task = rest.at(at);
         if draft.taken(task) == NONE {
             rest.set(kept, task);

@@ -1,5 +1,6 @@
 //! What proposes a round.
-ghost use Rattle.std.specs.Prelude.{◌≡◌, false, IfOk, IsTrue};
+ghost use Rattle.std.specs.Prelude.{◌≡◌, ◌+◌, ◌^◌, ◌<◌, ◌≤◌, false, length, IfOk, IsTrue};
+ghost use Rattle.firm_levels.specs.Work.{GoesOn};
 ghost use Rattle.firm_proposals.specs.Proposed.{nothing_proposed, IsInForm};
 
 use crate::draft::Draft;
@@ -9,8 +10,7 @@ use crate::memory::Memory;
 use crate::numbers::NONE;
 use crate::proposal::Proposal;
 use crate::table::Table;
-use crate::work::Work;
-use firm_levels::LevelRents;
+use firm_levels::{LevelRents, Work};
 use firm_rules::{Case, Choice, Limits};
 use std::alloc::{AllocError, Global};
 use std::marker::Model;
@@ -23,6 +23,8 @@ pub struct Proposer {
     least: Least,
     first: First,
     proposal: Proposal,
+    // How often a round was to be proposed.
+    tries: u64,
 }
 
 impl Drop for Proposer {
@@ -35,6 +37,7 @@ impl Drop for Proposer {
             least,
             first,
             proposal,
+            tries: _,
         } = self;
         drop(table);
         drop(draft);
@@ -56,6 +59,7 @@ impl Model for Proposer {
       places = p.proposal.rents.places.items;
       classes = p.proposal.rents.classes.items;
       hub_price = p.proposal.hub_price;
+      tries = p.tries;
     } };
 }
 
@@ -74,21 +78,30 @@ impl Proposer {
             least: Least::new(&mut memory, nodes),
             first: First::new(&mut memory, nodes, arcs),
             proposal: Proposal::new(&mut memory, nodes),
+            tries: 0,
         };
         memory.was_enough()?;
         Ok(proposer)
     }
 
-    /// Proposes a placement and rents in levels for a round, with the work that is left. May try `hint` as the price of
-    /// going to any machine, as `hub_price` gave it for the round before. Where the answer is no, nothing is proposed;
-    /// where it is yes, `shows_first` judges what is.
+    /// Proposes a placement and rents in levels for a round, within the work that is left, and counts itself and at
+    /// least a look at each task and machine. May try `hint` as the price of going to any machine, as `hub_price` gave
+    /// it for the round before. Where the answer is no, nothing is proposed; where it is yes, `shows_first` judges what
+    /// is.
     pub fn propose(&mut self, case: &Case, hint: Option<u32>, work: &mut Work) -> bool
-        ensures most { work.new.most ≡ work.old.most }
+        ensures work { GoesOn work.old work.new }
         ensures limits { self.new.limits ≡ self.old.limits }
         ensures form { IsTrue result → IsInForm case.now self.new }
         ensures kept { result ≡ false → self.new.hub_price ≡ self.old.hub_price }
+        ensures looks { work.old.looks + (length case.now.tasks + length case.now.slots) ≤ work.old.most.1
+            → work.old.looks + (length case.now.tasks + length case.now.slots) ≤ work.new.looks }
+        ensures read { IsTrue result
+            → work.old.looks + (length case.now.tasks + length case.now.slots) ≤ work.new.looks }
+        ensures tried { self.old.tries + 1 < 2 ^ 64 → self.new.tries ≡ self.old.tries + 1 }
+        ensures once { self.new.tries ≤ self.old.tries + 1 }
     {
-        if !self.table.read(case) {
+        self.tries = self.tries.saturating_add(1);
+        if !self.table.read(case, work) {
             return false;
         }
         let hint = hint.unwrap_or(NONE);
@@ -96,8 +109,22 @@ impl Proposer {
         if work.is_short() || !self.first.choose(&self.table, &mut self.draft, work) {
             return false;
         }
+        if !self.counts_writing(work) {
+            return false;
+        }
         let written = self.proposal.write(&self.table, &self.draft, &self.first);
         written.is_ok()
+    }
+
+    // Counts what a proposal writes, and says whether the work that is left allows it.
+    fn counts_writing(&self, work: &mut Work) -> bool
+        ensures work { GoesOn work.old work.new }
+    {
+        let classes = self.first.classes().count();
+        let places = self.table.places().saturating_mul(2);
+        let entries = self.table.tasks().saturating_add(places);
+        work.pass(entries.saturating_add(classes));
+        !work.is_short()
     }
 
     /// The rents of the last proposal; none before the first.

@@ -1,5 +1,5 @@
 //! The two sides of a search for a path: what leads on from its start, and what leads to its goal.
-ghost use Rattle.std.specs.Prelude.{◌≡◌};
+ghost use Rattle.firm_levels.specs.Work.{GoesOn};
 
 use crate::classes::Classes;
 use crate::draft::{Draft, Step, UNIT};
@@ -7,7 +7,7 @@ use crate::links::{Link, Links, UnitLinks, Walk};
 use crate::memory::Memory;
 use crate::numbers::{NONE, Stack};
 use crate::table::Table;
-use crate::work::Work;
+use firm_levels::Work;
 
 /// How many looks a side has at most before it is the other's turn.
 const MOST_IN_TURN: u32 = 8;
@@ -147,6 +147,8 @@ pub(crate) struct Side {
     // The hub and the outside, while they are not gone into, and the walk from the last of those.
     far: Stack,
     far_walk: Walk,
+    // Whether the next turn there goes to tasks.
+    is_tasks_turn: bool,
     // The machines between which and the hub or the outside units may go, without those seen to be of other classes.
     at_hub: Circle,
     at_edge: Circle,
@@ -169,19 +171,22 @@ impl Side {
             walk: Walk::NONE,
             far: Stack::new(memory, 2),
             far_walk: Walk::NONE,
+            is_tasks_turn: false,
             at_hub: Circle::new(memory, nodes),
             at_edge: Circle::new(memory, nodes),
         }
     }
 
     /// Forgets all searches, and reads between which machines and the hub or the outside units may go.
-    pub(crate) fn read(&mut self, table: &Table, draft: &Draft, links: &Links) {
-        let end = self.marks.len().min(table.places() as usize);
+    pub(crate) fn read(&mut self, table: &Table, draft: &Draft, links: &Links, work: &mut Work)
+        ensures work { GoesOn work.old work.new }
+    {
+        let end = self.marks.len().min(work.pass(table.places()) as usize);
         self.marks[..end].fill(Mark::NONE);
         self.at_hub.clear();
         self.at_edge.clear();
         let hub = draft.price(table.hub());
-        for machine in 0..table.machines() {
+        for machine in 0..work.pass(table.machines()) {
             if draft.price(machine) == hub {
                 self.at_hub.machines.push(machine);
             }
@@ -205,6 +210,7 @@ impl Side {
         self.walk = Walk::NONE;
         self.far.clear();
         self.far_walk = Walk::NONE;
+        self.is_tasks_turn = false;
         self.units = UnitLinks::NONE;
         self.saw_hub = false;
         self.saw_outside = false;
@@ -245,19 +251,19 @@ impl Side {
     /// the most.
     #[inline(always)]
     pub(crate) fn look(&mut self, view: &View, other: &Side, work: &mut Work) -> Found
-        ensures most { work.new.most ≡ work.old.most }
+        ensures work { GoesOn work.old work.new }
     {
         self.turn = self.turn.saturating_mul(2).clamp(1, MOST_IN_TURN);
         let place = if !self.units.are_none() {
             self.look_at_unit(view, work)
-        } else if !self.walk.is_done() || self.goes_on(view) {
+        } else if !self.walk.is_done() || self.goes_on(view, work) {
             let mut walk = self.walk;
             let place = self.look_along(view, &mut walk, work);
             self.walk = walk;
             place
         } else if !self.far_walk.is_done() {
             let mut walk = self.far_walk;
-            let place = self.look_round(view, other, &mut walk, work);
+            let place = self.look_from_afar(view, other, &mut walk, work);
             self.far_walk = walk;
             place
         } else {
@@ -279,7 +285,7 @@ impl Side {
     // Looks at a link of units of the machine that was seen last; gives the place at its other end if that is new, else
     // `NONE`.
     fn look_at_unit(&mut self, view: &View, work: &mut Work) -> u32
-        ensures most { work.new.most ≡ work.old.most }
+        ensures work { GoesOn work.old work.new }
     {
         if !work.look() {
             return NONE;
@@ -294,8 +300,13 @@ impl Side {
     }
 
     // Goes into the next machine that leads on, and says whether there is one.
-    fn goes_on(&mut self, view: &View) -> bool {
+    fn goes_on(&mut self, view: &View, work: &mut Work) -> bool
+        ensures work { GoesOn work.old work.new }
+    {
         for next in self.entered..self.near.count() {
+            if !work.look() {
+                return false;
+            }
             self.entered = next.saturating_add(1);
             let place = self.near.at(next);
             self.walk = self.walk_from(view, place);
@@ -308,7 +319,7 @@ impl Side {
 
     // Looks whether the hub or the outside is left.
     fn look_far(&mut self, view: &View, work: &mut Work) -> Found
-        ensures most { work.new.most ≡ work.old.most }
+        ensures work { GoesOn work.old work.new }
     {
         if !work.look() {
             return Found::Short;
@@ -321,15 +332,27 @@ impl Side {
         Found::On
     }
 
+    // Looks at the links of the hub or the outside, up to a new place that leads on, which it returns; `NONE` if there
+    // is none. Machines and tasks take turns: where thousands of machines lead nowhere, a task often leads on.
+    #[inline(always)]
+    fn look_from_afar(&mut self, view: &View, other: &Side, walk: &mut Walk, work: &mut Work) -> u32
+        ensures work { GoesOn work.old work.new }
+    {
+        let is_tasks_turn = self.is_tasks_turn;
+        self.is_tasks_turn = !is_tasks_turn;
+        if walk.machines == 0 || (is_tasks_turn && walk.has_ways()) {
+            self.look_along(view, walk, work)
+        } else {
+            self.look_round(view, other, walk, work)
+        }
+    }
+
     // Looks at machines between which and the hub or the outside a unit may go, up to a new one that leads on, which it
-    // gives; `NONE` if there is none. Behind the machines come the tasks.
+    // gives; `NONE` if there is none.
     #[inline(always)]
     fn look_round(&mut self, view: &View, other: &Side, walk: &mut Walk, work: &mut Work) -> u32
-        ensures most { work.new.most ≡ work.old.most }
+        ensures work { GoesOn work.old work.new }
     {
-        if walk.machines == 0 {
-            return self.look_along(view, walk, work);
-        }
         let from = walk.place;
         let is_hub = from == view.table.hub();
         for _ in 0..self.turn {
@@ -370,11 +393,11 @@ impl Side {
     // Looks along a walk, up to a new place, which it gives; `NONE` if there is none.
     #[inline(always)]
     fn look_along(&mut self, view: &View, walk: &mut Walk, work: &mut Work) -> u32
-        ensures most { work.new.most ≡ work.old.most }
+        ensures work { GoesOn work.old work.new }
     {
         let from = walk.place;
         for _ in 0..self.turn {
-            if walk.is_done() || !work.look() {
+            if !walk.has_ways() || !work.look() {
                 return NONE;
             }
             let Link { by, at: to } = if self.is_ahead {
@@ -467,11 +490,13 @@ impl Side {
     }
 
     /// Makes the steps between a place and where this side began.
-    pub(crate) fn make(&self, table: &Table, draft: &mut Draft, end: u32) {
+    pub(crate) fn make(&self, table: &Table, draft: &mut Draft, end: u32, work: &mut Work)
+        ensures work { GoesOn work.old work.new }
+    {
         let mut place = end;
         for _ in 0..table.places() {
             let Mark { before, by, .. } = self.mark(place);
-            if before == NONE {
+            if before == NONE || !work.look() {
                 return;
             }
             let (from, to) = if self.is_ahead {

@@ -3,11 +3,13 @@
 //! Places are numbers: each machine's, then that of the hub, over which a task goes to any machine at one cost, then
 //! that of the outside, where tasks wait. A task's ways lie one behind the other: to its own machine if it runs, to
 //! those that it prefers in order of their numbers, to the hub, and last to the outside.
-ghost use Rattle.std.specs.Prelude.{◌≡◌, ◌<◌, length};
+ghost use Rattle.std.specs.Prelude.{◌≡◌, ◌+◌, ◌<◌, ◌≤◌, length, IsTrue};
+ghost use Rattle.firm_levels.specs.Work.{GoesOn};
 ghost use Rattle.firm_proposals.specs.inner.Written.{SameSize};
 
 use crate::memory::Memory;
 use crate::numbers::{NONE, Numbers};
+use firm_levels::Work;
 use firm_rules::{Case, Choice, MOST_PREFERENCES, slot_cost};
 
 /// What a task can do: go to a place, at a cost of its own.
@@ -203,9 +205,11 @@ impl Table {
         self.demands.at(machine)
     }
 
-    /// What the waits of all tasks cost.
-    pub(crate) fn waits(&self) -> &[u32] {
-        self.waits.first(self.tasks)
+    /// What the waits of all tasks cost, for a pass over them; none if too few looks are left.
+    pub(crate) fn waits(&self, work: &mut Work) -> &[u32]
+        ensures work { GoesOn work.old work.new }
+    {
+        self.waits.first(work.pass(self.tasks))
     }
 
     #[inline(always)]
@@ -273,22 +277,31 @@ impl Table {
         below
     }
 
-    /// Whether the round's rows found room in the tables.
-    pub(crate) fn read(&mut self, case: &Case) -> bool
+    /// Whether the round's rows found room in the tables. Counts each machine, each task and each way.
+    pub(crate) fn read(&mut self, case: &Case, work: &mut Work) -> bool
         ensures tasks { self.new.tasks ≡ length case.now.tasks }
         ensures machines { self.new.machines ≡ length case.now.slots }
+        ensures work { GoesOn work.old work.new }
+        ensures counted { work.old.looks + (length case.now.tasks + length case.now.slots) ≤ work.old.most.1
+            → work.old.looks + (length case.now.tasks + length case.now.slots) ≤ work.new.looks }
+        ensures read { IsTrue result
+            → work.old.looks + (length case.now.tasks + length case.now.slots) ≤ work.new.looks }
     {
         self.tasks = case.task_count() as u32;
         self.machines = case.machine_count() as u32;
         self.way_count = 0;
+        let entries = self.tasks + self.machines;
+        if work.pass(entries) < entries {
+            return false;
+        }
         self.read_slot_costs(case);
         self.read_machines(case);
         self.read_tasks(case);
-        let ways = self.way_count as usize;
+        let ways = work.pass(self.way_count) as usize;
         let machines = self.machines;
         let have_machines = machines == 0 || self.slots.at(machines.saturating_sub(1)) != NONE;
         let have_tasks = self.tasks as usize <= self.rows.len();
-        have_machines && have_tasks && ways <= self.ways.len()
+        have_machines && have_tasks && ways <= self.ways.len() && !work.is_short()
     }
 
     fn read_slot_costs(&mut self, case: &Case)

@@ -10,4 +10,5 @@ pub mod Lexicographic
 pub mod Levels
 pub mod Comparing
 pub mod Suiting
+pub mod Counting
 mod Examples

@@ -1,5 +1,5 @@
 //! Whether a placement is the round's: whether rents in levels suit it, by one pass over machines and one over tasks.
-ghost use Rattle.std.specs.Prelude.{◌≡◌, ◌+◌, ◌*◌, ◌^◌, ◌<◌, ◌≤◌, true, false, ℕ, suc, length, slice_index};
+ghost use Rattle.std.specs.Prelude.{◌≡◌, ◌+◌, ◌-◌, ◌*◌, ◌^◌, ◌<◌, ◌≤◌, true, false, ℕ, suc, length, slice_index};
 ghost use Rattle.std.specs.Prelude.{IsTrue};
 ghost use Rattle.firm_rules.specs.declared.rounds.Choice.{Choice as ChoiceOf};
 ghost use Rattle.firm_rules.specs.declared.rounds.Choice.TheVariants.{On, Wait};
@@ -10,24 +10,33 @@ ghost use Rattle.firm_rents.specs.Levels.{time, IsAtMost, paid_by_level, slot_by
 ghost use Rattle.firm_rules.specs.ChoiceCost.{wide_cost};
 ghost use Rattle.firm_rents.specs.inner.Classes.{AreClasses, AreInLevels, IsKnown, IsLeast, IsSpent, NoMore};
 ghost use Rattle.firm_rents.specs.inner.Classes.{SuitsLoad, level_rents, offered, place_levels, place_of, place_offer};
+ghost use Rattle.firm_levels.specs.Work.{GoesOn};
 
 use crate::classes::{
     Known, Offer, cheaper_from_parted, cheaper_since, is_at_most, is_at_most_parted,
 };
 use crate::laws::rents_show_first;
 use crate::rents::MOST_RENT;
-use firm_levels::{Class, LevelRents};
+use firm_levels::{Class, LevelRents, Work};
 use firm_rules::{Case, Choice, MOST_MACHINES, legality_is_judged, slot_cost};
 
 /// Whether rents in levels, from any proposer, show that a placement is the round's: it is legal, no legal one
-/// costs less, and none that costs as much comes before it. Where the answer is no, nothing is said. Takes no memory.
-pub fn shows_first(case: &Case, rents: &LevelRents, placement: &[Choice]) -> bool
-    ensures { IsTrue result → IsRound case.now placement.now }
+/// costs less, and none that costs as much comes before it. Where the answer is no, nothing is said, as where the work
+/// that is left doesn't suffice. Counts each pass over tasks, machines and classes, so a yes takes at least a look at
+/// each task and machine. Takes no memory.
+pub fn shows_first(case: &Case, rents: &LevelRents, placement: &[Choice], work: &mut Work) -> bool
+    ensures first { IsTrue result → IsRound case.now placement.now }
+    ensures work { GoesOn work.old work.new }
+    ensures looks { IsTrue result
+        → work.old.looks + (length case.now.tasks + length case.now.slots) ≤ work.new.looks }
 {
     rents_show_first();
     legality_is_judged();
     // No more tasks are counted than a tenant may have.
     prove!(case.task_count() <= 4_096);
+    if !counts_passes(case, rents, work) {
+        return false;
+    }
     let mut loads = [0u8; MOST_MACHINES];
     if !case.counts_loads(placement, &mut loads) || !are_in_levels(rents, case.machine_count()) {
         return false;
@@ -35,7 +44,24 @@ pub fn shows_first(case: &Case, rents: &LevelRents, placement: &[Choice]) -> boo
     if !machines_suit(case, rents, &loads) {
         return false;
     }
-    tasks_suit(case, rents, placement)
+    tasks_suit(case, rents, placement, work)
+}
+
+// Counts the passes over tasks, machines and classes that are made in any case, and says whether the work that is left
+// allows them: two over the tasks, for their loads and their choices, and six over the machines, for loads, amounts,
+// classes, slots, the lowest rent and those that are spent, and one over the classes.
+fn counts_passes(case: &Case, rents: &LevelRents, work: &mut Work) -> bool
+    ensures work { GoesOn work.old work.new }
+    ensures looks { result ≡ true
+        → work.old.looks + (length case.now.tasks + length case.now.slots) ≤ work.new.looks }
+{
+    prove!(case.task_count() <= 4_096);
+    prove!(case.machine_count() <= 4_096);
+    let tasks = case.task_count() as u32;
+    let machines = case.machine_count() as u32;
+    let classes = u32::try_from(rents.classes.len()).unwrap_or(u32::MAX);
+    let entries = (2 * tasks + 6 * machines).saturating_add(classes);
+    work.pass(entries) == entries
 }
 
 // Whether there is an amount and a class for each of this number of machines, a class for waiting, and a tree of
@@ -182,12 +208,13 @@ struct Kept {
 }
 
 // Whether each task's choice is its cheapest.
-fn tasks_suit(case: &Case, rents: &LevelRents, placement: &[Choice]) -> bool
+fn tasks_suit(case: &Case, rents: &LevelRents, placement: &[Choice], work: &mut Work) -> bool
     requires levels { AreInLevels (length case.now.slots) rents.now }
     requires one_each { length placement.now ≡ length case.now.tasks }
     requires places { (i : ℕ) → i < length placement.now
         → IsPlace (length case.now.slots) (choice_at placement.now i) }
-    ensures { result ≡ true → (i : ℕ) → i < length case.now.tasks → (other : ChoiceOf)
+    ensures work { GoesOn work.old work.new }
+    ensures suits { result ≡ true → (i : ℕ) → i < length case.now.tasks → (other : ChoiceOf)
         → IsPlace (length case.now.slots) other
         → IsAtMost (paid_by_level case.now (level_rents rents.now) i (choice_at placement.now i))
         (paid_by_level case.now (level_rents rents.now) i other) }
@@ -204,7 +231,7 @@ fn tasks_suit(case: &Case, rents: &LevelRents, placement: &[Choice]) -> bool
     };
     for task in 0..case.task_count() {
         mark = passed(case, rents, mark, time_of(case, task, 0));
-        if !kept.suits_task(case, rents, task, placement[task], mark) {
+        if !kept.suits_task(case, rents, task, placement[task], mark, work) {
             return false;
         }
     }
@@ -220,6 +247,7 @@ impl Kept {
         task: usize,
         choice: Choice,
         mark: Mark,
+        work: &mut Work,
     ) -> bool
         requires levels { AreInLevels (length case.now.slots) rents.now }
         requires task { task < length case.now.tasks }
@@ -232,6 +260,7 @@ impl Kept {
         requires low { IsKnown rents.now.classes.items self.old.lowest }
         ensures waits { IsKnown rents.now.classes.items self.new.waits }
         ensures low { IsKnown rents.now.classes.items self.new.lowest }
+        ensures work { GoesOn work.old work.new }
         ensures suits { result ≡ true → (other : ChoiceOf) → IsPlace (length case.now.slots) other
             → IsAtMost (paid_by_level case.now (level_rents rents.now) task choice)
             (paid_by_level case.now (level_rents rents.now) task other) }
@@ -246,7 +275,7 @@ impl Kept {
         {
             return false;
         }
-        self.others_suit(case, rents, task, chosen, mark)
+        self.others_suit(case, rents, task, chosen, mark, work)
     }
 
     // Whether all other machines cost the task no less than its choice. They cost it alike but for their rents, so most
@@ -258,6 +287,7 @@ impl Kept {
         task: usize,
         chosen: Offer,
         mark: Mark,
+        work: &mut Work,
     ) -> bool
         requires levels { AreInLevels (length case.now.slots) rents.now }
         requires task { task < length case.now.tasks }
@@ -270,6 +300,7 @@ impl Kept {
         requires low { IsKnown rents.now.classes.items self.old.lowest }
         ensures waits { IsKnown rents.now.classes.items self.new.waits }
         ensures low { IsKnown rents.now.classes.items self.new.lowest }
+        ensures work { GoesOn work.old work.new }
         ensures suits { result ≡ true → (j : ℕ) → j < length case.now.slots
             → task_cost case.now (task_at case.now task) (On j) ≡ wide_cost case.now (task_at case.now task)
             → runs_at (task_at case.now task).home j ≡ false → NoMore case.now rents.now task chosen (On j) }
@@ -314,9 +345,10 @@ impl Kept {
                     to: end,
                     ..all
                 },
+                work,
             )
         } else {
-            each_suits(rents, chosen, all)
+            each_suits(rents, chosen, all, work)
         }
     }
 }
@@ -414,17 +446,23 @@ struct Span {
 }
 
 // Whether each of these machines costs no less than the choice, taken as one that the task neither runs on nor
-// prefers. Of its own machine and of those that it prefers this says nothing.
-fn each_suits(rents: &LevelRents, chosen: Offer, span: Span) -> bool
+// prefers. Of its own machine and of those that it prefers this says nothing. Counts a look at each.
+fn each_suits(rents: &LevelRents, chosen: Offer, span: Span, work: &mut Work) -> bool
     requires levels { AreInLevels (length rents.now.amounts.items) rents.now }
     requires chosen { chosen.class < length rents.now.classes.items }
     requires span { span.to ≤ length rents.now.amounts.items }
     requires few { span.to ≤ 4096 }
     requires cost { span.cost ≤ 2 ^ 22 }
     requires begun { span.begun ≤ 2 ^ 25 }
-    ensures { result ≡ true → (j : ℕ) → span.from ≤ j → j < span.to
+    ensures work { GoesOn work.old work.new }
+    ensures looks { result ≡ true → work.old.looks + (span.to - span.from) ≤ work.new.looks }
+    ensures suits { result ≡ true → (j : ℕ) → span.from ≤ j → j < span.to
         → IsAtMost (offered rents.now.classes.items chosen) (place_levels rents.now span.cost j (span.begun + suc j)) }
 {
+    let machines = span.to.saturating_sub(span.from) as u32;
+    if work.pass(machines) < machines {
+        return false;
+    }
     let classes = rents.classes.as_slice();
     for place in span.from..span.to {
         let other = offer_of(rents, span.cost, place, span.begun + 1 + place as u32);

@@ -4,7 +4,7 @@ ghost use Rattle.firm_rules.specs.Round.{IsRound};
 
 use crate::first::shows_first;
 use crate::rents::Rents;
-use firm_levels::{Class, LevelRents};
+use firm_levels::{Allowance, Class, LevelRents, Work};
 use firm_rules::{Case, Choice};
 use std::alloc::{AllocError, Global};
 
@@ -45,7 +45,12 @@ pub fn is_ladder(
         return Ok(false);
     }
     let levels = in_levels(alloc, case, rents, ladder, placement)?;
-    Ok(shows_first(case, &levels, placement))
+    // As much as it takes.
+    let mut work = Work::new(Allowance {
+        searches: 0,
+        looks: u64::MAX,
+    });
+    Ok(shows_first(case, &levels, placement, &mut work))
 }
 
 // The rents with the ladder behind them.

@@ -33,7 +33,8 @@
 //! others, the one of the lowest rent. A few passes are usual; it stops after one for each machine, which should always
 //! be enough (no clause says so).
 //!
-//! `shows_first` takes one pass over the machines and one over the tasks, and nearly each comparison ends at the
+//! `shows_first` counts its passes over machines, tasks and classes in a `Work`, and says no where that is used up. The
+//! classes that a comparison of equal amounts walks through belong to its look. Nearly each comparison ends at the
 //! amount. A task's choice is compared with its own machine, those that it prefers, waiting, and the machine of the
 //! lowest rent. Where that one would be cheaper at the time of the first machine, the machines are compared one by one
 //! up to the place at whose time it no longer is, but for those that were dearer already before the task: as times rise

@@ -8,7 +8,7 @@ use Rattle.firm_rules.specs.declared.tickets.Ticket.{Ticket}
 use Rattle.firm_rounds.specs.declared.protocol.Share.{Share}
 use Rattle.firm_rounds.specs.declared.protocol.Sight.{Sight}
 use Rattle.firm_rounds.specs.Rounds.{weigh, share, numbered, put_by}
-use Rattle.firm_rounds.specs.inner.Rule.{weigh_shares, cap, excess}
+use Rattle.firm_rounds.specs.Rule.{weigh_shares, cap, excess}
 use Rattle.firm_rounds.specs.inner.Seats.{fresh}
 use Rattle.firm_rounds.specs.Turning.{weigh-append}
 

@@ -16,7 +16,7 @@ use Rattle.firm_rounds.specs.declared.protocol.JobParts.{JobParts}
 use Rattle.firm_rounds.specs.declared.protocol.Share.{Share}
 use Rattle.firm_rounds.specs.declared.protocol.Sight.{Sight}
 use Rattle.firm_rounds.specs.Rounds.{weigh, ticket, share, numbered, put_by}
-use Rattle.firm_rounds.specs.inner.Rule.{weigh_shares, count, tickets, cap, excess, FewGot, Fair, Holds}
+use Rattle.firm_rounds.specs.Rule.{weigh_shares, count, tickets, cap, excess, FewGot, Fair, Holds}
 use Rattle.firm_rounds.specs.inner.Seats.{sight, fresh, grown_to, nothing, with_new_share}
 use Rattle.firm_rounds.specs.Rounds.{got_by}
 use Rattle.firm_rounds.specs.Rounds.{is_at, beyond}

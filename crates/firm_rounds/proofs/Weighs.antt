@@ -8,7 +8,7 @@ use Rattle.firm_rounds.specs.declared.protocol.JobParts.{JobParts}
 use Rattle.firm_rounds.specs.declared.protocol.Share.{Share}
 use Rattle.firm_rounds.specs.declared.protocol.Sight.{Sight}
 use Rattle.firm_rounds.specs.Rounds.{weigh, ticket, share, is_at, beyond}
-use Rattle.firm_rounds.specs.inner.Rule.{weigh_shares, count, tickets}
+use Rattle.firm_rounds.specs.Rule.{weigh_shares, count, tickets}
 use Rattle.firm_rounds.specs.inner.Seats.{fresh}
 
 module _ {A : Type 0} (f : A → ℕ) where

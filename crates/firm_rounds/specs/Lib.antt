@@ -1,4 +1,5 @@
 pub mod Rounds
+pub mod Rule
 pub mod Passes
 pub mod Closed
 pub mod Faults

@@ -1,4 +1,3 @@
--- What no public clause cites: the rule of the queue, what its steps make of a seat, and what is gathered.
+-- Definitions that no public clause cites: the effect of the queue's steps on a seat, and the gathered shares.
 pub mod Seats
-pub mod Rule
 pub mod Gathered

@@ -9,6 +9,7 @@ use crate::job::Job;
 use crate::passes::{PopPass, PutPass};
 use crate::protocol::{QueueSeat, Ring, Whole};
 use crate::queue::Room;
+use firm_bell::Bell;
 use std::marker::Model;
 use std::sync::{Mutex, Wait};
 
@@ -17,6 +18,7 @@ use std::sync::{Mutex, Wait};
 pub struct Closing {
     pub(crate) ring: Ring,
     pub(crate) keep: QueueSeat,
+    pub(crate) bell: Bell,
     pub(crate) left: Mutex<Room>,
 }
 
@@ -27,7 +29,7 @@ impl Model for Closing {
 
     ghost Value = { ClosingIs };
 
-    ghost view = { λ c. closing_is (queue_of c.keep) (sees c.keep).shares };
+    ghost view = { λ c. closing_is (queue_of c.bell c.keep) (sees c.keep).shares };
 
     ghost invariant = { λ c. IsPassOf c.ring c.keep × (0 < length (sees c.keep).shares) × (0 < (sees c.keep).all) };
 }
@@ -60,7 +62,12 @@ impl Closing {
         requires { self.id.all ≤ length self.shares }
         ensures { Settled self.shares result.items }
     {
-        let Closing { ring, keep, left } = self;
+        let Closing {
+            ring,
+            keep,
+            bell: _,
+            left,
+        } = self;
         drain(rt, &ring, keep, left.into_inner().into_jobs())
     }
 }

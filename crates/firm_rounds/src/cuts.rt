@@ -7,6 +7,7 @@ ghost use Rattle.firm_rounds.specs.Passes.{queue_of, new_puts, new_pops};
 
 use crate::passes::{PopPass, PutPass};
 use crate::protocol::{Cut, Grow, QueueSeat, Ring};
+use firm_bell::Bell;
 use std::alloc::{AllocError, Global};
 
 // Adds `more` shares.
@@ -34,6 +35,7 @@ pub(crate) fn cut(ring: &Ring, keep: &mut QueueSeat, from: usize, more: usize) -
 pub(crate) fn cut_puts(
     alloc: Global,
     ring: &Ring,
+    bell: &Bell,
     keep: &mut QueueSeat,
     puts: usize,
 ) -> Result<Vec<PutPass>, AllocError>
@@ -41,12 +43,12 @@ pub(crate) fn cut_puts(
         × (view keep.old ≡ held_from 0 ((view keep.old).all - 1)) }
     ensures kept { IfOk result (λ r. IsPassOf ring.now keep.new × ((view keep.new).all ≡ (view keep.old).all)
         × (view keep.new ≡ held_from puts ((view keep.old).all - 1))) }
-    ensures passes { IfOk result (λ r. r.items ≡ new_puts (queue_of keep.old) puts) }
+    ensures passes { IfOk result (λ r. r.items ≡ new_puts (queue_of bell.now keep.old) puts) }
 {
     let mut passes = Vec::with_capacity(alloc, puts)?;
     for place in 0..puts {
         let seat = cut(ring, keep, 0, place);
-        passes.push(PutPass::of(place as u32, seat))?;
+        passes.push(PutPass::of(place as u32, seat, bell))?;
     }
     Ok(passes)
 }
@@ -55,20 +57,21 @@ pub(crate) fn cut_puts(
 pub(crate) fn cut_pops(
     alloc: Global,
     ring: &Ring,
+    bell: &Bell,
     keep: QueueSeat,
     puts: usize,
     pops: usize,
 ) -> Result<Vec<PopPass>, AllocError>
     requires { IsPassOf ring.now keep × (0 < pops) × ((view keep).all ≡ puts + pops)
         × (view keep ≡ held_from puts ((view keep).all - 1)) }
-    ensures { IfOk result (λ r. r.items ≡ new_pops (queue_of keep) pops) }
+    ensures { IfOk result (λ r. r.items ≡ new_pops (queue_of bell.now keep) pops) }
 {
     let mut keep = keep;
     let mut passes = Vec::with_capacity(alloc, pops)?;
     for k in 0..pops - 1 {
         let seat = cut(ring, &mut keep, puts, k);
-        passes.push(PopPass::of(seat))?;
+        passes.push(PopPass::of(seat, bell.listener()))?;
     }
-    passes.push(PopPass::of(keep))?;
+    passes.push(PopPass::of(keep, bell.listener()))?;
     Ok(passes)
 }

@@ -4,7 +4,7 @@ ghost use Rattle.crossbeam_queue.specs.Passes.{view, IsPassOf};
 ghost use Rattle.firm_rounds.specs.declared.protocol.Share.{Share};
 ghost use Rattle.firm_rules.specs.declared.tickets.Ticket.{Ticket};
 ghost use Rattle.firm_rounds.specs.Rounds.{weigh, share, put_by, got_by, is_at, beyond};
-ghost use Rattle.firm_rounds.specs.inner.Rule.{FewGot};
+ghost use Rattle.firm_rounds.specs.Rule.{FewGot};
 ghost use Rattle.firm_rounds.specs.Passes.{spent_put, spent_pop};
 ghost use Rattle.firm_rounds.specs.Closed.{job_weight};
 ghost use Rattle.firm_rounds.specs.inner.Gathered.{AddsPops, HasAll};

@@ -6,6 +6,11 @@
 //! as it was put: however tickets are weighed, both weigh the same (`specs/Closed.antt`). The types rule out putting or
 //! solving a job twice, or dropping it.
 //!
+//! The queue's bell (firm_bell) wakes the workers. Each round is counted by its caller once, before it is put, and
+//! taken from the count once, by the pass that got it. `put` rings; after `put_unrung` the caller has to, before it
+//! waits or ends. `pop` finds nothing only if the queue was empty at one step, and a worker rests or ends only after
+//! such a look: `found_none` of its pass says so (`specs/Passes.antt`).
+//!
 //! # How it works
 //!
 //! The queue has room for 8 rounds. `pop` never waits for one. On a full queue `put` tries 64 times, announces a sleep,
@@ -22,5 +27,5 @@ mod queue;
 
 pub use closing::Closing;
 pub use job::{Job, finish_all};
-pub use passes::{PopPass, PutPass};
+pub use passes::{Ended, PopPass, PutPass};
 pub use queue::{Queue, QueueFault};

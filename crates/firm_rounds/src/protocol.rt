@@ -35,7 +35,7 @@ pub struct Sight {
 pub struct TicketRule;
 
 impl Protocol<JobParts, Sight> for TicketRule {
-    ghost use Rattle.firm_rounds.specs.inner.Rule.{Fair};
+    ghost use Rattle.firm_rounds.specs.Rule.{Fair};
     ghost use Rattle.firm_rounds.specs.inner.Seats.{opening};
 
     ghost holds = { Fair };
@@ -105,13 +105,15 @@ pub struct Pops;
 impl Outcome<JobParts, Sight> for Pops {
     ghost use Rattle.std.specs.Prelude.{◌≡◌};
     ghost use Rattle.firm_rounds.specs.inner.Seats.{after_pop};
-    ghost use Rattle.firm_rounds.specs.inner.Rule.{FewGot};
+    ghost use Rattle.firm_rounds.specs.Rule.{FewGot};
 
     ghost then = { λ v x w. (w ≡ after_pop x.ticket v) × FewGot w };
 }
 
 impl Lesson<JobParts, Sight> for Pops {
-    ghost fact = { λ v items. Unit {0} };
+    ghost use Rattle.firm_rounds.specs.Rule.{Shows};
+
+    ghost fact = { Shows };
 }
 
 /// What the seat with every share learns.
@@ -125,7 +127,7 @@ impl Outcome<JobParts, Sight> for Ends {
 }
 
 impl Lesson<JobParts, Sight> for Ends {
-    ghost use Rattle.firm_rounds.specs.inner.Rule.{Holds};
+    ghost use Rattle.firm_rounds.specs.Rule.{Holds};
 
     ghost fact = { Holds };
 }

@@ -1,10 +1,9 @@
 -- States that are joined and cut as asked.
-use Rattle.std.proofs.Common.{◌≡◌, ◌∙◌, ◌+◌, ◌<◌, ◌++◌, ◌∷◌, [], ℕ, List, All, Result, Ok, Err, ap, arith, length}
-use Rattle.std.proofs.Common.{refl, subst}
-use Rattle.std.proofs.Common.{sym}
-use Rattle.std.proofs.lemmas.List.{length_push}
-use Rattle.std.proofs.lemmas.List.Elements.{All-from_recursion, All-nil, recursion_from_All}
-use Rattle.std.specs.List.{AllByRecursion}
+use Rattle.std.proofs.Common.{◌≡◌, ◌∙◌, ◌+◌, ◌<◌, ◌++◌, ◌∷◌, [], ℕ, List, Result, Ok, Err, ap, arith, length, refl}
+use Rattle.std.proofs.Common.{get_or, map, subst, sym, take}
+use Rattle.std.specs.Borrow.{Bor}
+use Rattle.std.proofs.lemmas.List.{length-map, map-append, take-map}
+use Rattle.std.proofs.lemmas.List.Elements.{All-nil, All-push}
 use Rattle.firm_parts.specs.Parts.{cut_state, joined_state}
 use Rattle.firm_parts.specs.declared.joining.JoinFault.{JoinFault}
 use Rattle.firm_saved.specs.Saved.{IsSoundSaved, SavedIs}
@@ -17,13 +16,16 @@ use Rattle.firm_program.specs.declared.faults.Fault.TheVariants.{Service}
 use Rattle.firm_table.specs.declared.faults.ServeFault.TheVariants.{Memory}
 use Rattle.firm_table.specs.Service.{Device}
 use Rattle.firm_text.specs.Commands.{◌>>=◌}
-use Rattle.firm_state.specs.CommandLine.{Asked}
-use Rattle.firm_state.specs.Program.{ChangesText, CutsTo, FoldsText, JoinsAll, NoChange, NotAllJoined, NotThere}
+use Rattle.firm_program.specs.Files.{IsReadState, KnownFiles}
+use Rattle.firm_state.specs.CommandLine.{Asked, texts}
+use Rattle.firm_state.specs.Program.{ChangesText, CutsTo, FoldsText, FromFile, JoinsAll, NoChange, NotAllJoined}
+use Rattle.firm_state.specs.Program.{NotThere, RefusesOther}
 use Rattle.firm_state.specs.Program.{StopsCutting, StopsJoining, TellsState, all_joined, kept}
+use Rattle.firm_state.proofs.Naming.{texts_more}
 
 -- no state was joined
-pub joins_none : (saved : SavedIs) → JoinsAll 0 saved saved
-joins_none saved = record { others = []; as_many = refl; sound = All-nil IsSoundSaved; whole = refl }
+pub joins_none : (files : KnownFiles) (saved : SavedIs) → JoinsAll files [] saved saved
+joins_none files saved = record { others = []; named = refl; read = All-nil _; whole = refl }
 
 only_ok : (read : Result SavedIs JoinFault) → (read >>= λ more. Ok more) ≡ read
 only_ok (Ok places) = refl
@@ -43,26 +45,52 @@ all_more saved (first ∷ rest) other = by (joined_state saved first) (λ more. 
     by (Ok more) on = on more
     by (Err fault) on = refl
 
-all_push : (others : List SavedIs) (other : SavedIs) → All IsSoundSaved others → IsSoundSaved other
-    → All IsSoundSaved (others ++ other ∷ [])
-all_push others other all here =
-    All-from_recursion IsSoundSaved (others ++ other ∷ []) (by others (recursion_from_All IsSoundSaved others all))
-  where
-    by : (others : List SavedIs) → AllByRecursion IsSoundSaved others
-        → AllByRecursion IsSoundSaved (others ++ other ∷ [])
-    by [] h = (here, tt)
-    by (first ∷ rest) h = (h.0, by rest h.1)
+-- the states of files, and their paths
+abbrev states_of : List FromFile → List SavedIs
+states_of others = map (λ (other : FromFile). other.saved) others
 
-pub joins_more : (count : ℕ) (saved before other both : SavedIs) → JoinsAll count saved before
-    → IsSoundSaved other → joined_state before other ≡ Ok both → JoinsAll (count + 1) saved both
-joins_more count saved before other both joins sound is = record {
-  others = joins.others ++ other ∷ [];
-  as_many = length_push joins.others other ∙ ap (λ n. n + 1) joins.as_many;
-  sound = all_push joins.others other joins.sound sound;
-  whole = all_more saved joins.others other
-      ∙ ap (λ (read : Result SavedIs JoinFault). read >>= λ more. joined_state more other) joins.whole
-      ∙ is;
-}
+abbrev paths_of : List FromFile → List (List ℕ)
+paths_of others = map (λ (other : FromFile). other.path) others
+
+abbrev from_file : List ℕ → SavedIs → FromFile
+from_file path saved = record { path = path; saved = saved }
+
+pub joins_more : (files : KnownFiles) (paths more : List (List ℕ)) (path : List ℕ)
+    (saved before other both : SavedIs) → JoinsAll files paths saved before → more ≡ paths ++ path ∷ []
+    → IsReadState (files path) other → joined_state before other ≡ Ok both → JoinsAll files more saved both
+joins_more files paths more path saved before other both joins one read is =
+    let last : FromFile = from_file path other in
+    record {
+      others = joins.others ++ last ∷ [];
+      named = map-append (λ (other : FromFile). other.path) joins.others (last ∷ [])
+          ∙ ap (λ (l : List (List ℕ)). l ++ path ∷ []) joins.named ∙ sym one;
+      read = All-push (λ (other : FromFile). IsReadState (files other.path) other.saved) joins.others last joins.read
+          read;
+      whole = ap (all_joined saved) (map-append (λ (other : FromFile). other.saved) joins.others (last ∷ []))
+          ∙ all_more saved (states_of joins.others) other
+          ∙ ap (λ (read : Result SavedIs JoinFault). read >>= λ more. joined_state more other) joins.whole
+          ∙ is;
+    }
+
+-- the states of the first files were joined, and then the next is refused, or joined too
+module _ (files : KnownFiles) (paths : List (Bor (List ℕ))) (saved before : SavedIs) (at : ℕ)
+    (within : at < length paths) (joins : JoinsAll files (texts (take at paths)) saved before) where
+  pub stops_joining : (fault : Fault) → RefusesOther (files (get_or (texts paths) at [])) before fault
+      → StopsJoining files (texts paths) saved fault
+  stops_joining fault refused = record {
+    so_far = at;
+    fewer = omega (arith, within, length-map paths (λ (path : Bor (List ℕ)). path.now));
+    before = before;
+    joins = subst (λ (first : List (List ℕ)). JoinsAll files first saved before)
+        (sym (take-map (λ (path : Bor (List ℕ)). path.now) at paths)) joins;
+    next = refused;
+  }
+
+  pub joins_next : (other both : SavedIs) → IsReadState (files (get_or (texts paths) at [])) other
+      → joined_state before other ≡ Ok both → JoinsAll files (texts (take (at + 1) paths)) saved both
+  joins_next other both read is =
+      joins_more files (texts (take at paths)) (texts (take (at + 1) paths)) (get_or (texts paths) at []) saved before
+      other both joins (texts_more paths at within) read is
 
 -- a state is cut where there are names
 pub cuts_some : (names : List (List ℕ)) (saved : SavedIs) → 0 < length names
@@ -70,15 +98,20 @@ pub cuts_some : (names : List (List ℕ)) (saved : SavedIs) → 0 < length names
 cuts_some [] saved some = absurd (omega arith)
 cuts_some (name ∷ rest) saved some = refl
 
+pub is_empty : {A : Type 0} (list : List A) → length list ≡ 0 → list ≡ []
+is_empty [] none = refl
+is_empty (first ∷ rest) none = absurd (omega arith)
+
 -- and else stays as it is
 pub cuts_none : (names : List (List ℕ)) (saved : SavedIs) → length names ≡ 0 → CutsTo names saved saved
 cuts_none [] saved none = record { there = All-nil _; cut = refl }
 cuts_none (name ∷ rest) saved none = absurd (omega arith)
 
 -- nothing was asked for but the state after the lines
-pub tells_folded : (asked : Asked) (reader : Device) (text : List ℕ) → FoldsText asked.opening reader text
-    → asked.others ≡ 0 → length asked.names ≡ 0 → TellsState asked reader text
-tells_folded asked reader text folded none nobody =
+pub tells_folded : (files : KnownFiles) (asked : Asked) (reader : Device) (text : List ℕ)
+    → FoldsText files asked.opening reader text → length asked.others ≡ 0 → length asked.names ≡ 0
+    → TellsState files asked reader text
+tells_folded files asked reader text folded none nobody =
     let saved = folded.saved in
     record {
       saved = saved;
@@ -87,7 +120,8 @@ tells_folded asked reader text folded none nobody =
         after = saved;
         changed = record {
           both = saved;
-          joins = subst (λ n. JoinsAll n saved saved) (sym none) (joins_none saved);
+          joins = subst (λ (paths : List (List ℕ)). JoinsAll files paths saved saved)
+              (sym (is_empty asked.others none)) (joins_none files saved);
           cuts = cuts_none asked.names saved nobody;
         };
         sound = folded.file.sound;
@@ -96,11 +130,11 @@ tells_folded asked reader text folded none nobody =
     }
 
 -- or the state after them, changed
-pub tells_changed : (asked : Asked) (reader : Device) (text after : List ℕ) → FoldsText asked.opening reader text
-    → ((saved : SavedIs) → IsSoundSaved saved → text ≡ state_text saved
-    → ChangesText asked.names asked.others saved after)
-    → TellsState asked reader after
-tells_changed asked reader text after folded change = record {
+pub tells_changed : (files : KnownFiles) (asked : Asked) (reader : Device) (text after : List ℕ)
+    → FoldsText files asked.opening reader text
+    → ((saved : SavedIs) → IsSoundSaved saved → text ≡ state_text saved → ChangesText files asked saved after)
+    → TellsState files asked reader after
+tells_changed files asked reader text after folded change = record {
   saved = folded.saved;
   file = folded.file;
   changed = change folded.saved folded.file.sound folded.is;
@@ -110,30 +144,31 @@ tells_changed asked reader text after folded change = record {
 pub of_memory : (found : StateFault) → found.kind ≡ fault.Memory → fault_of_state found ≡ Service Memory
 of_memory found is = ap (fault_of_kind found) is
 
-module _ (names : List (List ℕ)) (count : ℕ) (saved alone : SavedIs) (is : alone ≡ saved) (n : ℕ)
-    (same : n ≡ count) where
-  pub not_joined : (fault : Fault) → StopsJoining n alone fault → NoChange names count saved fault
+module _ (files : KnownFiles) (asked : Asked) (saved alone : SavedIs) (is : alone ≡ saved) (paths : List (List ℕ))
+    (same : paths ≡ asked.others) where
+  pub not_joined : (fault : Fault) → StopsJoining files paths alone fault → NoChange files asked saved fault
   not_joined fault stops =
-      NotAllJoined (subst (λ (k : ℕ). StopsJoining k saved fault) same
-      (subst (λ (s : SavedIs). StopsJoining n s fault) is stops))
+      NotAllJoined (subst (λ (paths : List (List ℕ)). StopsJoining files paths saved fault) same
+      (subst (λ (s : SavedIs). StopsJoining files paths s fault) is stops))
 
-  all_in : (both : SavedIs) → JoinsAll n alone both → JoinsAll count saved both
+  all_in : (both : SavedIs) → JoinsAll files paths alone both → JoinsAll files asked.others saved both
   all_in both joins =
-      subst (λ (k : ℕ). JoinsAll k saved both) same (subst (λ (s : SavedIs). JoinsAll n s both) is joins)
+      subst (λ (paths : List (List ℕ)). JoinsAll files paths saved both) same
+      (subst (λ (s : SavedIs). JoinsAll files paths s both) is joins)
 
-  pub not_there : (asked : List (List ℕ)) (both : SavedIs) (fault : Fault) → asked ≡ names
-      → JoinsAll n alone both → StopsCutting asked both fault → NoChange names count saved fault
-  not_there asked both fault named joins stops =
+  pub not_there : (names : List (List ℕ)) (both : SavedIs) (fault : Fault) → names ≡ asked.names
+      → JoinsAll files paths alone both → StopsCutting names both fault → NoChange files asked saved fault
+  not_there names both fault named joins stops =
       NotThere (record {
         both = both;
         joins = all_in both joins;
         cutting = subst (λ (l : List (List ℕ)). StopsCutting l both fault) named stops;
       })
 
-  pub changes : (asked : List (List ℕ)) (both after : SavedIs) (text : List ℕ) → asked ≡ names
-      → JoinsAll n alone both → CutsTo asked both after → IsSoundSaved after → text ≡ state_text after
-      → ChangesText names count saved text
-  changes asked both after text named joins cuts sound is_text = record {
+  pub changes : (names : List (List ℕ)) (both after : SavedIs) (text : List ℕ) → names ≡ asked.names
+      → JoinsAll files paths alone both → CutsTo names both after → IsSoundSaved after → text ≡ state_text after
+      → ChangesText files asked saved text
+  changes names both after text named joins cuts sound is_text = record {
     after = after;
     changed = record {
       both = both;

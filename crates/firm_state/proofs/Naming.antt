@@ -70,7 +70,7 @@ is_not_read bytes read = elim (is_name bytes) as
     [ true ↦ λ is. absurd (cc) | false ↦ λ is. refl ] read
 
 -- the first words, with one more
-texts_more : (words : List (Bor (List ℕ))) (at : ℕ) → at < length words
+pub texts_more : (words : List (Bor (List ℕ))) (at : ℕ) → at < length words
     → texts (take (at + 1) words) ≡ texts (take at words) ++ get_or (texts words) at [] ∷ []
 texts_more words at within =
     let now : Bor (List ℕ) → List ℕ = λ (w : Bor (List ℕ)). w.now in
@@ -108,8 +108,7 @@ pub asks : (words : List (List ℕ)) (given : Given) (request : Request) → fau
     → AskFor words (asked_by request)
 asks words given request well gives asked = record {
   file = names_file command_line words given.roster given.state well gives.paths request.named asked.named;
-  others = asked.others ∙ sym (length-map given.others.items (λ (w : Bor (List ℕ)). w.now))
-      ∙ ap length gives.others_are;
+  others = asked.others ∙ gives.others_are;
   names = asked.names.same ∙ gives.tenants_are;
   are_names = asked.names.formed;
 }

@@ -59,16 +59,16 @@ pub record Gives (words : List (List ℕ)) (roster state : Option (Bor (List ℕ
   pub others_are : texts others ≡ values_given (codes "merge") words
   pub tenants_are : texts tenants ≡ values_given (codes "tenant") words
 
--- what is asked for: the file to open with, how many states to join, and the names of the tenants to keep
+-- a request: the file to open with, the paths of the states to join, and the names of the tenants to keep
 pub record Asked : Type 0 where
   pub opening : Named
-  pub others : ℕ
+  pub others : List (List ℕ)
   pub names : List (List ℕ)
 
 -- the words ask for this
 pub record AskFor (words : List (List ℕ)) (asked : Asked) : Type 0 where
   pub file : NamesFile command_line words asked.opening
-  pub others : asked.others ≡ length (values_given (codes "merge") words)
+  pub others : asked.others ≡ values_given (codes "merge") words
   pub names : asked.names ≡ values_given (codes "tenant") words
   pub are_names : All (λ name. is_name name ≡ true) asked.names
 

@@ -1,5 +1,6 @@
 -- What the program's exit status says of what it read and wrote.
 use Rattle.std.specs.Prelude.{◌≡◌, ◌≤◌, ◌<◌, ◌++◌, ℕ, All, List, [], ◌∷◌, Result, Ok, Err, true, false, get_or, is_some}
+use Rattle.std.specs.Prelude.{Option}
 use Rattle.std.specs.Prelude.{length, map, take}
 use Rattle.std.specs.Io.KnownBytes.{Appends, Consumes, IsAtEnd}
 use Rattle.firm_text.specs.Commands.{◌>>=◌}
@@ -15,7 +16,7 @@ use Rattle.firm_table.specs.Service.{AreWholeLines, Device, IsCause}
 use Rattle.firm_table.specs.declared.faults.ServeFault.{ServeFault}
 use Rattle.firm_table.specs.declared.faults.ServeFault.TheVariants.{Memory, Write}
 use Rattle.firm_program.specs.Faults.{status_of}
-use Rattle.firm_program.specs.Files.{Opens, RefusesFile, RefusesState}
+use Rattle.firm_program.specs.Files.{IsReadState, KnownFiles, Opens, RefusesFile, RefusesState}
 use Rattle.firm_program.specs.Runs.{IsUnread, IsUntouched, IsUnwritten, most_input}
 use Rattle.firm_program.specs.Words.{AnswersWords}
 use Rattle.firm_program.specs.declared.faults.Fault.{Fault}
@@ -40,16 +41,16 @@ pub record FoldsTo (opened : Opened) (reader : Device) (text : List ℕ) : Type 
   pub is : text ≡ state_text saved
 
 -- a service opened with the file that is named, and came to the end of the input in this state
-pub record FoldsFile (named : Named) (reader : Device) (saved : SavedIs) : Type 0 where
+pub record FoldsFile (files : KnownFiles) (named : Named) (reader : Device) (saved : SavedIs) : Type 0 where
   pub opened : Opened
-  pub opens : Opens named opened
+  pub opens : Opens files named opened
   pub folds : Folds opened reader saved
   pub sound : IsSoundSaved saved
 
 -- and this is its text
-pub record FoldsText (named : Named) (reader : Device) (text : List ℕ) : Type 0 where
+pub record FoldsText (files : KnownFiles) (named : Named) (reader : Device) (text : List ℕ) : Type 0 where
   pub saved : SavedIs
-  pub file : FoldsFile named reader saved
+  pub file : FoldsFile files named reader saved
   pub is : text ≡ state_text saved
 
 -- a service stopped: whole lines and a rest were read, and the fault has its cause, which is no failed write
@@ -63,15 +64,15 @@ pub record StopsReading (reader : Device) (fault : Fault) : Type 0 where
   pub caused : IsCause cause (answered ++ rest) most_input reader.failed false
 
 -- a service opened with the file that is named, and stopped
-pub record StopsService (named : Named) (reader : Device) (fault : Fault) : Type 0 where
+pub record StopsService (files : KnownFiles) (named : Named) (reader : Device) (fault : Fault) : Type 0 where
   pub opened : Opened
-  pub opens : Opens named opened
+  pub opens : Opens files named opened
   pub stopped : StopsReading reader fault
 
 -- why there is no state after the lines: the file is refused, and nothing was read; or the service stopped
-pub data NoFold (named : Named) (reader : Device) (fault : Fault) : Type 0 where
-  NotOpened : IsUnread reader → RefusesFile named fault → NoFold named reader fault
-  Stopped : StopsService named reader fault → NoFold named reader fault
+pub data NoFold (files : KnownFiles) (named : Named) (reader : Device) (fault : Fault) : Type 0 where
+  NotOpened : IsUnread reader → RefusesFile files named fault → NoFold files named reader fault
+  Stopped : StopsService files named reader fault → NoFold files named reader fault
 
 -- the state to which these are joined, one after the other
 abbrev pub all_joined : SavedIs → List SavedIs → Result SavedIs JoinFault
@@ -83,33 +84,38 @@ abbrev pub kept : List (List ℕ) → SavedIs → SavedIs
 kept [] saved = saved
 kept (name ∷ rest) saved = cut_state (name ∷ rest) saved
 
--- others, this many, were joined to a state, which became the other
-pub record JoinsAll (count : ℕ) (saved both : SavedIs) : Type 0 where
-  pub others : List SavedIs
-  pub as_many : length others ≡ count
-  pub sound : All IsSoundSaved others
-  pub whole : all_joined saved others ≡ Ok both
+-- a state, and the path of its file
+pub record FromFile : Type 0 where
+  pub path : List ℕ
+  pub saved : SavedIs
 
--- a tenant of a sound state finds no place in this one: the first that doesn't, and why
-pub record NotJoined (before : SavedIs) (fault : Fault) : Type 0 where
+-- the states of the files at these paths, each once and in this order, were joined to a state, which became the other
+pub record JoinsAll (files : KnownFiles) (paths : List (List ℕ)) (saved both : SavedIs) : Type 0 where
+  pub others : List FromFile
+  pub named : map (λ (other : FromFile). other.path) others ≡ paths
+  pub read : All (λ (other : FromFile). IsReadState (files other.path) other.saved) others
+  pub whole : all_joined saved (map (λ (other : FromFile). other.saved) others) ≡ Ok both
+
+-- a tenant of the state that a file is finds no place in this one: the first that doesn't, and why
+pub record NotJoined (file : Option (List ℕ)) (before : SavedIs) (fault : Fault) : Type 0 where
   pub other : SavedIs
-  pub sound : IsSoundSaved other
+  pub read : IsReadState file other
   pub first : JoinFault
   pub refused : joined_state before other ≡ Err first
   pub is : fault ≡ Tenant first.tenant first.refusal
 
 -- why a state is not joined to this one: its file is refused, or a tenant finds no place
-pub data RefusesOther (before : SavedIs) (fault : Fault) : Type 0 where
-  NotRead : RefusesState fault → RefusesOther before fault
-  NoPlace : NotJoined before fault → RefusesOther before fault
+pub data RefusesOther (file : Option (List ℕ)) (before : SavedIs) (fault : Fault) : Type 0 where
+  NotRead : RefusesState file fault → RefusesOther file before fault
+  NoPlace : NotJoined file before fault → RefusesOther file before fault
 
--- of the states to join, this many, some were joined, and the next is refused
-pub record StopsJoining (count : ℕ) (saved : SavedIs) (fault : Fault) : Type 0 where
+-- of the states to join, those of the files at these paths, the first were joined, this many, and the next is refused
+pub record StopsJoining (files : KnownFiles) (paths : List (List ℕ)) (saved : SavedIs) (fault : Fault) : Type 0 where
   pub so_far : ℕ
-  pub fewer : so_far < count
+  pub fewer : so_far < length paths
   pub before : SavedIs
-  pub joins : JoinsAll so_far saved before
-  pub next : RefusesOther before fault
+  pub joins : JoinsAll files (take so_far paths) saved before
+  pub next : RefusesOther (files (get_or paths so_far [])) before fault
 
 -- a state was cut to the tenants of these names, if there are names: each of them is there
 pub record CutsTo (names : List (List ℕ)) (both after : SavedIs) : Type 0 where
@@ -130,47 +136,47 @@ pub record StopsCutting (names : List (List ℕ)) (both : SavedIs) (fault : Faul
   pub missing : IsMissing names both name
   pub is : fault ≡ Tenant name NoSuchTenant
 
--- a state has become this once others, this many, were joined to it, and it was cut to the tenants of these names
-pub record Changed (names : List (List ℕ)) (count : ℕ) (saved after : SavedIs) : Type 0 where
+-- the states of the files at the paths were joined to a state, which then was cut to the names, and became the other
+pub record Changed (files : KnownFiles) (asked : Asked) (saved after : SavedIs) : Type 0 where
   pub both : SavedIs
-  pub joins : JoinsAll count saved both
-  pub cuts : CutsTo names both after
+  pub joins : JoinsAll files asked.others saved both
+  pub cuts : CutsTo asked.names both after
 
 -- it is sound, and this is its text
-pub record ChangesText (names : List (List ℕ)) (count : ℕ) (saved : SavedIs) (text : List ℕ) : Type 0 where
+pub record ChangesText (files : KnownFiles) (asked : Asked) (saved : SavedIs) (text : List ℕ) : Type 0 where
   pub after : SavedIs
-  pub changed : Changed names count saved after
+  pub changed : Changed files asked saved after
   pub sound : IsSoundSaved after
   pub is : text ≡ state_text after
 
 -- a name is missing once all others are joined
-pub record StopsMissing (names : List (List ℕ)) (count : ℕ) (saved : SavedIs) (fault : Fault) : Type 0 where
+pub record StopsMissing (files : KnownFiles) (asked : Asked) (saved : SavedIs) (fault : Fault) : Type 0 where
   pub both : SavedIs
-  pub joins : JoinsAll count saved both
-  pub cutting : StopsCutting names both fault
+  pub joins : JoinsAll files asked.others saved both
+  pub cutting : StopsCutting asked.names both fault
 
 -- why a state is not changed so: another is not joined to it, a name is missing, or memory was refused
-pub data NoChange (names : List (List ℕ)) (count : ℕ) (saved : SavedIs) (fault : Fault) : Type 0 where
-  NotAllJoined : StopsJoining count saved fault → NoChange names count saved fault
-  NotThere : StopsMissing names count saved fault → NoChange names count saved fault
-  NoMemoryToChange : fault ≡ Service Memory → NoChange names count saved fault
+pub data NoChange (files : KnownFiles) (asked : Asked) (saved : SavedIs) (fault : Fault) : Type 0 where
+  NotAllJoined : StopsJoining files asked.others saved fault → NoChange files asked saved fault
+  NotThere : StopsMissing files asked saved fault → NoChange files asked saved fault
+  NoMemoryToChange : fault ≡ Service Memory → NoChange files asked saved fault
 
 -- all was read, and this is the text of the state after it, changed as asked
-pub record TellsState (asked : Asked) (reader : Device) (text : List ℕ) : Type 0 where
+pub record TellsState (files : KnownFiles) (asked : Asked) (reader : Device) (text : List ℕ) : Type 0 where
   pub saved : SavedIs
-  pub file : FoldsFile asked.opening reader saved
-  pub changed : ChangesText asked.names asked.others saved text
+  pub file : FoldsFile files asked.opening reader saved
+  pub changed : ChangesText files asked saved text
 
 -- all was read, and the state after it is not changed so
-pub record StopsChanging (asked : Asked) (reader : Device) (fault : Fault) : Type 0 where
+pub record StopsChanging (files : KnownFiles) (asked : Asked) (reader : Device) (fault : Fault) : Type 0 where
   pub saved : SavedIs
-  pub file : FoldsFile asked.opening reader saved
-  pub unchanged : NoChange asked.names asked.others saved fault
+  pub file : FoldsFile files asked.opening reader saved
+  pub unchanged : NoChange files asked saved fault
 
 -- why there is no text of the state that is asked for
-pub data NoText (asked : Asked) (reader : Device) (fault : Fault) : Type 0 where
-  NotFolded : NoFold asked.opening reader fault → NoText asked reader fault
-  NotChanged : StopsChanging asked reader fault → NoText asked reader fault
+pub data NoText (files : KnownFiles) (asked : Asked) (reader : Device) (fault : Fault) : Type 0 where
+  NotFolded : NoFold files asked.opening reader fault → NoText files asked reader fault
+  NotChanged : StopsChanging files asked reader fault → NoText files asked reader fault
 
 -- this text was written
 pub record Wrote (text : List ℕ) (writer : Device) : Type 0 where
@@ -186,31 +192,32 @@ pub record CannotWrite (text : List ℕ) (writer : Device) (fault : Fault) : Typ
   pub failed : writer.failed ≡ true
 
 -- the text of the state that is asked for was written
-pub record WritesState (asked : Asked) (reader writer : Device) : Type 0 where
+pub record WritesState (files : KnownFiles) (asked : Asked) (reader writer : Device) : Type 0 where
   pub text : List ℕ
-  pub told : TellsState asked reader text
+  pub told : TellsState files asked reader text
   pub written : Wrote text writer
 
 -- or it was cut off
-pub record CutsOff (asked : Asked) (reader writer : Device) (fault : Fault) : Type 0 where
+pub record CutsOff (files : KnownFiles) (asked : Asked) (reader writer : Device) (fault : Fault) : Type 0 where
   pub text : List ℕ
-  pub told : TellsState asked reader text
+  pub told : TellsState files asked reader text
   pub cut : CannotWrite text writer fault
 
 -- how the program stops: there is no text, and nothing is written; or a write failed
-pub data StopsState (asked : Asked) (reader writer : Device) (fault : Fault) : Type 0 where
-  Unwritten : IsUnwritten writer → NoText asked reader fault → StopsState asked reader writer fault
-  HalfWritten : CutsOff asked reader writer fault → StopsState asked reader writer fault
+pub data StopsState (files : KnownFiles) (asked : Asked) (reader writer : Device) (fault : Fault) : Type 0 where
+  Unwritten : IsUnwritten writer → NoText files asked reader fault → StopsState files asked reader writer fault
+  HalfWritten : CutsOff files asked reader writer fault → StopsState files asked reader writer fault
 
 -- how the program ends: its words ask for a state, which it wrote, or it stopped with a fault's status; or the words
 -- have their forms but ask for none, and are refused, or they were answered: then nothing was read
-pub data Exits (words : List (List ℕ)) (reader writer : Device) (status : ℕ) : Type 0 where
-  Writes : (asked : Asked) → AskFor words asked → status ≡ 0 → WritesState asked reader writer
-      → Exits words reader writer status
+pub data Exits (files : KnownFiles) (words : List (List ℕ)) (reader writer : Device) (status : ℕ) : Type 0 where
+  Writes : (asked : Asked) → AskFor words asked → status ≡ 0 → WritesState files asked reader writer
+      → Exits files words reader writer status
   Stops : (asked : Asked) → AskFor words asked → (fault : Fault) → status ≡ status_of fault
-      → StopsState asked reader writer fault
-      → Exits words reader writer status
+      → StopsState files asked reader writer fault
+      → Exits files words reader writer status
   AsksAmiss : faults_in words ≡ [] → (fault : Fault) → status ≡ status_of fault → AskAmiss words fault
       → IsUntouched reader writer
-      → Exits words reader writer status
-  NamesNothing : IsUnread reader → AnswersWords (faults_in words) writer status → Exits words reader writer status
+      → Exits files words reader writer status
+  NamesNothing : IsUnread reader → AnswersWords (faults_in words) writer status
+      → Exits files words reader writer status

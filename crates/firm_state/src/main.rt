@@ -9,9 +9,10 @@
 //! `run` ends in one of four ways (`Exits`). The words ask for a state (`AskFor`): they name one file to open with,
 //! states to join and tenants to keep, whose names have their form.
 //!
-//! - With status 0 the text of that state was written. Some text was a roster, or there was a sound state, as the words
-//!   have it; the input was read to its end, and the state is that after its lines (`Folds`). As many sound states as
-//!   the words name were joined to it, and it was cut to the tenants that they name, who are there (`Changed`).
+//! - With status 0 the text of that state was written. All of the file that the words name was a roster, or a state;
+//!   the input was read to its end, and the state is that after its lines (`Folds`). The states that the words name,
+//!   each once and in their order, were joined to it, and it was cut to the tenants that they name, who are there
+//!   (`Changed`).
 //! - With a fault's status nothing was written, and the fault is the first (`NoText`): the file is refused, and nothing
 //!   was read; the service stopped, for its cause; all was read, and a state to join is refused, one of its tenants
 //!   finds no place, a name is that of no tenant, or memory is short. Or a write failed, behind a front of the text
@@ -23,8 +24,8 @@
 //! By the law `tenants_go_on` (`specs/Laws.antt`) a tenant replies from a state on as from its own: the state is its
 //! own cut to it, its own to which others are joined, or another to which its own is joined.
 //!
-//! No contract says which state is read for which path. Where memory is refused to a line, the program ends with status
-//! 6, since the state of the service that was given the line may be another.
+//! The program ends with status 6 if memory is refused to a line, since the state of the service that was given the
+//! line may be another.
 //!
 //! # How it works
 //!

@@ -1,6 +1,6 @@
 //! The program, over any reader and writers.
 
-ghost use Rattle.std.specs.Prelude.{◌≡◌, false, length, map, MatchResult};
+ghost use Rattle.std.specs.Prelude.{◌≡◌, false, map, MatchResult};
 ghost use Rattle.firm_saved.specs.Saved.{IsSoundSaved, SavedIs};
 ghost use Rattle.firm_saved.specs.StateText.{state_text};
 ghost use Rattle.firm_table.specs.Openings.{opened};
@@ -12,13 +12,12 @@ ghost use Rattle.firm_state.specs.inner.Options.{asked_by};
 use crate::discard::Discard;
 use crate::options::{Request, read};
 use crate::states::{cut, join_files};
-use firm_program::{Fault, Named, answer_words, read_roster, read_state, tell};
+use firm_program::{Fault, FileSystem, Named, answer_words, read_roster, read_state, tell};
 use firm_saved::{Saved, put_state};
 use firm_table::{MOST_INPUT, Opening, ServeFault, serve_to_state};
 use firm_text::{Sink, Source, write_all};
 use std::alloc::Global;
 use std::convert::AsStr;
-use std::rt::Files;
 
 /// The program's name, before its faults.
 pub(crate) const NAME: &str = "firm_state";
@@ -34,7 +33,7 @@ pub struct Sinks<O: Sink, F: Sink> {
 /// `output`, once all is read and well; a failed write to `faults` changes no status. The first fault decides, in this
 /// order: the command line, the file of the roster or the state, the input, the states to join, the tenants to keep,
 /// writing.
-pub fn run<R: Files, S: AsStr, I: Source, O: Sink, F: Sink>(
+pub fn run<R: FileSystem, S: AsStr, I: Source, O: Sink, F: Sink>(
     rt: &R,
     alloc: Global,
     words: &[S],
@@ -43,7 +42,8 @@ pub fn run<R: Files, S: AsStr, I: Source, O: Sink, F: Sink>(
 ) -> u8
     requires reader { I.read_failed reader.old ≡ false }
     requires writer { O.write_failed sinks.old.output ≡ false }
-    ensures { Exits (map S.text words.now) (device (I.left reader.old) (I.left reader.new) (I.read_failed reader.new))
+    ensures { Exits (R.bytes_at rt.now) (map S.text words.now)
+        (device (I.left reader.old) (I.left reader.new) (I.read_failed reader.new))
         (device (O.written sinks.old.output) (O.written sinks.new.output) (O.write_failed sinks.new.output)) result }
 {
     let given = match read(alloc, words) {
@@ -63,7 +63,7 @@ pub fn run<R: Files, S: AsStr, I: Source, O: Sink, F: Sink>(
 }
 
 // Writes the state that is asked for.
-fn write_state<R: Files, I: Source, O: Sink>(
+fn write_state<R: FileSystem, I: Source, O: Sink>(
     rt: &R,
     alloc: Global,
     request: &Request<'_>,
@@ -73,10 +73,10 @@ fn write_state<R: Files, I: Source, O: Sink>(
     requires reader { I.read_failed reader.old ≡ false }
     requires writer { O.write_failed writer.old ≡ false }
     ensures { MatchResult result
-        (λ _. WritesState (asked_by request.now)
+        (λ _. WritesState (R.bytes_at rt.now) (asked_by request.now)
         (device (I.left reader.old) (I.left reader.new) (I.read_failed reader.new))
         (device (O.written writer.old) (O.written writer.new) (O.write_failed writer.new)))
-        (StopsState (asked_by request.now)
+        (StopsState (R.bytes_at rt.now) (asked_by request.now)
         (device (I.left reader.old) (I.left reader.new) (I.read_failed reader.new))
         (device (O.written writer.old) (O.written writer.new) (O.write_failed writer.new))) }
 {
@@ -98,7 +98,7 @@ fn write_out<O: Sink>(writer: &mut O, text: &[u8]) -> Result<(), Fault>
 }
 
 // The text of the state that is asked for.
-fn text_asked<R: Files, I: Source>(
+fn text_asked<R: FileSystem, I: Source>(
     rt: &R,
     alloc: Global,
     request: &Request<'_>,
@@ -106,9 +106,9 @@ fn text_asked<R: Files, I: Source>(
 ) -> Result<Vec<u8>, Fault>
     requires { I.read_failed reader.old ≡ false }
     ensures { MatchResult result
-        (λ text. TellsState (asked_by request.now)
+        (λ text. TellsState (R.bytes_at rt.now) (asked_by request.now)
         (device (I.left reader.old) (I.left reader.new) (I.read_failed reader.new)) text.items)
-        (NoText (asked_by request.now)
+        (NoText (R.bytes_at rt.now) (asked_by request.now)
         (device (I.left reader.old) (I.left reader.new) (I.read_failed reader.new))) }
 {
     let mut text = text_after(rt, alloc, request.named, reader)?;
@@ -120,7 +120,7 @@ fn text_asked<R: Files, I: Source>(
 }
 
 // The text of the state after the input, of a service that opens with the file.
-fn text_after<R: Files, I: Source>(
+fn text_after<R: FileSystem, I: Source>(
     rt: &R,
     alloc: Global,
     named: Named<'_>,
@@ -128,9 +128,10 @@ fn text_after<R: Files, I: Source>(
 ) -> Result<Vec<u8>, Fault>
     requires { I.read_failed reader.old ≡ false }
     ensures { MatchResult result
-        (λ text. FoldsText named.entry
+        (λ text. FoldsText (R.bytes_at rt.now) named.entry
         (device (I.left reader.old) (I.left reader.new) (I.read_failed reader.new)) text.items)
-        (NoFold named.entry (device (I.left reader.old) (I.left reader.new) (I.read_failed reader.new))) }
+        (NoFold (R.bytes_at rt.now) named.entry
+        (device (I.left reader.old) (I.left reader.new) (I.read_failed reader.new))) }
 {
     match named {
         Named::Roster(path) => match read_roster(rt, alloc, path) {
@@ -165,7 +166,7 @@ fn fold<I: Source>(alloc: Global, opening: Opening<'_>, reader: &mut I) -> Resul
 }
 
 // Replaces the text of a state by that of the state once others are joined to it, and it is cut to the named tenants.
-fn change<R: Files>(
+fn change<R: FileSystem>(
     rt: &R,
     alloc: Global,
     request: &Request<'_>,
@@ -173,9 +174,9 @@ fn change<R: Files>(
 ) -> Result<(), Fault>
     ensures { MatchResult result
         (λ _. (saved : SavedIs) → IsSoundSaved saved → text.old.items ≡ state_text saved
-        → ChangesText request.now.names.items (length request.now.others.items) saved text.new.items)
+        → ChangesText (R.bytes_at rt.now) (asked_by request.now) saved text.new.items)
         (λ fault. (saved : SavedIs) → IsSoundSaved saved → text.old.items ≡ state_text saved
-        → NoChange request.now.names.items (length request.now.others.items) saved fault) }
+        → NoChange (R.bytes_at rt.now) (asked_by request.now) saved fault) }
 {
     let alone = Saved::read(alloc, text)?;
     let both = join_files(rt, alloc, alone, &request.others)?;

@@ -1,25 +1,26 @@
 //! The states that are joined and cut.
 
-ghost use Rattle.std.specs.Prelude.{◌≡◌, All, IfNone, IfSome, MatchResult, is_some, length, true};
+ghost use Rattle.std.specs.Prelude.{◌≡◌, All, IfNone, IfSome, MatchResult, is_some, true};
 ghost use Rattle.firm_parts.specs.Parts.{book_in};
+ghost use Rattle.firm_state.specs.CommandLine.{texts};
 ghost use Rattle.firm_state.specs.Program.{CutsTo, IsMissing, JoinsAll, StopsCutting, StopsJoining};
 
 use firm_parts::{cut_to, has_tenant, join};
-use firm_program::{Fault, read_state};
+use firm_program::{Fault, FileSystem, read_state};
 use firm_rules::Name;
 use firm_saved::Saved;
 use firm_text::OperatorRefusal;
 use std::alloc::Global;
-use std::rt::Files;
 
 /// The state with those of the files joined to it, in their order.
-pub(crate) fn join_files<R: Files>(
+pub(crate) fn join_files<R: FileSystem>(
     rt: &R,
     alloc: Global,
     saved: Saved,
     paths: &[&str],
 ) -> Result<Saved, Fault>
-    ensures { MatchResult result (JoinsAll (length paths.now) saved) (StopsJoining (length paths.now) saved) }
+    ensures { MatchResult result (JoinsAll (R.bytes_at rt.now) (texts paths.now) saved)
+        (StopsJoining (R.bytes_at rt.now) (texts paths.now) saved) }
 {
     let mut joined = saved;
     for path in paths {

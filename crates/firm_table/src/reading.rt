@@ -19,9 +19,8 @@ pub const MOST_INPUT: u64 = 4_294_967_296;
 const PIECE: usize = 4_096;
 
 /// Has a clerk answer the lines of an input of at most `most` bytes, itself at most 2^32, which are read under the
-/// clerk's heading. Before each read the clerk
-/// writes the answers that it can, including those that arrive while a read would wait; at the end it writes all
-/// answers, and the writer is flushed.
+/// clerk's heading. Before each read the clerk writes the answers that it can, including those that arrive while a read
+/// would wait; at the end it writes all answers, and the writer is flushed.
 ///
 /// On `Ok` a read has found the end of the input, and what was written is the output for all of it. After a fault, what
 /// was written is a prefix of the output for the bytes read. `Read` and `Write` say that a call of the reader or the

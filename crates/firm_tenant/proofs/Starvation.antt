@@ -1,5 +1,5 @@
 -- A task that is there throughout is placed within its longest wait.
-use Rattle.std.proofs.Common.{◌≡◌, ℕ, zero, suc, ◌+◌, ◌-◌, ◌*◌, ◌<◌, ◌≤◌, Bool, true, false, cond, ◌||◌, List}
+use Rattle.std.proofs.Common.{◌≡◌, ℕ, zero, suc, ◌+◌, ◌-◌, ◌<◌, ◌≤◌, Bool, true, false, cond, ◌||◌, List}
 use Rattle.std.proofs.Common.{[], ◌∷◌, length, count_by, refl, sym, ap, subst, ◌∙◌, arith, ⊎_elim}
 use Rattle.std.proofs.Common.{Some}
 use Rattle.std.specs.Prelude.{nat_lt, slice_get, slice_index, if◌then◌else◌}

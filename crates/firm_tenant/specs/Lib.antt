@@ -2,4 +2,5 @@ pub mod Step
 pub mod Alone
 pub mod Laws
 pub mod Starvation
+pub mod Counts
 pub mod inner

@@ -12,8 +12,12 @@
 //!
 //! A round is sought on flat tables by firm_proposals, which proves nothing of what it finds, and taken only if
 //! firm_rents shows it to be the round's (`proposals.rt`); the case that both read stands beside the rows. Else
-//! firm_canon searches in the net. The tables are taken when the tenant is admitted, within its limits; a proposal's
-//! looks are bounded, and counted apart from those of the searches.
+//! firm_canon searches in the net. The tables are taken when the tenant is admitted, within its limits.
+//!
+//! A round makes at most one proposal, which counts its looks together with its check, apart from searches: at most as
+//! many as are allowed and, if these allow it, one at least for each task and machine (`specs/inner/Pools.antt`). A
+//! proposed round makes no search in the net. What `Tenant::scratch` counts is of one round, begun at most once a
+//! command (`specs/Counts.antt`).
 #![tactic(auto)]
 
 mod laws;

@@ -3,10 +3,11 @@ ghost use Rattle.std.specs.Prelude.{◌≡◌, ◌+◌, ◌^◌, ◌<◌, ◌≤
 ghost use Rattle.firm_rules.specs.Placement.{is_legal};
 ghost use Rattle.firm_rules.specs.Round.{case_of, round_placement};
 ghost use Rattle.firm_rules.specs.SoundBook.{is_cost};
+ghost use Rattle.firm_tenant.specs.Counts.{HasCountedWithin};
 ghost use Rattle.firm_tenant.specs.Step.{effect, counts_of, is_memory_outcome};
 ghost use Rattle.firm_tenant.specs.inner.Outcomes.{outcome_of, plain_or};
 ghost use Rattle.firm_tenant.specs.inner.Pools.{book_of, IsMadeFor, IsOpeningPool, IsPoolOf, IsSoundPool, placed_in};
-ghost use Rattle.firm_tenant.specs.inner.Pools.{HasBegunOnce, HasCountedFor};
+ghost use Rattle.firm_tenant.specs.inner.Pools.{HasBegunOnce, HasCountedFor, HasCountedNothing, allowing};
 
 use crate::proposals::Proposals;
 use circular_buffer::HeapCircularBuffer;
@@ -32,7 +33,7 @@ pub(crate) struct Pool {
 }
 
 impl Model for Pool {
-    ghost use Rattle.std.specs.Prelude.{◌≡◌, true, All};
+    ghost use Rattle.std.specs.Prelude.{◌≡◌, ◌^◌, ◌≤◌, true, All};
     ghost use Rattle.firm_rules.specs.SoundBook.{is_cost};
     ghost use Rattle.firm_tenant.specs.inner.Pools.{Pool as PoolRows, IsMadeFor};
 
@@ -42,17 +43,26 @@ impl Model for Pool {
       rows = p.graph.rows;
       costs = p.costs.items;
       asked = p.graph.asked;
-      workspace = p.scratch;
+      workspace = record {
+        net = p.scratch;
+        proposed = record {
+          tries = p.proposals.proposer.value.tries;
+          looks = p.proposals.work.looks;
+          allowed = p.proposals.allowed;
+        };
+      };
     } };
 
     ghost invariant = { λ p. (p.costs.capacity ≡ 8) × IsMadeFor p.prices.limits p.graph.rows.limits
-        × IsMadeFor p.scratch.limits p.graph.rows.limits × All (λ cost. is_cost cost ≡ true) p.costs.items };
+        × IsMadeFor p.scratch.limits p.graph.rows.limits × All (λ cost. is_cost cost ≡ true) p.costs.items
+        × (p.proposals.work.looks ≤ 2 ^ 26) × (p.proposals.allowed ≤ 2 ^ 26) };
 }
 
 impl Pool {
     /// The empty pool of a new tenant, with all the memory of its net and proposals. Fails only if memory is refused.
     pub(crate) fn open(alloc: Global, limits: Limits) -> Result<Pool, AllocError>
-        ensures { IfOk result (IsOpeningPool limits) }
+        ensures pool { IfOk result (IsOpeningPool limits) }
+        ensures counted { IfOk result (λ pool. HasCountedWithin (book_of pool 0) pool.workspace.net) }
     {
         let costs = HeapCircularBuffer::with_capacity(alloc, MOST_COSTS)?;
         let graph = Graph::open(alloc, limits)?;
@@ -61,7 +71,8 @@ impl Pool {
 
     /// The pool of a book, with all the memory of its net and proposals. Fails only if memory is refused.
     pub(crate) fn restore(alloc: Global, book: &Book) -> Result<Pool, AllocError>
-        ensures { IfOk result (IsPoolOf book.now) }
+        ensures pool { IfOk result (IsPoolOf book.now) }
+        ensures counts { IfOk result (λ pool. HasCountedNothing pool.workspace) }
     {
         let costs = ring_of(alloc, book.costs())?;
         let graph = Graph::of_rows(alloc, book.rows())?;
@@ -79,8 +90,7 @@ impl Pool {
         ensures rows { IfOk result (λ pool. pool.rows ≡ graph.rows) }
         ensures costs { IfOk result (λ pool. pool.costs ≡ costs.items) }
         ensures asked { IfOk result (λ pool. pool.asked ≡ graph.asked) }
-        ensures counts { IfOk result (λ pool. (pool.workspace.begins ≡ 0) × (pool.workspace.searches ≡ 0)
-            × (pool.workspace.looks ≡ 0)) }
+        ensures counts { IfOk result (λ pool. HasCountedNothing pool.workspace) }
     {
         let (proposals, prices, scratch) = workspace(alloc, &graph)?;
         Ok(Pool {
@@ -108,17 +118,25 @@ impl Pool {
         self.graph.rows()
     }
 
-    /// The workspace of the rounds.
+    /// The workspace of the searches of rounds.
     pub(crate) fn scratch(&self) -> &Scratch
-        ensures counts { result.now ≡ self.now.workspace }
+        ensures counts { result.now ≡ self.now.workspace.net }
         ensures limits { result.now.limits ≡ (self.now.rows.limits.nodes, self.now.rows.limits.arcs) }
     {
         &self.scratch
     }
 
-    /// Sets how many looks the proposal of a round may take, at most 2^24.
+    /// How many looks the last round's proposal and its check took.
+    pub(crate) fn proposed(&self) -> u64
+        ensures looks { result ≡ self.now.workspace.proposed.looks }
+        ensures most { result ≤ 2 ^ 26 }
+    {
+        self.proposals.looks()
+    }
+
+    /// Sets how many looks a round's proposal and its check may take, at most 2^26.
     pub(crate) fn allow_proposals(&mut self, looks: u64)
-        ensures { self.new ≡ self.old }
+        ensures { self.new ≡ record self.old { workspace = allowing self.old.workspace looks } }
     {
         self.proposals.allow(looks);
     }
@@ -296,7 +314,7 @@ impl Pool {
         self.graph.asked();
         self.scratch.begin();
         let case = self.graph.rows().case();
-        if let Some(placement) = self.proposals.first(alloc, case, &mut self.scratch)? {
+        if let Some(placement) = self.proposals.first(alloc, case)? {
             return Ok(placement);
         }
         first_best(alloc, &mut self.graph, &mut self.prices, &mut self.scratch)
@@ -362,6 +380,8 @@ fn workspace(alloc: Global, graph: &Graph) -> Result<(Proposals, Prices, Scratch
     ensures prices { IfOk result (λ made. IsMadeFor made.1.limits graph.now.rows.limits) }
     ensures scratch { IfOk result (λ made. IsMadeFor made.2.limits graph.now.rows.limits) }
     ensures counts { IfOk result (λ made. (made.2.begins ≡ 0) × (made.2.searches ≡ 0) × (made.2.looks ≡ 0)) }
+    ensures proposals { IfOk result (λ made. (made.0.proposer.value.tries ≡ 0) × (made.0.work.looks ≡ 0)
+        × (made.0.allowed ≤ 2 ^ 26)) }
 {
     let proposals = Proposals::open(alloc, graph.rows().limits())?;
     let prices = Prices::new(alloc, graph.net())?;

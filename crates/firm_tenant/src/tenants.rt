@@ -1,7 +1,8 @@
 //! A tenant and its step.
-ghost use Rattle.std.specs.Prelude.{◌≡◌, ◌+◌, ◌<◌, true, IfOk};
+ghost use Rattle.std.specs.Prelude.{◌≡◌, ◌+◌, ◌^◌, ◌<◌, ◌≤◌, true, IfOk};
 ghost use Rattle.firm_rules.specs.Book.{opening_book};
 ghost use Rattle.firm_rules.specs.SoundBook.{IsSoundBook};
+ghost use Rattle.firm_tenant.specs.Counts.{HasCountedWithin};
 ghost use Rattle.firm_tenant.specs.Step.{step, is_memory};
 
 use crate::pools::Pool;
@@ -32,13 +33,15 @@ impl Model for Tenant {
     ghost use Rattle.std.specs.Prelude.{◌≤◌};
     ghost use Rattle.firm_rules.specs.Book.{Book as BookRow};
     ghost use Rattle.firm_rules.specs.SoundBook.{IsSoundBook};
+    ghost use Rattle.firm_tenant.specs.Counts.{HasCountedWithin};
     ghost use Rattle.firm_tenant.specs.inner.Pools.{book_of};
 
     ghost Value = { BookRow };
 
     ghost view = { λ t. book_of t.pool.value t.given };
 
-    ghost invariant = { λ t. IsSoundBook (book_of t.pool.value t.given) × (t.pool.value.asked ≤ t.given) };
+    ghost invariant = { λ t. IsSoundBook (book_of t.pool.value t.given) × (t.pool.value.asked ≤ t.given)
+        × HasCountedWithin (book_of t.pool.value t.given) t.pool.value.workspace.net };
 }
 
 impl Tenant {
@@ -137,20 +140,28 @@ impl Tenant {
         self.pool.rows().limits()
     }
 
-    /// Sets how many looks the proposal of a round may take, at most 2^24, which is what a new tenant allows. With 0
-    /// rounds are found by searches in the net alone. No reply depends on it.
+    /// Sets how many looks a round's proposal and its check may take, at most 2^26, which is what a new tenant allows.
+    /// With 0 rounds are found by searches in the net alone. No reply depends on it.
     pub fn allow_proposals(&mut self, looks: u64)
         ensures { self.new ≡ self.old }
     {
         self.pool.allow_proposals(looks);
     }
 
-    /// The workspace of the tenant's rounds, for a net of the tenant's limits. That it counts the searches and looks of
-    /// the last round, and the looks of its proposal, is a clause of the pool's answer, private.
+    /// The workspace of the searches of rounds, for a net of the tenant's limits: whatever commands were given, each
+    /// began a count at most once, and the last count is of few searches, each with at most two looks for each arc.
     pub fn scratch(&self) -> &Scratch
-        ensures { result.now.limits ≡ (self.now.rows.limits.nodes, self.now.rows.limits.arcs) }
+        ensures limits { result.now.limits ≡ (self.now.rows.limits.nodes, self.now.rows.limits.arcs) }
+        ensures counts { HasCountedWithin self.now result.now }
     {
         self.pool.scratch()
+    }
+
+    /// How many looks the last round's proposal and its check took.
+    pub fn proposed(&self) -> u64
+        ensures { result ≤ 2 ^ 26 }
+    {
+        self.pool.proposed()
     }
 
     /// The tenant's machines, jobs and tasks.

@@ -7,8 +7,8 @@ use Rattle.std.specs.List.{slice_split}
 use Rattle.std.specs.Result.{result_map_both}
 use Rattle.firm_rules.specs.Names.{name_of}
 use Rattle.firm_text.specs.Commands.{◌>>=◌, command_of}
-use Rattle.firm_text.specs.Inputs.{command_for, is_comment, line_under, longest_line, words_line}
-use Rattle.firm_text.specs.LineLaws.{AdmitsWhatFits, RefusesForTheForm}
+use Rattle.firm_text.specs.Inputs.{command_for, command_to, is_comment, line_under, longest_line, words_line}
+use Rattle.firm_text.specs.LineLaws.{AdmitsWhatFits, RefusesForTheForm, TenantsReadNoHeading}
 use Rattle.firm_text.specs.Lines.{words}
 use Rattle.firm_text.specs.OperatorLines.{admit_line, is_comma, line_or_fault, operator_line_of}
 use Rattle.firm_text.specs.OperatorLines.{operator_word, retire_line, row_refusal}
@@ -101,3 +101,26 @@ refuses_for_the_form heading bytes refusal is = rw is at (formal_line heading by
 
 pub admits_what_fits : AdmitsWhatFits
 admits_what_fits heading bytes name limits is = rw is at (formal_line heading bytes)
+
+words_alike : (heading other : Heading) (name : List ℕ) (line : List (List ℕ))
+    → command_to name (words_line heading line) ≡ command_to name (words_line other line)
+words_alike heading other name [] = refl
+words_alike heading other name (first ∷ rest) = chosen (bytes_eq first operator_word)
+  where
+    chosen : (operator : Bool)
+        → command_to name (if operator then Operator (operator_line_of heading rest)
+        else command_for (name_of first) (command_of rest))
+        ≡ command_to name (if operator then Operator (operator_line_of other rest)
+        else command_for (name_of first) (command_of rest))
+    chosen true = refl
+    chosen false = refl
+
+pub tenants_read_no_heading : TenantsReadNoHeading
+tenants_read_no_heading heading other bytes name = chosen (is_comment bytes) (nat_lt longest_line (length bytes))
+  where
+    chosen : (comment long : Bool)
+        → command_to name (if comment then Nothing else if long then Long else words_line heading (words bytes))
+        ≡ command_to name (if comment then Nothing else if long then Long else words_line other (words bytes))
+    chosen true long = refl
+    chosen false true = refl
+    chosen false false = words_alike heading other name (words bytes)

@@ -1,7 +1,7 @@
 //! The heading of a roster, as far as it decides what lines mean.
 
 /// How the lines of a service are read: as the heading of the roster with which it began says.
-#[derive(Clone, Copy, Debug, PartialEq, Eq)]
+#[derive(Clone, Copy)]
 pub enum Heading {
     /// A heading of six or seven fields: a tenant's row has no others.
     Plain,

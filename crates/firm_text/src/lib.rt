@@ -39,7 +39,10 @@ pub use devices::{Failed, Sink, Source, write_all};
 pub use faults::RosterFault;
 pub use headings::Heading;
 pub use inputs::Line;
-pub use laws::{admits_records, admits_what_fits, refuses_first_fault, refuses_for_the_form};
+pub use laws::{
+    admits_records, admits_what_fits, refuses_first_fault, refuses_for_the_form,
+    tenants_read_no_heading,
+};
 pub use numbers::number;
 pub use operator::{OperatorLine, OperatorRefusal, OperatorReply};
 pub use reading::{line, line_under};

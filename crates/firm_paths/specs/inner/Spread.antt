@@ -1,6 +1,6 @@
 -- What the search for a tight path keeps.
 use Rattle.std.specs.Prelude.{◌≡◌, ℕ, ◌+◌, ◌<◌, ◌≤◌, Bool, true, false, List, [], ◌∷◌, ◌++◌, length, Contains, Some}
-use Rattle.std.specs.Prelude.{◌⊎◌, Option, IfSome, slice_index_or, slice_set, count_by, if◌then◌else◌}
+use Rattle.std.specs.Prelude.{◌⊎◌, Option, IfSome, slice_index, slice_index_or, slice_set, count_by, if◌then◌else◌}
 use Rattle.firm_net.specs.Row.{Row}
 use Rattle.firm_net.specs.Net.{Net, IsNode, row_at, IsResidual as IsOpen}
 use Rattle.firm_net.specs.declared.row.ArcId.{ArcId}
@@ -54,6 +54,14 @@ pub record Agree (seen : List Bool) (vs : List Visit) : Type 0 where
   pub met : (k : ℕ) → k < length vs → is seen (visit vs k).place ≡ true
   pub order : (k : ℕ) → k < length vs → IfSome (visit vs k).predecessor (λ h. h.after < k)
   pub few : length vs ≤ length seen
+
+-- no node was visited twice
+abbrev pub AreApart : List Visit → Type 0
+AreApart vs = (i j : ℕ) → i < j → j < length vs → (visit vs i).place ≡ (visit vs j).place → ⊥
+
+-- at the place of each visit stands its number
+abbrev pub AreNumbered : List ℕ → List Visit → Type 0
+AreNumbered numbers vs = (k : ℕ) → k < length vs → slice_index numbers (visit vs k).place ≡ k
 
 -- the arc is barred, or where it is tight and residual against the way in which it is read, the node that it comes from
 -- was seen

@@ -1,5 +1,5 @@
 -- The command line as the parser's own command, and what is made of the words that its options give.
-use Rattle.std.specs.Prelude.{◌≡◌, ℕ, List, All, length, true}
+use Rattle.std.specs.Prelude.{◌≡◌, ℕ, List, All, true}
 use Rattle.clap.specs.Words.{app_of}
 use Rattle.clap.specs.declared.builder.command.Command.{Command}
 use Rattle.firm_rules.specs.Names.{is_name}
@@ -22,12 +22,12 @@ pub record AreNames (words names : List (List ℕ)) : Type 0 where
 -- what a request asks for
 abbrev pub asked_by : Request → Asked
 asked_by request =
-    record { opening = request.named; others = length request.others.items; names = request.names.items }
+    record { opening = request.named; others = texts request.others.items; names = request.names.items }
 
 -- the request is what the words give
 pub record AsksFor (given : Given) (request : Request) : Type 0 where
   pub named : IsNamed given.roster given.state request.named
-  pub others : length request.others.items ≡ length given.others.items
+  pub others : texts request.others.items ≡ texts given.others.items
   pub names : AreNames (texts given.tenants.items) request.names.items
 
 -- or they give none

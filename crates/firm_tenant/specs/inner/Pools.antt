@@ -1,6 +1,6 @@
 -- A tenant's book without its count of commands, how many rows were asked for and added, and the workspace of its
 -- rounds.
-use Rattle.std.specs.Prelude.{◌≡◌, ℕ, ℤ, ◌+◌, ◌*◌, ◌^◌, ◌≤◌, true, List, [], All, length, pos}
+use Rattle.std.specs.Prelude.{◌≡◌, ℕ, ℤ, ◌+◌, ◌*◌, ◌^◌, ◌≤◌, true, List, [], All, length, min, pos}
 use Rattle.firm_paths.specs.Workspace.{Workspace, HasCounted}
 use Rattle.firm_rules.specs.ArenaUse.{arena_arcs}
 use Rattle.firm_rules.specs.Limits.{TenantLimits}
@@ -16,19 +16,43 @@ use Rattle.firm_rules.specs.declared.rounds.Choice.{Choice}
 use Rattle.firm_rules.specs.declared.replies.Outcome.{Outcome}
 use Rattle.firm_rules.specs.declared.replies.Outcome.TheVariants.{Round}
 
--- the rows, the costs of the last rounds, how many rows were ever added, and what the workspace counts
+-- how often a round was to be proposed, how many looks the last proposal and its check took, and how many are allowed
+pub record Proposed : Type 0 where
+  pub tries : ℕ
+  pub looks : ℕ
+  pub allowed : ℕ
+
+-- what rounds count: their searches in the net, and their proposals
+pub record Counts : Type 0 where
+  pub net : Workspace
+  pub proposed : Proposed
+
+-- the rows, the costs of the last rounds, how many rows were ever added, and what the rounds count
 pub record Pool : Type 0 where
   pub rows : TenantRows
   pub costs : List ℤ
   pub asked : ℕ
-  pub workspace : Workspace
+  pub workspace : Counts
 
--- the empty pool of a new tenant with these limits, whose workspace has counted nothing
+-- no search was counted, and no proposal
+pub record HasCountedNothing (counts : Counts) : Type 0 where
+  pub begins : counts.net.begins ≡ 0
+  pub searches : counts.net.searches ≡ 0
+  pub looks : counts.net.looks ≡ 0
+  pub tries : counts.proposed.tries ≡ 0
+  pub proposed : counts.proposed.looks ≡ 0
+
+-- the same counts, where each proposal is allowed this many looks, at most 2^26
+abbrev pub allowing : Counts → ℕ → Counts
+allowing counts looks =
+    record counts { proposed = record counts.proposed { allowed = min looks (2 ^ 26) } }
+
+-- the empty pool of a new tenant with these limits, which has counted nothing
 pub record IsOpeningPool (limits : TenantLimits) (pool : Pool) : Type 0 where
   pub rows : pool.rows ≡ opening_rows limits
   pub costs : pool.costs ≡ []
   pub asked : pool.asked ≡ 0
-  pub counts : (pool.workspace.begins ≡ 0) × (pool.workspace.searches ≡ 0) × (pool.workspace.looks ≡ 0)
+  pub counts : HasCountedNothing pool.workspace
 
 -- the pool of a book, to which each of its rows was added once
 pub record IsPoolOf (book : Book) (pool : Pool) : Type 0 where
@@ -59,14 +83,19 @@ placed_in pool placement =
 abbrev pub IsMadeFor : ℕ × ℕ → TenantLimits → Type 0
 IsMadeFor room limits = room ≡ (limits.nodes, limits.arcs)
 
--- a choice was begun once, and the counts since then are its own: few searches, each with at most two looks per arc,
--- and the looks of a proposal
+-- a choice was begun once, and the counts since then are its own: few searches, each with at most two looks per arc; at
+-- most one proposal, which with its check takes no more looks than are allowed, and no fewer than there are tasks and
+-- machines, if these are allowed
 pub record HasBegunOnce (old new : Pool) : Type 0 where
-  pub begins : HasCounted old.workspace.begins new.workspace.begins 1
-  pub searches : new.workspace.searches ≤ length old.rows.tasks * (length old.rows.machines + 4)
-  pub looks : new.workspace.looks
+  pub begins : HasCounted old.workspace.net.begins new.workspace.net.begins 1
+  pub searches : new.workspace.net.searches ≤ length old.rows.tasks * (length old.rows.machines + 4)
+  pub looks : new.workspace.net.looks
       ≤ length old.rows.tasks * (length old.rows.machines + 4) * (2 * arena_arcs old.rows)
-  pub proposed : new.workspace.proposed ≤ 2 ^ 24
+  pub tries : new.workspace.proposed.tries ≤ old.workspace.proposed.tries + 1
+  pub allowed : new.workspace.proposed.allowed ≡ old.workspace.proposed.allowed
+  pub proposed : new.workspace.proposed.looks ≤ old.workspace.proposed.allowed
+  pub entries : length old.rows.tasks + length old.rows.machines ≤ old.workspace.proposed.allowed
+      → length old.rows.tasks + length old.rows.machines ≤ new.workspace.proposed.looks
 
 -- what a command counts: a round begins once, and no other command changes the counts
 abbrev pub HasCountedFor : Command → Pool → Pool → Type 0

@@ -23,15 +23,15 @@ fn choose_in(
     first_best(alloc, graph, prices, scratch).expect(rt, "memory")
 }
 
-/// Searches, their looks, and the looks of proposals.
-pub type Counts = (u64, u64, u64);
+/// Searches and their looks.
+pub type Counts = (u64, u64);
 
 // The placement of a round, and what it took.
 fn choose(rt: &impl Abort, alloc: Global, graph: &mut Graph) -> (Vec<Choice>, Counts) {
     let mut space = Workspace::new(rt, alloc, graph.net());
     let placement = choose_in(rt, alloc, graph, &mut space);
     let scratch = &space.scratch;
-    let counts = (scratch.searches(), scratch.looks(), scratch.proposed());
+    let counts = (scratch.searches(), scratch.looks());
     (placement, counts)
 }
 
@@ -64,10 +64,7 @@ fn play(rt: &impl Abort, alloc: Global, (room, rows, wanted): &Counted) {
     expect(rt, choose(rt, alloc, &mut graph).1, *wanted);
 }
 
-static COUNTED: [Counted; 2] = [
-    ([9, 24], [2, 2], (3, 47, 0)),
-    ([33, 91], [10, 20], (20, 1321, 0)),
-];
+static COUNTED: [Counted; 2] = [([9, 24], [2, 2], (3, 47)), ([33, 91], [10, 20], (20, 1321))];
 
 #[test]
 fn what_searches_take_is_counted(rt: HostRuntime) {

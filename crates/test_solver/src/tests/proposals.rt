@@ -4,7 +4,8 @@ use super::canon::placement_of;
 use super::random::Random;
 use super::{check, expect};
 use firm_graph::Graph;
-use firm_proposals::{Allowance, Proposer, Work};
+use firm_levels::{Allowance, Work};
+use firm_proposals::Proposer;
 use firm_rents::shows_first;
 use firm_rules::{Case, Choice, Limits, Name, Preferred, Rows, use_of};
 use std::alloc::Global;
@@ -53,13 +54,15 @@ fn ample() -> Work {
 fn expect_shown(rt: &impl Abort, proposer: &Proposer, case: &Case, wanted: &[Choice]) {
     let placement = proposer.placement();
     check(rt, placement == wanted, "the round's placement");
-    expect(rt, shows_first(case, proposer.rents(), placement), true);
+    let is_shown = shows_first(case, proposer.rents(), placement, &mut ample());
+    check(rt, is_shown, "a placement that is shown");
 }
 
 // Whether a round is proposed with the hub's price of the last one, and shown.
 fn is_first(proposer: &mut Proposer, case: &Case, work: &mut Work) -> bool {
     let hint = proposer.hub_price();
-    proposer.propose(case, hint, work) && shows_first(case, proposer.rents(), proposer.placement())
+    proposer.propose(case, hint, work)
+        && shows_first(case, proposer.rents(), proposer.placement(), work)
 }
 
 // The round is proposed from the last one, and shown.
@@ -164,7 +167,7 @@ fn compare_rounds(rt: &impl Abort, alloc: Global, book: &mut Book, random: &mut 
     let mut cut_off = 0_u64;
     for _ in 0..4 {
         change(rt, alloc, &mut book.graph, random);
-        let looks = u64::from(random.below(200));
+        let looks = u64::from(random.below(2_000));
         let is_cut_off = compare(rt, alloc, book, looks);
         cut_off = cut_off.saturating_add(u64::from(is_cut_off));
     }
@@ -230,13 +233,14 @@ fn place_crowd(rt: &impl Abort, alloc: Global, book: &mut Book) {
     check(rt, work.searches() < 20, "a crowd takes few searches");
 }
 
-// Where no search is allowed none is made: three looks at each task find that some have no slot.
+// Where no search is allowed none is made, though some of the tasks have no slot.
 fn expect_no_search(rt: &impl Abort, proposer: &mut Proposer, case: &Case) {
     let looks = 1_000_000;
     let mut work = Work::new(Allowance { searches: 0, looks });
     let is_proposed = proposer.propose(case, None, &mut work);
     check(rt, !is_proposed, "a search is refused");
-    expect(rt, work.looks(), 3 * 44);
+    expect(rt, work.searches(), 0);
+    check(rt, work.looks() > 3 * 44, "each task is looked at");
 }
 
 /// Heavier tasks that come to full machines take the places of the lightest, without a search for each.

@@ -1,12 +1,9 @@
 use Rattle.std.proofs.Common.{◌≡◌, ◌++◌, List}
 use Rattle.firm_rules.specs.declared.tickets.Ticket.{Ticket}
-use Rattle.firm_bell.specs.declared.rule.Stage.TheVariants.{Awake}
-use Rattle.firm_bell.specs.Steps.{StandsAt}
 use Rattle.firm_hall.proofs.workers.worker.Given as goal
 
 abbrev pub invariant-loop : goal.invariant-loop
 invariant-loop g l = record {
   queue : l.taken.queue ≡ l.hall.id;
   got : (more : List Ticket) × (l.taken.got ≡ l.fn.pass.got ++ more);
-  listens : StandsAt l.bell Awake l.listener;
 }

@@ -65,6 +65,8 @@ invariant_of-scratch c = (
   omega (arith, c.scratch.invariant.4, c.find_shortest-found.ensures.capacity),
   c.scratch.invariant.5,
   c.scratch.invariant.6,
+  c.scratch.invariant.7,
+  c.scratch.invariant.8,
 )
 
 pub invariant_of-scratch-2 : goal.invariant_of-scratch-2
@@ -76,6 +78,8 @@ invariant_of-scratch-2 c = (
   omega (arith, c.scratch.invariant.4, c.find_shortest-found.ensures.capacity),
   c.scratch.invariant.5,
   omega (arith, c.scratch.invariant.6, c.walk_back.ensures.capacity),
+  c.scratch.invariant.7,
+  c.scratch.invariant.8,
 )
 
 pub returns : goal.returns

@@ -1,4 +1,4 @@
-use Rattle.std.proofs.Common.{◌≡◌, ◌∙◌, ℕ, Some, ap, refl, sym, subst, rules, List}
+use Rattle.std.proofs.Common.{◌≡◌, ◌∙◌, ℕ, Some, ap, arith, refl, sym, subst, rules, List}
 use Rattle.std.specs.Prelude.{slice_index, not}
 use Rattle.firm_net.specs.Net.{lists_at}
 use Rattle.firm_paths.specs.Paths.{IsTightPath}
@@ -9,6 +9,32 @@ use Rattle.firm_paths.proofs.Looks.{place_value}
 use Rattle.firm_paths.proofs.Spreading.{spent_cut}
 use Rattle.firm_paths.proofs.Trees.{path_to}
 use Rattle.firm_paths.proofs.tight.tight_path.Goals as goal
+
+pub invariant_of-scratch : goal.invariant_of-scratch
+invariant_of-scratch c = (
+  c.scratch.invariant.0,
+  c.find-found.ensures.size ∙ c.scratch.invariant.1,
+  c.scratch.invariant.2,
+  c.find-found.ensures.agree,
+  c.scratch.invariant.4,
+  omega (arith, c.scratch.invariant.5, c.find-found.ensures.capacity),
+  c.scratch.invariant.6,
+  c.number_visits.ensures.size ∙ c.scratch.invariant.7,
+  c.number_visits.ensures.numbered,
+)
+
+pub invariant_of-scratch-2 : goal.invariant_of-scratch-2
+invariant_of-scratch-2 c = (
+  c.scratch.invariant.0,
+  c.find-found.ensures.size ∙ c.scratch.invariant.1,
+  c.scratch.invariant.2,
+  c.find-found.ensures.agree,
+  c.scratch.invariant.4,
+  omega (arith, c.scratch.invariant.5, c.find-found.ensures.capacity),
+  omega (arith, c.scratch.invariant.6, c.walk_on.ensures.capacity),
+  c.number_visits.ensures.size ∙ c.scratch.invariant.7,
+  c.number_visits.ensures.numbered,
+)
 
 pub returns-in_default-found : goal.returns-in_default-found
 returns-in_default-found c =

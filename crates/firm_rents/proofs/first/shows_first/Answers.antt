@@ -34,8 +34,8 @@ tasks_suit-requires-clause-places c =
     (sym c.counts_loads.ensures.legal ∙ c.if-not-counts_loads.false) in
     λ i l. legal.places i Wait l
 
-pub returns : goal.returns
-returns c =
+pub returns-clause-first : goal.returns-clause-first
+returns-clause-first c =
     let case = c.args.case.now in
     let rents = level_rents c.args.rents.now in
     let legal : IsLegal c.args.case.now c.args.placement.now =
@@ -46,7 +46,7 @@ returns c =
     (c.machines_suit.ensures c.if-not-machines_suit.false j l) in
     λ e. c.rents_show_first.ensures case rents c.args.placement.now legal
     (record {
-      cheapest = c.tasks_suit.ensures e;
+      cheapest = c.tasks_suit.ensures.suits e;
       worth = λ j l. (suited j l).worth;
       free = λ j l. (suited j l).free;
     })

@@ -1,6 +1,7 @@
 use Rattle.std.proofs.lemmas.Grind.{elements}
 use Rattle.std.proofs.Common.{◌≡◌, ◌<◌, ◌≤◌, ◌+◌, ◌*◌, ◌^◌, ℕ, length, sym, subst, arith}
 use Rattle.std.proofs.lemmas.List.{get_or_default}
+use Rattle.firm_rents.proofs.Counting.{goes_on}
 use Rattle.firm_rules.specs.declared.rounds.Choice.{Choice}
 use Rattle.firm_rules.specs.declared.rounds.Choice.TheVariants.{On, Wait}
 use Rattle.firm_rules.specs.Placement.{choice_at, IsPlace}
@@ -38,6 +39,7 @@ loop-task-preserved c =
           (paid_by_level case (level_rents rents) task other))
           (get_or_default placement task (On 0) Wait (omega (arith, c.requires.one_each)))
           (c.suits_task.ensures.suits c.if-not-suits_task.false));
+      work = goes_on before.work c.suits_task.ensures.work;
     }
 
 pub suits_task-requires-clause-choice : goal.suits_task-requires-clause-choice

@@ -1,4 +1,5 @@
 use Rattle.std.proofs.Common.{◌<◌, ◌≤◌, ◌+◌, ◌*◌, ◌^◌, ℕ, length}
+use Rattle.firm_levels.specs.Work.{GoesOn}
 use Rattle.firm_rules.specs.declared.rounds.Choice.{Choice}
 use Rattle.firm_rules.specs.Placement.{IsPlace}
 use Rattle.firm_rules.specs.Placement.{choice_at}
@@ -18,4 +19,5 @@ invariant-loop-task l = record {
   suited : (i : ℕ) → i < l.task → (other : Choice) → IsPlace (length l.case.slots) other
       → IsAtMost (paid_by_level l.case (level_rents l.rents) i (choice_at l.placement i))
       (paid_by_level l.case (level_rents l.rents) i other);
+  work : GoesOn l.initial.work l.work;
 }

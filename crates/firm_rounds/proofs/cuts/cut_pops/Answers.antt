@@ -34,8 +34,8 @@ cut-seat-requires c =
       held_again (view c.loop-k.keep) (c.args.puts + c.loop-k.k) (view c.args.keep).all inv.2 inv.1,
     )
 
-pub of-requires : goal.of-requires
-of-requires c =
+pub of-requires-clause-seat : goal.of-requires-clause-seat
+of-requires-clause-seat c =
     let cut = c.cut-seat.ensures.cut in
     (cut.0.1, (c.args.puts + c.loop-k.k, one_share (view c.cut-seat.result) _ _ cut.1))
 
@@ -46,13 +46,14 @@ loop-k-preserved c =
       kept.1 ∙ inv.1,
       held_on (view c.cut-seat.new.keep) c.args.puts c.loop-k.k (view c.loop-k.keep).all (view c.args.keep).all kept.2
           inv.1,
-      more_pops (queue_of c.args.keep) c.loop-k.k _ _ c.of.result c.in_ok-push.ensures.items inv.3
+      more_pops (queue_of c.args.bell.now c.args.keep) c.loop-k.k _ _ c.of.result c.in_ok-push.ensures.items inv.3
           (c.of.ensures.0 ∙ (cut.0.0 ∙ sym c.requires.0.0))
-          (c.of.ensures.1 ∙ (ap (λ (v : Sight). v.all) cut.1 ∙ inv.1)) c.of.ensures.2,
+          (c.of.ensures.1 ∙ (ap (λ (v : Sight). v.all) cut.1 ∙ inv.1)) c.of.ensures.2
+          (c.of.ensures.3 ∙ c.listener.ensures.0) c.of.ensures.4 c.of.ensures.5 c.of.ensures.6,
     )
 
-pub of-requires-2 : goal.of-requires-2
-of-requires-2 c =
+pub of-requires-2-clause-seat : goal.of-requires-2-clause-seat
+of-requires-2-clause-seat c =
     let inv = c.loop-k.invariant in (
       inv.0.1,
       (
@@ -65,7 +66,8 @@ of-requires-2 c =
 pub returns : goal.returns
 returns c =
     let inv = c.loop-k.invariant in
-    more_pops (queue_of c.args.keep) c.loop-k.k _ _ c.of-2.result c.in_ok-push-2.ensures.items inv.3
+    more_pops (queue_of c.args.bell.now c.args.keep) c.loop-k.k _ _ c.of-2.result c.in_ok-push-2.ensures.items inv.3
     (c.of-2.ensures.0 ∙ (inv.0.0 ∙ sym c.requires.0.0)) (c.of-2.ensures.1 ∙ inv.1) c.of-2.ensures.2
-    ∙ ap (new_pops (queue_of c.args.keep))
+    (c.of-2.ensures.3 ∙ c.listener-2.ensures.0) c.of-2.ensures.4 c.of-2.ensures.5 c.of-2.ensures.6
+    ∙ ap (new_pops (queue_of c.args.bell.now c.args.keep))
     (at_last c.args.pops c.loop-k.k c.requires.1 c.loop-k.auto.k-end c.loop-k-test.false)

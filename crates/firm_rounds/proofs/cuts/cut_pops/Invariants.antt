@@ -8,4 +8,4 @@ abbrev pub invariant-loop-k : goal.invariant-loop-k
 invariant-loop-k l =
     IsPassOf l.ring l.keep × ((view l.keep).all ≡ (view l.fn.keep).all)
     × (view l.keep ≡ held_from (l.puts + l.k) ((view l.fn.keep).all - 1))
-    × (l.passes.items ≡ new_pops (queue_of l.fn.keep) l.k)
+    × (l.passes.items ≡ new_pops (queue_of l.bell l.fn.keep) l.k)

@@ -51,9 +51,10 @@ loop-place-preserved c =
       held_on (view c.cut-seat.new.keep) 0 c.loop-place.place (view c.loop-place.keep).all (view c.args.keep.now).all
           kept.2 inv.1
           ∙ ap (λ (k : ℕ). held_from k ((view c.args.keep.now).all - 1)) (sym (from_none (c.loop-place.place + 1))),
-      more_puts (queue_of c.args.keep.now) c.loop-place.place _ _ c.of.result c.in_ok-push.ensures.items inv.3
+      more_puts (queue_of c.args.bell.now c.args.keep.now) c.loop-place.place _ _ c.of.result
+          c.in_ok-push.ensures.items inv.3
           (c.of.ensures.0 ∙ (cut.0.0 ∙ sym c.requires.0.0))
-          (c.of.ensures.1 ∙ (ap (λ (v : Sight). v.all) cut.1 ∙ inv.1)) c.of.ensures.2 c.of.ensures.3,
+          (c.of.ensures.1 ∙ (ap (λ (v : Sight). v.all) cut.1 ∙ inv.1)) c.of.ensures.2 c.of.ensures.3 c.of.ensures.4,
     )
 
 pub returns-clause-kept : goal.returns-clause-kept
@@ -67,5 +68,5 @@ returns-clause-kept c =
 
 pub returns-clause-passes : goal.returns-clause-passes
 returns-clause-passes c =
-    c.loop-place.invariant.3 ∙ ap (new_puts (queue_of c.args.keep.now))
+    c.loop-place.invariant.3 ∙ ap (new_puts (queue_of c.args.bell.now c.args.keep.now))
     (at_end _ _ c.loop-place.auto.place-end c.loop-place-test.false)

@@ -8,4 +8,4 @@ abbrev pub invariant-loop-place : goal.invariant-loop-place
 invariant-loop-place l =
     IsPassOf l.ring l.keep × ((view l.keep).all ≡ (view l.initial.keep).all)
     × (view l.keep ≡ held_from l.place ((view l.initial.keep).all - 1))
-    × (l.passes.items ≡ new_puts (queue_of l.initial.keep) l.place)
+    × (l.passes.items ≡ new_puts (queue_of l.bell l.initial.keep) l.place)

@@ -6,12 +6,16 @@ use Rattle.firm_hall.proofs.clerk.HallClerkClerk.write_out.Goals as goal
 
 pub returns-clause-told : goal.returns-clause-told
 returns-clause-told g c =
-    on_ok_weaker c.wait.result (λ told. told (opened c.args.self.now.opening)) c.wait.ensures.told
+    let all = rw c.ring.ensures at c.wait.ensures.told in
+    on_ok_weaker c.wait.result (λ told. told (opened c.args.self.now.opening)) all
 
 pub returns-clause-begins : goal.returns-clause-begins
 returns-clause-begins g c text written told =
     let opening = opened c.args.self.now.opening in
-    begun_answers opening text written _ (c.wait.ensures.begins opening text written told)
+    let begins = rw c.ring.ensures at c.wait.ensures.begins in
+    begun_answers opening text written _ (begins opening text written told)
 
 pub returns-clause-open : goal.returns-clause-open
-returns-clause-open g c = stays_open c.wait.ensures.follows c.requires.open
+returns-clause-open g c =
+    let follows = rw c.ring.ensures at c.wait.ensures.follows in
+    stays_open follows c.requires.open

@@ -11,7 +11,7 @@ invariant_of-self g c =
     let first : FirstIsAt c.args.place c.args.command c.args.at s.held.answers =
     rw (← c.self.view_is) at c.requires.first in
     let taken : IsTakenAt c.index_mut.result.now c.args.command c.take.new.self None =
-    rw c.in_default.is at c.take.ensures in
+    rw c.in_default.is at c.take.ensures.taken in
     let moved = asked_moves s.hall.value.id s.register s.desk_states.items s.held c.args.place _ c.args.command
     c.self.invariant c.requires.place (first_at c.args.place c.args.command c.args.at s.held.answers first)
     c.index_mut.result.now c.take.new.self c.index_mut.ensures.value taken in
@@ -23,7 +23,7 @@ returns-in_default-clause-keeps g c =
     let first : FirstIsAt c.args.place c.args.command c.args.at s.held.answers =
     rw (← c.self.view_is) at c.requires.first in
     let taken : IsTakenAt c.index_mut.result.now c.args.command c.take.new.self None =
-    rw c.in_default.is at c.take.ensures in
+    rw c.in_default.is at c.take.ensures.taken in
     let moved = asked_moves s.hall.value.id s.register s.desk_states.items s.held c.args.place _ c.args.command
     c.self.invariant c.requires.place (first_at c.args.place c.args.command c.args.at s.held.answers first)
     c.index_mut.result.now c.take.new.self c.index_mut.ensures.value taken in
@@ -35,7 +35,7 @@ invariant_of-self-2 g c =
     let first : FirstIsAt c.args.place c.args.command c.args.at s.held.answers =
     rw (← c.self.view_is) at c.requires.first in
     let taken : IsTakenAt c.index_mut.result.now c.args.command c.take.new.self (Some c.in-Some.reply) =
-    rw c.in-Some.is at c.take.ensures in
+    rw c.in-Some.is at c.take.ensures.taken in
     let moved = given_moves s.hall.value.id s.register s.desk_states.items s.held c.args.place _ c.args.command
     c.self.invariant c.requires.place (first_at c.args.place c.args.command c.args.at s.held.answers first)
     c.index_mut.result.now c.take.new.self c.in-Some.reply c.index_mut.ensures.value taken in
@@ -60,7 +60,7 @@ returns-clause-follows g c =
     let first : FirstIsAt c.args.place c.args.command c.args.at s.held.answers =
     rw (← c.self.view_is) at c.requires.first in
     let taken : IsTakenAt c.index_mut.result.now c.args.command c.take.new.self (Some c.in-Some.reply) =
-    rw c.in-Some.is at c.take.ensures in
+    rw c.in-Some.is at c.take.ensures.taken in
     let moved = given_moves s.hall.value.id s.register s.desk_states.items s.held c.args.place _ c.args.command
     c.self.invariant c.requires.place (first_at c.args.place c.args.command c.args.at s.held.answers first)
     c.index_mut.result.now c.take.new.self c.in-Some.reply c.index_mut.ensures.value taken in
@@ -72,7 +72,7 @@ returns-clause-keeps g c =
     let first : FirstIsAt c.args.place c.args.command c.args.at s.held.answers =
     rw (← c.self.view_is) at c.requires.first in
     let taken : IsTakenAt c.index_mut.result.now c.args.command c.take.new.self (Some c.in-Some.reply) =
-    rw c.in-Some.is at c.take.ensures in
+    rw c.in-Some.is at c.take.ensures.taken in
     let moved = given_moves s.hall.value.id s.register s.desk_states.items s.held c.args.place _ c.args.command
     c.self.invariant c.requires.place (first_at c.args.place c.args.command c.args.at s.held.answers first)
     c.index_mut.result.now c.take.new.self c.in-Some.reply c.index_mut.ensures.value taken in

@@ -5,8 +5,8 @@ use Rattle.firm_hall.proofs.Fitting.{back_here, home_of}
 use Rattle.firm_hall.proofs.Taking.{take}
 use Rattle.firm_hall.proofs.serving.Serving.take.Goals as goal
 
-pub take-reply-requires : goal.take-reply-requires
-take-reply-requires g c =
+pub take-reply-requires-clause-home : goal.take-reply-requires-clause-home
+take-reply-requires-clause-home g c =
     let s = c.self.inside in
     let found : place_in s.register c.args.name ≡ Some c.args.place = rw (← c.self.view_is) at c.requires.found in
     let back : IsBackAt c.args.place s.desk_states.items = rw (← c.self.view_is) at c.requires.back in
@@ -28,7 +28,7 @@ invariant_of-self g c =
     c.args.command c.self.invariant c.requires.place sound found before c.take-reply.new.self c.take-reply.result
     c.index_mut.ensures.value
     (back_here c.args.place s.desk_states.items before _ c.requires.place c.index_mut.ensures.value back)
-    c.take-reply.ensures in
+    c.take-reply.ensures.taken in
     rw (c.push.ensures, c.to.ensures) taken.stands
 
 pub returns-clause-takes : goal.returns-clause-takes
@@ -43,5 +43,5 @@ returns-clause-takes g c =
     c.args.command c.self.invariant c.requires.place sound found before c.take-reply.new.self c.take-reply.result
     c.index_mut.ensures.value
     (back_here c.args.place s.desk_states.items before _ c.requires.place c.index_mut.ensures.value back)
-    c.take-reply.ensures in
+    c.take-reply.ensures.taken in
     rw (← c.self.view_is, c.push.ensures, c.to.ensures) taken.takes

@@ -22,9 +22,10 @@ pub loop-preserved : goal.loop-preserved
 loop-preserved g c =
     let i = c.loop.invariant in
     let wrote = c.in_ok-write_out.ensures in
-    record {
+    rw c.rest-looks.ensures
+    (record {
       well = wrote.well;
       kept = c.look.ensures.kept ∙ i.kept;
       follows = follows_then i.follows wrote.follows;
       passes = λ opening text written told. wrote.told opening text written (i.passes opening text written told);
-    }
+    })

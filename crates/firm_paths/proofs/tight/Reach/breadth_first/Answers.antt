@@ -206,3 +206,9 @@ returns-then-eq-clause-goal c =
     let is_visit : c.index.result.now ≡ visit vs n = c.index.ensures ∙ get_or_default vs n _ _ within in
     same_option c.args.goal c.index.result.now.place (sym c.eq.ensures ∙ c.if-eq.true)
     ∙ ap (λ (y : Visit). Some y.place) is_visit
+
+pub returns-clause-apart : goal.returns-clause-apart
+returns-clause-apart c = c.loop-number.invariant.out.spread.tree.apart
+
+pub returns-then-eq-clause-apart : goal.returns-then-eq-clause-apart
+returns-then-eq-clause-apart c = c.loop-number.invariant.out.spread.tree.apart

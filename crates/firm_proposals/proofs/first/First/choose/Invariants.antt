@@ -1,5 +1,5 @@
-use Rattle.std.proofs.Common.{◌≡◌}
+use Rattle.firm_levels.specs.Work.{GoesOn}
 use Rattle.firm_proposals.proofs.first.First.choose.Given as goal
 
 abbrev pub invariant-loop-task : goal.invariant-loop-task
-invariant-loop-task l = l.work.most ≡ l.initial.work.most
+invariant-loop-task l = GoesOn l.initial.work l.work

@@ -1,5 +1,5 @@
-use Rattle.std.proofs.Common.{◌≡◌}
+use Rattle.firm_levels.specs.Work.{GoesOn}
 use Rattle.firm_proposals.proofs.first.First.machine_for.Given as goal
 
 abbrev pub invariant-loop : goal.invariant-loop
-invariant-loop l = l.work.most ≡ l.initial.work.most
+invariant-loop l = GoesOn l.initial.work l.work

@@ -1,5 +1,5 @@
-use Rattle.std.proofs.Common.{◌≡◌}
+use Rattle.firm_levels.specs.Work.{GoesOn}
 use Rattle.firm_proposals.proofs.paths.Paths.follow.Given as goal
 
 abbrev pub invariant-loop-at : goal.invariant-loop-at
-invariant-loop-at l = l.work.most ≡ l.initial.work.most
+invariant-loop-at l = GoesOn l.initial.work l.work

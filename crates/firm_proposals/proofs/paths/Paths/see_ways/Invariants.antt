@@ -1,5 +1,5 @@
-use Rattle.std.proofs.Common.{◌≡◌}
+use Rattle.firm_levels.specs.Work.{GoesOn}
 use Rattle.firm_proposals.proofs.paths.Paths.see_ways.Given as goal
 
 abbrev pub invariant-loop-number : goal.invariant-loop-number
-invariant-loop-number l = l.work.most ≡ l.initial.work.most
+invariant-loop-number l = GoesOn l.initial.work l.work

@@ -69,7 +69,7 @@ returns-then-is_at_most_parted-2-clause-suits c =
     (c.requires.spent j s (begun + (1 + end)) (begun + suc j) (omega arith) (omega arith)) cost runs)
     (λ (s : c.args.mark.spent ≤ j).
     alike case rents task c.args.chosen j c.wide_cost-wide.result c.time_of-begun.result c.wide_cost-wide.ensures.cost
-    (omega (arith, c.time_of-begun.ensures.time)) (c.each_suits.ensures e j s h) cost runs)
+    (omega (arith, c.time_of-begun.ensures.time)) (c.each_suits.ensures.suits e j s h) cost runs)
     (cases_lt j c.args.mark.spent))
     (λ (h : end ≤ j).
     tells case rents task c.args.chosen lowest j (begun + (1 + end)) told
@@ -80,5 +80,5 @@ pub returns-else-is_at_most_parted-2-clause-suits : goal.returns-else-is_at_most
 returns-else-is_at_most_parted-2-clause-suits c =
     λ e j l cost runs. alike c.args.case.now c.args.rents.now c.args.task c.args.chosen j c.wide_cost-wide.result
     c.time_of-begun.result c.wide_cost-wide.ensures.cost (omega (arith, c.time_of-begun.ensures.time))
-    (c.each_suits-else-is_at_most_parted-2.ensures e j (omega arith)
+    (c.each_suits-else-is_at_most_parted-2.ensures.suits e j (omega arith)
     (omega (arith, l, c.machine_count-3.ensures.count))) cost runs

@@ -1,4 +1,4 @@
-use Rattle.std.proofs.Common.{◌≡◌, ℕ, ◌+◌, ◌-◌, ◌<◌, ◌≤◌, All, sym, subst, ap, ◌∙◌, arith}
+use Rattle.std.proofs.Common.{◌≡◌, ℕ, ◌+◌, ◌-◌, ◌<◌, ◌≤◌, All, refl, sym, subst, ap, ◌∙◌, arith}
 use Rattle.crossbeam_queue.specs.Passes.{view}
 use Rattle.firm_rounds.specs.Passes.{QueueId, PutIs, PopIs, new_puts, new_pops, queue_of}
 use Rattle.firm_rounds.proofs.Cutting.{all_grown, grown_again, grown_start, held_again, held_grown}
@@ -39,21 +39,31 @@ cut_pops-requires c =
 
 pub returns-clause-passes : goal.returns-clause-passes
 returns-clause-passes c =
-    let id : QueueId = record { table = c.in_ok-ring.ring.table.shared.table_id; all = c.args.puts + c.args.pops } in
+    let id : QueueId =
+    record {
+      table = c.in_ok-ring.ring.table.shared.table_id;
+      all = c.args.puts + c.args.pops;
+      bell = c.in_ok-bell.bell;
+    } in
     let all : (view c.grow-2.new.keep).all ≡ c.args.puts + c.args.pops =
     all_grown (view c.in_ok-ring.keep) (view c.grow.new.keep) (view c.grow-2.new.keep) c.args.puts c.args.pops
     c.in_ok-ring.ensures.3 c.grow.ensures.1 c.grow-2.ensures.1 c.requires.1 in (
       c.in_ok-put_passes.ensures.passes
           ∙ ap (λ (q : QueueId). new_puts q c.args.puts)
-          (same_queue (queue_of c.grow-2.new.keep) id c.grow-2.ensures.0.0 all),
+          (same_queue (queue_of c.in_ok-bell.bell c.grow-2.new.keep) id c.grow-2.ensures.0.0 all refl),
       c.in_ok-pop_passes.ensures
-          ∙ ap (λ (q : QueueId). new_pops q c.args.pops) (same_queue (queue_of c.cut_puts.new.keep) id
-          c.in_ok-put_passes.ensures.kept.0.0 (c.in_ok-put_passes.ensures.kept.1 ∙ all)),
+          ∙ ap (λ (q : QueueId). new_pops q c.args.pops) (same_queue (queue_of c.in_ok-bell.bell c.cut_puts.new.keep) id
+          c.in_ok-put_passes.ensures.kept.0.0 (c.in_ok-put_passes.ensures.kept.1 ∙ all) refl),
     )
 
 pub returns-clause-of_this : goal.returns-clause-of_this
 returns-clause-of_this c =
-    let id : QueueId = record { table = c.in_ok-ring.ring.table.shared.table_id; all = c.args.puts + c.args.pops } in
+    let id : QueueId =
+    record {
+      table = c.in_ok-ring.ring.table.shared.table_id;
+      all = c.args.puts + c.args.pops;
+      bell = c.in_ok-bell.bell;
+    } in
     let passes = returns-clause-passes c in (
       subst (All (λ (p : PutIs). p.queue ≡ id)) (sym passes.0) (puts_of id c.args.puts),
       subst (All (λ (p : PopIs). p.queue ≡ id)) (sym passes.1) (pops_of id c.args.pops),
@@ -61,5 +71,10 @@ returns-clause-of_this c =
 
 pub returns-clause-unused : goal.returns-clause-unused
 returns-clause-unused c =
-    let id : QueueId = record { table = c.in_ok-ring.ring.table.shared.table_id; all = c.args.puts + c.args.pops } in
+    let id : QueueId =
+    record {
+      table = c.in_ok-ring.ring.table.shared.table_id;
+      all = c.args.puts + c.args.pops;
+      bell = c.in_ok-bell.bell;
+    } in
     subst (All (λ (p : PutIs). p.put ≡ 0)) (sym (returns-clause-passes c).0) (puts_unused id c.args.puts)

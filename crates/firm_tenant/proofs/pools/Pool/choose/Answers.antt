@@ -1,10 +1,10 @@
-use Rattle.std.proofs.Common.{rules, ◌≡◌, true, List, IfOk, sym, subst}
+use Rattle.std.proofs.Common.{rules, ◌≡◌, ◌∙◌, true, List, IfOk, ap, arith, sym, subst}
 use Rattle.firm_rules.specs.declared.rounds.Choice.{Choice}
 use Rattle.firm_rules.specs.Placement.{Case, is_legal}
 use Rattle.firm_rules.specs.Round.{case_of, round_placement, IsRound}
 use Rattle.std.proofs.lemmas.Result.{IfOk-weaker}
 use Rattle.firm_tenant.specs.inner.Pools.{Pool, HasBegunOnce}
-use Rattle.firm_tenant.proofs.Counted.{begun_once}
+use Rattle.firm_tenant.proofs.Counted.{begun_once, entries_of}
 use Rattle.firm_tenant.proofs.pools.Pool.choose.Goals as goal
 
 pub returns-in-Some-clause-legal : goal.returns-in-Some-clause-legal
@@ -29,14 +29,31 @@ returns-clause-counts c =
       rows = c.self.inside.graph.rows;
       costs = c.self.inside.costs.items;
       asked = c.self.inside.graph.asked;
-      workspace = c.self.inside.scratch;
+      workspace = record {
+        net = c.self.inside.scratch;
+        proposed = record {
+          tries = c.self.inside.proposals.proposer.value.tries;
+          looks = c.self.inside.proposals.work.looks;
+          allowed = c.self.inside.proposals.allowed;
+        };
+      };
     } in
     let after : Pool = record {
       rows = c.first_best.new.graph.rows;
       costs = c.self.inside.costs.items;
       asked = c.first_best.new.graph.asked;
-      workspace = c.first_best.new.scratch;
+      workspace = record {
+        net = c.first_best.new.scratch;
+        proposed = record {
+          tries = c.first.new.self.proposer.value.tries;
+          looks = c.first.new.self.work.looks;
+          allowed = c.first.new.self.allowed;
+        };
+      };
     } in
+    let same = entries_of c.self.inside.graph.rows c.case-case.result.now
+    (c.case-case.ensures ∙ ap case_of c.rows.ensures.value) in
     subst (λ (old : Pool). HasBegunOnce old after) c.self.view_is
     (begun_once inside after _ c.first_best.ensures.searched (search rules) (search rules) (search rules)
-    (search rules))
+    (search rules) (search rules) (search rules)
+    (λ fits. omega (arith, same, c.first.ensures.looks (omega (arith, same, fits)))))

@@ -1,7 +1,6 @@
 use Rattle.std.proofs.Common.{◌≡◌, ◌++◌, ◌∷◌, [], ℕ, ℤ, pos, true, List, All, refl, rules, to_z, of_z, w64, ap, sym}
 use Rattle.std.proofs.Common.{◌∙◌, subst}
 use Rattle.circular_buffer.specs.Buffer.{Buffer, keep_last}
-use Rattle.firm_paths.specs.Workspace.{Workspace}
 use Rattle.firm_rules.specs.Placement.{placement_cost}
 use Rattle.firm_rules.specs.Recent.{with_cost}
 use Rattle.firm_rules.specs.Round.{case_of, changes_made, rows_after}
@@ -11,13 +10,13 @@ use Rattle.firm_rules.specs.declared.rounds.Choice.{Choice}
 use Rattle.firm_rules.specs.declared.replies.Outcome.{Outcome}
 use Rattle.firm_rules.specs.declared.replies.Outcome.TheVariants.{Round}
 use Rattle.firm_rules.specs.SoundBook.{is_cost}
-use Rattle.firm_tenant.specs.inner.Pools.{Pool, placed_in}
+use Rattle.firm_tenant.specs.inner.Pools.{Pool, Counts, placed_in}
 use Rattle.firm_tenant.proofs.Entries.{costs-kept}
 use Rattle.firm_tenant.proofs.pools.Pool.place.Goals as goal
 
 -- what a placement comes to, from its parts
 placed-by : (pool : Pool) (placement : List Choice) (cost : ℤ) (changes : List Change) (rows : TenantRows)
-    (costs : List ℤ) (asked : ℕ) (workspace : Workspace)
+    (costs : List ℤ) (asked : ℕ) (workspace : Counts)
     → cost ≡ pos (placement_cost (case_of pool.rows) placement) → changes ≡ changes_made pool.rows placement
     → rows ≡ rows_after pool.rows placement → costs ≡ with_cost pool.costs cost → asked ≡ pool.asked
     → workspace ≡ pool.workspace
@@ -37,7 +36,16 @@ returns c =
     same ∙ c.cost_of-cost.ensures.cost
     ∙ ap (λ (r : TenantRows). pos (placement_cost (case_of r) placement)) (c.rows.ensures.value ∙ rows) in
     placed-by pool placement kept c.in_ok-changes.changes c.settle.new.self.rows
-    c.push_back.new.self.items c.settle.new.self.asked c.self.inside.scratch cost
+    c.push_back.new.self.items c.settle.new.self.asked
+    (record {
+      net = c.self.inside.scratch;
+      proposed = record {
+        tries = c.self.inside.proposals.proposer.value.tries;
+        looks = c.self.inside.proposals.work.looks;
+        allowed = c.self.inside.proposals.allowed;
+      };
+    })
+    cost
     (c.in_ok-changes.ensures ∙ ap (λ (r : TenantRows). changes_made r placement) (c.rows-2.ensures.value ∙ rows))
     (c.settle.ensures.rows ∙ ap (λ (r : TenantRows). rows_after r placement) rows)
     (ap (λ (b : Buffer ℤ). b.items) c.push_back.ensures.items
@@ -57,4 +65,6 @@ invariant_of-self c =
       subst (λ (costs : List ℤ). All (λ (x : ℤ). is_cost x ≡ true) costs)
           (sym (ap (λ (b : Buffer ℤ). b.items) c.push_back.ensures.items))
           (costs-kept c.self.inside.costs.capacity c.self.inside.costs.items kept c.self.invariant.3 cost),
+      search rules,
+      search rules,
     )

@@ -1,7 +1,7 @@
-use Rattle.std.proofs.Common.{◌≡◌, ◌+◌, ◌*◌, ◌^◌, ◌≤◌, ℕ, length, Bool, true, false, List}
+use Rattle.std.proofs.Common.{◌≡◌, ◌+◌, ◌*◌, ◌≤◌, ℕ, length, Bool, true, false, List}
 use Rattle.std.proofs.Common.{refl, ap, sym, subst, ◌∙◌, rules}
 use Rattle.std.specs.Prelude.{if◌then◌else◌}
-use Rattle.firm_paths.specs.Workspace.{Workspace, HasCounted}
+use Rattle.firm_paths.specs.Workspace.{HasCounted}
 use Rattle.firm_rules.specs.ArenaUse.{arena_arcs}
 use Rattle.firm_rules.specs.Book.{Book, TenantRows}
 use Rattle.firm_rules.specs.Placement.{is_legal}
@@ -12,7 +12,7 @@ use Rattle.firm_rules.specs.declared.replies.Outcome.TheVariants.{Refused}
 use Rattle.firm_rules.specs.declared.replies.Refusal.TheVariants.{Memory}
 use Rattle.firm_tenant.specs.Step.{is_memory_outcome, refused, round_effect}
 use Rattle.firm_tenant.specs.inner.Outcomes.{outcome_of}
-use Rattle.firm_tenant.specs.inner.Pools.{Pool, HasBegunOnce, book_of, placed_in}
+use Rattle.firm_tenant.specs.inner.Pools.{Pool, Counts, HasBegunOnce, book_of, placed_in}
 use Rattle.firm_tenant.proofs.pools.Pool.round.Goals as goal
 
 -- what a round makes of a book, or that it was refused memory
@@ -47,11 +47,16 @@ round_refused outcome old chosen new given none kept same =
 begun_on : (old chosen new : Pool) → new.workspace ≡ chosen.workspace → HasBegunOnce old chosen → HasBegunOnce old new
 begun_on old chosen new same begun =
     let room : ℕ = length old.rows.tasks * (length old.rows.machines + 4) in
+    let entries : ℕ = length old.rows.tasks + length old.rows.machines in
+    let allowed : ℕ = old.workspace.proposed.allowed in
     record {
-      begins = subst (λ (w : Workspace). HasCounted old.workspace.begins w.begins 1) (sym same) begun.begins;
-      searches = subst (λ (w : Workspace). w.searches ≤ room) (sym same) begun.searches;
-      looks = subst (λ (w : Workspace). w.looks ≤ room * (2 * arena_arcs old.rows)) (sym same) begun.looks;
-      proposed = subst (λ (w : Workspace). w.proposed ≤ 2 ^ 24) (sym same) begun.proposed;
+      begins = subst (λ (w : Counts). HasCounted old.workspace.net.begins w.net.begins 1) (sym same) begun.begins;
+      searches = subst (λ (w : Counts). w.net.searches ≤ room) (sym same) begun.searches;
+      looks = subst (λ (w : Counts). w.net.looks ≤ room * (2 * arena_arcs old.rows)) (sym same) begun.looks;
+      tries = subst (λ (w : Counts). w.proposed.tries ≤ old.workspace.proposed.tries + 1) (sym same) begun.tries;
+      allowed = subst (λ (w : Counts). w.proposed.allowed ≡ allowed) (sym same) begun.allowed;
+      proposed = subst (λ (w : Counts). w.proposed.looks ≤ allowed) (sym same) begun.proposed;
+      entries = subst (λ (w : Counts). entries ≤ allowed → entries ≤ w.proposed.looks) (sym same) begun.entries;
     }
 
 pub place-requires : goal.place-requires

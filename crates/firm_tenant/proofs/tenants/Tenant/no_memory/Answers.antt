@@ -14,4 +14,5 @@ invariant_of-self c = (
         ap (λ (b : Book). b.rows.limits.life) c.self.view_is,
       )),
   omega (arith, c.self.invariant.1),
+  record { begins = omega (arith, c.self.invariant.2.begins); last = c.self.invariant.2.last },
 )

@@ -1,10 +1,12 @@
-use Rattle.std.proofs.Common.{◌≡◌, ◌+◌, ◌<◌, ◌≤◌, Bool, ap, subst, ◌∙◌, arith}
+use Rattle.std.proofs.Common.{◌≡◌, ◌+◌, ◌<◌, ◌≤◌, Bool, ap, subst, sym, ◌∙◌, arith}
 use Rattle.firm_rules.specs.Book.{Book}
 use Rattle.firm_rules.specs.Limits.{TenantLimits}
 use Rattle.firm_rules.specs.SoundBook.{entry_count}
 use Rattle.firm_rules.specs.declared.replies.Outcome.{Outcome}
-use Rattle.firm_tenant.specs.inner.Pools.{book_of, Pool, IsSoundPool}
+use Rattle.firm_tenant.specs.Counts.{IsOfOneRound}
+use Rattle.firm_tenant.specs.inner.Pools.{book_of, Pool, HasCountedFor, IsSoundPool}
 use Rattle.firm_tenant.specs.Step.{step, effect, is_memory_outcome}
+use Rattle.firm_tenant.proofs.Counted.{few_begins, of_one_round}
 use Rattle.firm_tenant.proofs.Entries.{after-step, effect-grows, sound-book_of}
 use Rattle.firm_tenant.proofs.Steps.{effect-keeps, step-alive}
 use Rattle.firm_tenant.proofs.tenants.Tenant.step.Goals as goal
@@ -18,6 +20,8 @@ invariant_of-self c =
     let given = c.self.inside.given in
     let mark : Bool = is_memory_outcome c.answer-outcome.result in
     let was : c.deref_mut.result.now ≡ old = c.deref_mut.ensures.value in
+    let counts : HasCountedFor c.args.command old new =
+    subst (λ (p : Pool). HasCountedFor c.args.command p new) was c.answer-outcome.ensures.counts in
     let limits : new.rows.limits ≡ old.rows.limits =
     ap (λ (a : Outcome × Book). a.1.rows.limits) (c.answer-outcome.ensures.effect 0)
     ∙ (effect-keeps (book_of c.deref_mut.result.now 0) c.args.command mark).0
@@ -46,6 +50,11 @@ invariant_of-self c =
           (omega (arith, alive, ap (λ (l : TenantLimits). l.life) limits))
           (omega (arith, grown, c.self.invariant.0.count)) after.0 after.1,
       omega (arith, c.answer-outcome.ensures.asked, ap (λ (p : Pool). p.asked) was, c.self.invariant.1),
+      record {
+        begins = omega (arith, few_begins c.args.command old new counts, c.self.invariant.2.begins);
+        last = subst (λ (l : TenantLimits). IsOfOneRound l new.workspace.net) (sym limits)
+            (of_one_round c.args.command old new c.self.invariant.0.rows counts c.self.invariant.2.last);
+      },
     )
 
 pub returns : goal.returns

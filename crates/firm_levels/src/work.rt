@@ -1,5 +1,6 @@
-//! What a proposal costs: its searches and looks, counted as they are made.
-ghost use Rattle.std.specs.Prelude.{◌≡◌, ◌≤◌};
+//! Looks and searches of a proposal and of its check, counted as they are made.
+ghost use Rattle.std.specs.Prelude.{◌≡◌, ◌+◌, ◌≤◌, IsTrue};
+ghost use Rattle.firm_levels.specs.Work.{GoesOn};
 
 use std::marker::Model;
 
@@ -10,21 +11,20 @@ pub struct Allowance {
     pub looks: u64,
 }
 
-/// The searches and the looks that were counted, and how many are allowed. A look is at a task that trades or chooses,
-/// or at what a search tries: a task's way, or a link of units. A search is begun, and a look made, only where one is
-/// left. Passes over a table are not counted: those that read a case, find a task's cheapest way, or find the ways and
-/// machines that cost nothing more.
+/// The searches and the looks that were counted, and how many are allowed. A look reads one entry of a table: a task
+/// with its ways, of which it has at most seven, a machine, a class, or a link that a search tries. A search is begun,
+/// and a look or a pass over a table made, only if the allowance has room for it.
 #[derive(Drop)]
 pub struct Work {
     searches: u64,
     looks: u64,
     most: Allowance,
-    // Whether a search or a look was refused.
+    // Whether a search, a look or a pass was refused.
     is_short: bool,
 }
 
 impl Model for Work {
-    ghost use Rattle.firm_proposals.specs.Work.{Spent, IsWithin};
+    ghost use Rattle.firm_levels.specs.Work.{Spent, IsWithin};
 
     ghost Value = { Spent };
 
@@ -44,7 +44,8 @@ impl Model for Work {
 impl Work {
     /// Nothing done yet.
     pub fn new(most: Allowance) -> Work
-        ensures { result.most ≡ (most.searches, most.looks) }
+        ensures most { result.most ≡ (most.searches, most.looks) }
+        ensures none { (result.searches ≡ 0) × (result.looks ≡ 0) }
     {
         Work {
             searches: 0,
@@ -72,20 +73,23 @@ impl Work {
 
     /// How many looks are left.
     #[inline(always)]
-    pub(crate) fn left(&self) -> u64 {
+    pub fn left(&self) -> u64
+        ensures { result + self.now.looks ≡ self.now.most.1 }
+    {
         self.most.looks.saturating_sub(self.looks)
     }
 
-    /// Whether a search or a look was refused.
+    /// Whether a search, a look or a pass was refused.
     #[inline(always)]
-    pub(crate) fn is_short(&self) -> bool {
+    pub fn is_short(&self) -> bool {
         self.is_short
     }
 
     /// Whether a look may be made, which is then counted.
     #[inline(always)]
-    pub(crate) fn look(&mut self) -> bool
-        ensures most { self.new.most ≡ self.old.most }
+    pub fn look(&mut self) -> bool
+        ensures work { GoesOn self.old self.new }
+        ensures counted { IsTrue result → self.new.looks ≡ self.old.looks + 1 }
     {
         let is_left = self.looks < self.most.looks;
         if is_left {
@@ -96,9 +100,27 @@ impl Work {
         is_left
     }
 
+    /// Counts a pass over a table of this many entries, and returns how many of them may be read: all, or none if the
+    /// looks left are fewer.
+    pub fn pass(&mut self, entries: u32) -> u32
+        ensures work { GoesOn self.old self.new }
+        ensures counted { self.new.looks ≡ self.old.looks + result }
+        ensures few { result ≤ entries }
+        ensures all { self.old.looks + entries ≤ self.old.most.1 → result ≡ entries }
+    {
+        let looks = u64::from(entries);
+        if self.left() < looks {
+            self.is_short = true;
+            return 0;
+        }
+        self.looks += looks;
+        entries
+    }
+
     /// Whether a search may begin, which is then counted, with a look.
-    pub(crate) fn begin_search(&mut self) -> bool
-        ensures most { self.new.most ≡ self.old.most }
+    pub fn begin_search(&mut self) -> bool
+        ensures work { GoesOn self.old self.new }
+        ensures counted { IsTrue result → self.new.looks ≡ self.old.looks + 1 }
     {
         let is_left = self.looks < self.most.looks && self.searches < self.most.searches;
         if is_left {

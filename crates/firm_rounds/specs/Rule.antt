@@ -1,9 +1,9 @@
 -- The rule of the round queue: each ticket put was got or is in the queue, as often as it was put.
-use Rattle.std.specs.Prelude.{◌≡◌, ℕ, ◌+◌, ◌-◌, ◌^◌, ◌<◌, ◌≤◌, nat_lt, cond, List, map, length}
+use Rattle.std.specs.Prelude.{◌≡◌, ℕ, ◌+◌, ◌-◌, ◌^◌, ◌<◌, ◌≤◌, nat_lt, cond, List, [], map, length}
 use mathlib.Core.Option.{some}
 use lib.ListN.{get_elem?}
 use Rattle.firm_rules.specs.declared.tickets.Ticket.{Ticket}
-use Rattle.firm_rounds.specs.Rounds.{weigh, put_by, got_by, is_at, beyond}
+use Rattle.firm_rounds.specs.Rounds.{weigh, put_by, got_by, is_at, beyond, share_of}
 use Rattle.firm_rounds.specs.declared.protocol.JobParts.{JobParts}
 use Rattle.firm_rounds.specs.declared.protocol.Share.{Share}
 use Rattle.firm_rounds.specs.declared.protocol.Sight.{Sight}
@@ -49,3 +49,12 @@ Holds v items =
     × ((place : ℕ) → place < beyond → weigh (is_at place) v.shares ≤ 1)
     × (length items ≤ 8)
     × FewGot v
+
+-- at one step of a call the rule held of these items and of what the seats knew, this one among them
+abbrev pub Shows : Sight → List JobParts → Type 0
+Shows v items = (views : List Sight) × (id : ℕ) × (get_elem? views id ≡ some v) × Fair items views
+
+-- At one step of a call the queue was empty, under its rule, and the pass had got these tickets: all that was put by
+-- then had been got.
+abbrev pub WasEmpty : List Ticket → Type 0
+WasEmpty got = (v : Sight) × Shows v [] × ((share_of v).got ≡ got)
