@@ -13,6 +13,7 @@ use crate::rule::{
 use std::alloc::{AllocError, Global};
 use std::hint::spin_loop;
 use std::marker::Model;
+use std::snapshot::Snapshot;
 use std::sync::Wait;
 
 // How many times a worker looks for a round in vain before it rests. The last one awake goes on for some microseconds:
@@ -83,6 +84,23 @@ impl Model for Listener {
     ghost invariant = { λ l. l.owes_call ≡ l.seat.me.0.owes_call };
 }
 
+/// Which bell is meant. It has no bytes, and contracts alone read it.
+#[derive(Drop)]
+pub struct BellName {
+    bell: Snapshot<Bell>,
+}
+
+impl Model for BellName {
+    ghost use Rattle.atomic_table.specs.Seated.{TableId};
+
+    ghost Value = { TableId };
+
+    ghost view = { λ n. n.bell.value };
+}
+
+// Derived for each use, `Send` would be searched for in all that a `Bell` holds.
+unsafe impl Send for BellName {}
+
 impl Bell {
     /// A bell for 1 to 8 workers. Fails only if memory is refused.
     pub fn open(alloc: Global, workers: usize) -> Result<Bell, AllocError>
@@ -93,6 +111,15 @@ impl Bell {
             workers: workers as u64,
             board,
         })
+    }
+
+    /// Its name.
+    pub fn name(&self) -> BellName
+        ensures { result ≡ self.now }
+    {
+        BellName {
+            bell: Snapshot::of(self),
+        }
     }
 
     /// A new caller, which owes nothing.

@@ -30,4 +30,4 @@
 mod bell;
 mod rule;
 
-pub use bell::{Bell, Caller, Listener};
+pub use bell::{Bell, BellName, Caller, Listener};

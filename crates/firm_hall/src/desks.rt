@@ -152,9 +152,12 @@ impl Desk {
             let reply = tenant.step(alloc, Command::Round);
             return Err((Desk { tenant, place }, reply));
         }
-        let Ok((side, answer)) = Tray::open(alloc, &tenant) else {
-            let reply = tenant.no_memory();
-            return Err((Desk { tenant, place }, reply));
+        let (side, answer) = match Tray::open(alloc, &tenant) {
+            Ok(sides) => sides,
+            Err(error) => {
+                let reply = tenant.no_memory(error);
+                return Err((Desk { tenant, place }, reply));
+            }
         };
         let job = Job::new(place.next(), tenant, answer);
         place.put(rt, hall, job, asker);

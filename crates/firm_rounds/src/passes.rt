@@ -11,10 +11,9 @@ ghost use Rattle.firm_bell.specs.Steps.{Knows, StandsAt};
 ghost use Rattle.firm_bell.specs.declared.rule.Stage.TheVariants.{Putting};
 
 use crate::protocol::{Give, JobParts, Pops, Puts, QueueSeat, Ring};
-use firm_bell::{Bell, Caller, Listener};
+use firm_bell::{Bell, BellName, Caller, Listener};
 use firm_rules::Ticket;
 use std::marker::Model;
-use std::snapshot::Snapshot;
 use std::sync::Wait;
 
 /// The right to put the rounds of one place, numbered from 1 without a gap. Contracts see its place and how many rounds
@@ -24,8 +23,8 @@ pub struct PutPass {
     place: u32,
     put: u64,
     seat: QueueSeat,
-    // The queue's bell; only clauses read it.
-    bell: Snapshot<Bell>,
+    // The queue's bell.
+    bell: BellName,
 }
 
 impl Model for PutPass {
@@ -38,7 +37,7 @@ impl Model for PutPass {
     ghost Value = { PutIs };
 
     ghost view = { λ p. record {
-      queue = record { table = p.seat.table_id; all = (sees p.seat).all; bell = p.bell.value };
+      queue = record { table = p.seat.table_id; all = (sees p.seat).all; bell = p.bell };
       place = p.place;
       put = p.put;
     } };
@@ -97,7 +96,7 @@ impl PutPass {
             place,
             put: 0,
             seat,
-            bell: Snapshot::of(bell),
+            bell: bell.name(),
         }
     }
 

@@ -94,8 +94,8 @@ impl Tenant {
         }
     }
 
-    /// Refuses a round for lack of memory: only the count of commands grows.
-    pub fn no_memory(&mut self) -> Reply
+    /// Refuses a round for lack of memory, as the allocator said: only the count of commands grows.
+    pub fn no_memory(&mut self, error: AllocError) -> Reply
         requires life_left { self.old.given < self.old.rows.limits.life }
         ensures { (result, self.new) ≡ step self.old Command.Round true }
     {
@@ -106,7 +106,7 @@ impl Tenant {
         self.given = number;
         Reply {
             number,
-            outcome: Outcome::Refused(Refusal::Memory),
+            outcome: Outcome::Refused(error.into()),
         }
     }
 
