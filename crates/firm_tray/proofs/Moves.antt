@@ -1,6 +1,6 @@
 -- Each step keeps the law of a tray.
-use Rattle.std.proofs.Common.{◌≡◌, ℕ, zero, suc, ◌==◌, List, [], ◌∷◌, get_or, Option, Some, None, sym, refl}
-use Rattle.std.proofs.Common.{ap, ◌∙◌, subst, true, false}
+use Rattle.std.proofs.Common.{◌≡◌, ℕ, ◌+◌, zero, suc, ◌==◌, List, [], ◌∷◌, ◌++◌, slice_set, get_or}
+use Rattle.std.proofs.Common.{Option, Some, None, sym, refl, ap, ◌∙◌, subst, true, false}
 use Rattle.std.proofs.lemmas.Bool.{true≢false}
 use mathlib.Core.Option.{some, some-injective, some-ne-none}
 use lib.ListN.{get_elem?}
@@ -13,9 +13,9 @@ use Rattle.firm_tray.specs.declared.protocol.Stage.TheVariants.{Opening, Holding
 use Rattle.firm_tray.specs.declared.protocol.TraySight.{TraySight}
 use Rattle.firm_tray.specs.declared.protocol.Solved.{Solved}
 use Rattle.firm_tray.specs.Solved.{IsSolved}
-use Rattle.firm_tray.specs.Rule.{tray_sight, Phase, fresh, dealt, waiting, answered, gone, Tray, tray_at, IsFair}
-use Rattle.firm_tray.specs.Rule.{KeepsRule}
-use Rattle.firm_tray.specs.inner.Steps.{Hand, takes_slot, gives_answer, looks}
+use Rattle.firm_tray.specs.Rule.{asking_sight, tray_sight, Phase, fresh, dealt, waiting, answered, gone, Tray, tray_at}
+use Rattle.firm_tray.specs.Rule.{IsFair, KeepsRule}
+use Rattle.firm_tray.specs.inner.Steps.{Hand, open_sight, asked_sight, takes_slot, gives_answer, looks}
 
 -- what a step at the word owes in the state s
 abbrev Goes : Book → ℕ → Hand → (ℕ → ℕ) → (ℕ → Hand → Type 0) → Tray → Type 0
@@ -47,16 +47,28 @@ same_number Spent = refl
 same_number Asked = refl
 same_number Taken = refl
 
-elsewhere : {G : Type 0} (b : Book) (x y : Stage) → (number x == number y) ≡ false
-    → some (tray_sight x b) ≡ some (tray_sight y b) → G
-elsewhere b x y other e =
+elsewhere : {G : Type 0} (b : Book) {m n : ℕ} (x y : Stage) → (number x == number y) ≡ false
+    → some (asking_sight x m b) ≡ some (asking_sight y n b) → G
+elsewhere b {m} {n} x y other e =
     let same =
-    ap (λ (v : TraySight). number x == number v.stage) (some-injective (tray_sight x b) (tray_sight y b) e) in
+    ap (λ (v : TraySight). number x == number v.stage) (some-injective (asking_sight x m b) (asking_sight y n b) e) in
     absurd (true≢false (sym (same_number x) ∙ (same ∙ other)))
 
 -- the stage of the seat that stands there
 abbrev Stands : Book → ℕ → Phase → Stage → Type 0
 Stands b id p stage = get_elem? (tray_at b p).views id ≡ some (tray_sight stage b)
+
+-- what the seat with the slot knows, and the tray once that seat has parted into two sides
+abbrev holding_sight : Book → TraySight
+holding_sight b = tray_sight Holding b
+
+abbrev parted : Tray → ℕ → TraySight → Tray
+parted s id seat =
+    record {
+      words = s.words;
+      homes = s.homes;
+      views = slice_set s.views id (open_sight seat) ++ asked_sight seat ∷ [];
+    }
 
 nowhere : {G : Type 0} (v : TraySight) → mathlib.Core.Option.none ≡ some v → G
 nowhere v e = absurd (some-ne-none v (sym e))
@@ -67,15 +79,15 @@ deals b zero fresh fair at = (tray_sight Holding b, takes 0 None, refl, (dealt, 
 deals b (suc id) fresh fair at = nowhere _ at
 deals b zero dealt fair at = elsewhere b Holding Opening refl at
 deals b (suc id) dealt fair at = nowhere _ at
-deals b zero waiting fair at = elsewhere b Open Opening refl at
-deals b (suc zero) waiting fair at = elsewhere b Asked Opening refl at
-deals b (suc (suc id)) waiting fair at = nowhere _ at
-deals b zero (answered x) fair at = elsewhere b Spent Opening refl at
-deals b (suc zero) (answered x) fair at = elsewhere b Asked Opening refl at
-deals b (suc (suc id)) (answered x) fair at = nowhere _ at
-deals b zero gone fair at = elsewhere b Spent Opening refl at
-deals b (suc zero) gone fair at = elsewhere b Taken Opening refl at
-deals b (suc (suc id)) gone fair at = nowhere _ at
+deals b zero (waiting vain) fair at = elsewhere b Open Opening refl at
+deals b (suc zero) (waiting vain) fair at = elsewhere b Asked Opening refl at
+deals b (suc (suc id)) (waiting vain) fair at = nowhere _ at
+deals b zero (answered vain x) fair at = elsewhere b Spent Opening refl at
+deals b (suc zero) (answered vain x) fair at = elsewhere b Asked Opening refl at
+deals b (suc (suc id)) (answered vain x) fair at = nowhere _ at
+deals b zero (gone vain) fair at = elsewhere b Spent Opening refl at
+deals b (suc zero) (gone vain) fair at = elsewhere b Taken Opening refl at
+deals b (suc (suc id)) (gone vain) fair at = nowhere _ at
 
 fills : (b : Book) (x : Solved) → IsSolved b x → (id : ℕ) (p : Phase) → IsFair b p → Stands b id p Open
     → Goes b id (tray_sight Open b, (0, Some x) ∷ []) (λ n. 1) (λ n m. m ≡ (tray_sight Spent b, [])) (tray_at b p)
@@ -83,32 +95,59 @@ fills b x r zero fresh fair at = elsewhere b Opening Open refl at
 fills b x r (suc id) fresh fair at = nowhere _ at
 fills b x r zero dealt fair at = elsewhere b Holding Open refl at
 fills b x r (suc id) dealt fair at = nowhere _ at
-fills b x r zero waiting fair at = (tray_sight Spent b, gives, tt, (answered x, refl, r), refl)
-fills b x r (suc zero) waiting fair at = elsewhere b Asked Open refl at
-fills b x r (suc (suc id)) waiting fair at = nowhere _ at
-fills b x r zero (answered y) fair at = elsewhere b Spent Open refl at
-fills b x r (suc zero) (answered y) fair at = elsewhere b Asked Open refl at
-fills b x r (suc (suc id)) (answered y) fair at = nowhere _ at
-fills b x r zero gone fair at = elsewhere b Spent Open refl at
-fills b x r (suc zero) gone fair at = elsewhere b Taken Open refl at
-fills b x r (suc (suc id)) gone fair at = nowhere _ at
+fills b x r zero (waiting vain) fair at = (tray_sight Spent b, gives, tt, (answered vain x, refl, r), refl)
+fills b x r (suc zero) (waiting vain) fair at = elsewhere b Asked Open refl at
+fills b x r (suc (suc id)) (waiting vain) fair at = nowhere _ at
+fills b x r zero (answered vain y) fair at = elsewhere b Spent Open refl at
+fills b x r (suc zero) (answered vain y) fair at = elsewhere b Asked Open refl at
+fills b x r (suc (suc id)) (answered vain y) fair at = nowhere _ at
+fills b x r zero (gone vain) fair at = elsewhere b Spent Open refl at
+fills b x r (suc zero) (gone vain) fair at = elsewhere b Taken Open refl at
+fills b x r (suc (suc id)) (gone vain) fair at = nowhere _ at
 
-sees : (b : Book) (id : ℕ) (p : Phase) → IsFair b p → Stands b id p Asked
-    → Goes b id (tray_sight Asked b, []) (λ n. either (n == 1) 2 n)
-    (λ n m. looks (step 1 0 1 2 mathlib.Core.Option.none) (tray_sight Asked b, []) n m) (tray_at b p)
-sees b zero fresh fair at = elsewhere b Opening Asked refl at
-sees b (suc id) fresh fair at = nowhere _ at
-sees b zero dealt fair at = elsewhere b Holding Asked refl at
-sees b (suc id) dealt fair at = nowhere _ at
-sees b zero waiting fair at = elsewhere b Open Asked refl at
-sees b (suc zero) waiting fair at = (tray_sight Asked b, keeps, tt, (waiting, refl, tt), (refl, refl))
-sees b (suc (suc id)) waiting fair at = nowhere _ at
-sees b zero (answered x) fair at = elsewhere b Spent Asked refl at
-sees b (suc zero) (answered x) fair at = (tray_sight Taken b, takes 0 (Some x), refl, (gone, refl, tt), (x, fair, refl))
-sees b (suc (suc id)) (answered x) fair at = nowhere _ at
-sees b zero gone fair at = elsewhere b Spent Asked refl at
-sees b (suc zero) gone fair at = elsewhere b Taken Asked refl at
-sees b (suc (suc id)) gone fair at = nowhere _ at
+sees : (b : Book) (vain id : ℕ) (p : Phase) → IsFair b p
+    → get_elem? (tray_at b p).views id ≡ some (asking_sight Asked vain b)
+    → Goes b id (asking_sight Asked vain b, []) (λ n. either (n == 1) 2 n)
+    (λ n m. looks (step 1 0 1 2 mathlib.Core.Option.none) (asking_sight Asked vain b, []) n m) (tray_at b p)
+sees b vain zero fresh fair at = elsewhere b Opening Asked refl at
+sees b vain (suc id) fresh fair at = nowhere _ at
+sees b vain zero dealt fair at = elsewhere b Holding Asked refl at
+sees b vain (suc id) dealt fair at = nowhere _ at
+sees b vain zero (waiting n) fair at = elsewhere b Open Asked refl at
+sees b vain (suc zero) (waiting n) fair at =
+    (asking_sight Asked (vain + 1) b, keeps, tt, (waiting (vain + 1), refl, tt), (refl, refl))
+sees b vain (suc (suc id)) (waiting n) fair at = nowhere _ at
+sees b vain zero (answered n x) fair at = elsewhere b Spent Asked refl at
+sees b vain (suc zero) (answered n x) fair at =
+    (asking_sight Taken vain b, takes 0 (Some x), refl, (gone vain, refl, tt), (x, fair, refl))
+sees b vain (suc (suc id)) (answered n x) fair at = nowhere _ at
+sees b vain zero (gone n) fair at = elsewhere b Spent Asked refl at
+sees b vain (suc zero) (gone n) fair at = elsewhere b Taken Asked refl at
+sees b vain (suc (suc id)) (gone n) fair at = nowhere _ at
+
+-- the seat that holds the slot parts into the two sides
+sides : (b : Book) (id : ℕ) (p : Phase) → Stands b id p Holding
+    → KeepsRule b (parted (tray_at b p) id (holding_sight b))
+sides b zero fresh at = elsewhere b Opening Holding refl at
+sides b (suc id) fresh at = nowhere _ at
+sides b zero dealt at = (waiting 0, refl, tt)
+sides b (suc id) dealt at = nowhere _ at
+sides b zero (waiting vain) at = elsewhere b Open Holding refl at
+sides b (suc zero) (waiting vain) at = elsewhere b Asked Holding refl at
+sides b (suc (suc id)) (waiting vain) at = nowhere _ at
+sides b zero (answered vain x) at = elsewhere b Spent Holding refl at
+sides b (suc zero) (answered vain x) at = elsewhere b Asked Holding refl at
+sides b (suc (suc id)) (answered vain x) at = nowhere _ at
+sides b zero (gone vain) at = elsewhere b Spent Holding refl at
+sides b (suc zero) (gone vain) at = elsewhere b Taken Holding refl at
+sides b (suc (suc id)) (gone vain) at = nowhere _ at
+
+pub sides_as : (b key : Book) (seat : TraySight) (id : ℕ) (s : Tray) → key ≡ b → seat ≡ holding_sight b
+    → KeepsRule key s → get_elem? s.views id ≡ some seat → KeepsRule key (parted s id seat)
+sides_as b key seat id s k e =
+    rw (k, e) (λ (kept : KeepsRule b s) (at : get_elem? s.views id ≡ some (holding_sight b)).
+    subst (λ (t : Tray). KeepsRule b (parted t id (holding_sight b))) (sym kept.1)
+    (sides b id kept.0 (ap (λ (t : Tray). get_elem? t.views id) (sym kept.1) ∙ at)))
 
 pub deals_allowed : (b : Book) (slots id : ℕ)
     → Allows (KeepsRule b) slots id (tray_sight Opening b, []) 0 (λ n. n)
@@ -124,12 +163,12 @@ fills_allowed b x slots id r =
     by_phase b slots id (tray_sight Open b, (0, Some x) ∷ []) (λ n. 1) (λ n m. m ≡ (tray_sight Spent b, []))
     (fills b x r id)
 
-pub sees_allowed : (b : Book) (slots id : ℕ)
-    → Allows (KeepsRule b) slots id (tray_sight Asked b, []) 0 (λ n. either (n == 1) 2 n)
-    (looks (step slots 0 1 2 mathlib.Core.Option.none) (tray_sight Asked b, []))
-sees_allowed b slots id =
-    by_phase b slots id (tray_sight Asked b, []) (λ n. either (n == 1) 2 n)
-    (λ n m. looks (step slots 0 1 2 mathlib.Core.Option.none) (tray_sight Asked b, []) n m) (sees b id)
+pub sees_allowed : (b : Book) (vain slots id : ℕ)
+    → Allows (KeepsRule b) slots id (asking_sight Asked vain b, []) 0 (λ n. either (n == 1) 2 n)
+    (looks (step slots 0 1 2 mathlib.Core.Option.none) (asking_sight Asked vain b, []))
+sees_allowed b vain slots id =
+    by_phase b slots id (asking_sight Asked vain b, []) (λ n. either (n == 1) 2 n)
+    (λ n m. looks (step slots 0 1 2 mathlib.Core.Option.none) (asking_sight Asked vain b, []) n m) (sees b vain id)
 
 -- the same where the key and the seat are known to be those
 pub deals_as : (b key : Book) (me : Hand) (slots id : ℕ) → key ≡ b → me ≡ (tray_sight Opening b, [])
@@ -141,10 +180,11 @@ pub fills_as : (b key : Book) (me : Hand) (x : Solved) (slots id : ℕ) → key 
     → Allows (KeepsRule key) slots id me 0 (λ n. 1) (λ n. gives_answer (step slots 0 1 0 mathlib.Core.Option.none) me 1)
 fills_as b key me x slots id k e r = rw (k, e) (fills_allowed b x slots id r)
 
-pub sees_as : (b key : Book) (me : Hand) (slots id : ℕ) → key ≡ b → me ≡ (tray_sight Asked b, [])
+pub sees_as : (b : Book) (vain : ℕ) (key : Book) (me : Hand) (slots id : ℕ) → key ≡ b
+    → me ≡ (asking_sight Asked vain b, [])
     → Allows (KeepsRule key) slots id me 0 (λ n. either (n == 1) 2 n)
     (looks (step slots 0 1 2 mathlib.Core.Option.none) me)
-sees_as b key me slots id k e = rw (k, e) (sees_allowed b slots id)
+sees_as b vain key me slots id k e = rw (k, e) (sees_allowed b vain slots id)
 
 one_carried : (y : Option Solved) (v : TraySight) (m : Hand) → m ≡ (v, (0, y) ∷ []) → m.1 ≡ (0, y) ∷ rest m.1
 one_carried y v m e = rw e refl

@@ -22,10 +22,12 @@ pub enum Stage {
     Taken,
 }
 
-/// What a seat knows: its stage, and the tenant for which the tray was opened. Never constructed.
+/// What a seat knows: its stage, the tenant for which the tray was opened, and how many of the asking side's looks found
+/// no answer. Never constructed.
 pub struct TraySight {
     pub stage: Stage,
     pub book: Tenant,
+    pub vain: u64,
 }
 
 /// The rule that every step keeps.

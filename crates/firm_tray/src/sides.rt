@@ -31,14 +31,14 @@ impl Model for AskSide {
 
     ghost Value = { Side };
 
-    ghost use Rattle.firm_tray.specs.Rule.{tray_sight};
+    ghost use Rattle.firm_tray.specs.Rule.{asking_sight};
     ghost use Rattle.firm_tray.specs.inner.Steps.{IsSeated};
     ghost use Rattle.firm_tray.specs.declared.protocol.Stage.TheVariants.{Asked};
 
-    ghost view = { λ a. record { tray = a.seat.table_id; book = a.seat.me.0.book } };
+    ghost view = { λ a. record { tray = a.seat.table_id; book = a.seat.me.0.book; vain = a.seat.me.0.vain } };
 
     ghost invariant = { λ a. IsSeated (arc_value a.board).shared.table_id (arc_value a.board).shared.key a.seat.table_id
-        a.seat.me.0.book × (a.seat.me ≡ (tray_sight Asked a.seat.me.0.book, [])) };
+        a.seat.me.0.book × (a.seat.me ≡ (asking_sight Asked a.seat.me.0.vain a.seat.me.0.book, [])) };
 }
 
 /// The side that answers. It holds the slot.
@@ -59,7 +59,7 @@ impl Model for AnswerSide {
     ghost use Rattle.firm_tray.specs.inner.Steps.{IsSeated};
     ghost use Rattle.firm_tray.specs.declared.protocol.Stage.TheVariants.{Open};
 
-    ghost view = { λ a. record { tray = a.seat.table_id; book = a.seat.me.0.book } };
+    ghost view = { λ a. record { tray = a.seat.table_id; book = a.seat.me.0.book; vain = a.seat.me.0.vain } };
 
     ghost invariant = { λ a. IsSeated (arc_value a.board).shared.table_id (arc_value a.board).shared.key a.seat.table_id
         a.seat.me.0.book × (a.seat.me ≡ (tray_sight Open a.seat.me.0.book, (0, None) ∷ [])) };
@@ -80,7 +80,7 @@ impl Model for Spent {
     ghost use Rattle.firm_tray.specs.Rule.{tray_sight};
     ghost use Rattle.firm_tray.specs.declared.protocol.Stage.TheVariants.{Spent as IsSpent};
 
-    ghost view = { λ a. record { tray = a.seat.table_id; book = a.seat.me.0.book } };
+    ghost view = { λ a. record { tray = a.seat.table_id; book = a.seat.me.0.book; vain = a.seat.me.0.vain } };
 
     ghost invariant = { λ a. a.seat.me ≡ (tray_sight IsSpent a.seat.me.0.book, []) };
 }

@@ -4,7 +4,7 @@ use Rattle.firm_tray.proofs.sides.AskSide.poll.Goals as goal
 
 pub compare_exchange-requires : goal.compare_exchange-requires
 compare_exchange-requires c =
-    (search rules, search rules, sees_as c.self.inside.seat.me.0.book _ _ _ _ (search rules) (search rules))
+    (search rules, search rules, sees_as c.self.inside.seat.me.0.book c.self.inside.seat.me.0.vain _ _ _ _ (search rules) (search rules))
 
 pub exchange-requires : goal.exchange-requires
 exchange-requires c =
