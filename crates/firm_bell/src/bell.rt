@@ -13,7 +13,6 @@ use crate::rule::{
 use std::alloc::{AllocError, Global};
 use std::hint::spin_loop;
 use std::marker::Model;
-use std::snapshot::Snapshot;
 use std::sync::Wait;
 
 // How many times a worker looks for a round in vain before it rests. The last one awake goes on for some microseconds:
@@ -84,10 +83,10 @@ impl Model for Listener {
     ghost invariant = { λ l. l.owes_call ≡ l.seat.me.0.owes_call };
 }
 
-/// Which bell is meant. It has no bytes, and contracts alone read it.
+/// The name of a bell: a seat at it that takes no part. It has no bytes, and contracts alone read it.
 #[derive(Drop)]
 pub struct BellName {
-    bell: Snapshot<Bell>,
+    seat: BellSeat,
 }
 
 impl Model for BellName {
@@ -95,11 +94,8 @@ impl Model for BellName {
 
     ghost Value = { TableId };
 
-    ghost view = { λ n. n.bell.value };
+    ghost view = { λ n. n.seat.table_id };
 }
-
-// Derived for each use, `Send` would be searched for in all that a `Bell` holds.
-unsafe impl Send for BellName {}
 
 impl Bell {
     /// A bell for 1 to 8 workers. Fails only if memory is refused.
@@ -117,9 +113,8 @@ impl Bell {
     pub fn name(&self) -> BellName
         ensures { result ≡ self.now }
     {
-        BellName {
-            bell: Snapshot::of(self),
-        }
+        let (_, seat) = self.board.shared.load_new_seat::<Comes>(WAITING);
+        BellName { seat }
     }
 
     /// A new caller, which owes nothing.
