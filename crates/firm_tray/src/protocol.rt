@@ -22,7 +22,7 @@ pub enum Stage {
     Taken,
 }
 
-/// What a seat knows: its stage, the tenant for which the tray was opened, and how many of the asking side's looks found
+/// What a seat knows: its stage, the tenant for which the tray was opened, and how many looks of the asking side found
 /// no answer. Never constructed.
 pub struct TraySight {
     pub stage: Stage,

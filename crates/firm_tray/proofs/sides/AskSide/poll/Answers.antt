@@ -3,8 +3,11 @@ use Rattle.firm_tray.proofs.Moves.{sees_as, slot_seen, solved_seen}
 use Rattle.firm_tray.proofs.sides.AskSide.poll.Goals as goal
 
 pub compare_exchange-requires : goal.compare_exchange-requires
-compare_exchange-requires c =
-    (search rules, search rules, sees_as c.self.inside.seat.me.0.book c.self.inside.seat.me.0.vain _ _ _ _ (search rules) (search rules))
+compare_exchange-requires c = (
+  search rules,
+  search rules,
+  sees_as c.self.inside.seat.me.0.book c.self.inside.seat.me.0.vain _ _ _ _ (search rules) (search rules),
+)
 
 pub exchange-requires : goal.exchange-requires
 exchange-requires c =
