@@ -186,7 +186,7 @@ def other_pieces(setup: Setup) -> None:
     """A state with a piece of another one, or one that is older, is not served."""
     with setup.daemon("--segment-bytes", "4000") as daemon, setup.daemon("--segment-bytes", "4000") as other:
         said = answered(daemon, True)
-        shutil.copytree(daemon.state, daemon.folder / "copy", ignore=shutil.ignore_patterns("view", "moves", "lock"))
+        shutil.copytree(daemon.state, daemon.folder / "copy", ignore=shutil.ignore_patterns("view", "lock"))
         more = [b"alpha show"] * 200
         daemon.start()
         ask_all(daemon, more)
@@ -609,7 +609,7 @@ def random_damage(setup: Setup, part: int, trials: int) -> None:
         said = answered(daemon, is_killed, 200)
         alone = setup.alone(ROSTER, b"".join(line + b"\n" for line in [*said, *QUESTIONS]))[len(said) :]
         kept = daemon.folder / "kept"
-        shutil.copytree(daemon.state, kept, ignore=shutil.ignore_patterns("view", "moves"))
+        shutil.copytree(daemon.state, kept, ignore=shutil.ignore_patterns("view"))
         told = 0
         for trial in range(trials):
             shutil.rmtree(daemon.state)

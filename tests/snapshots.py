@@ -259,7 +259,7 @@ def damages(setup: Options) -> None:
     with with_snapshots(setup) as (daemon, said):
         daemon.kill()
         kept = daemon.folder / "kept"
-        shutil.copytree(daemon.state, kept, ignore=shutil.ignore_patterns("view", "moves"))
+        shutil.copytree(daemon.state, kept, ignore=shutil.ignore_patterns("view"))
         first, second = [snapshots.paths_of(daemon.state / "snapshots", segment) for segment in named(daemon)[:2]]
         for trial in range(2 if setup.is_quick else 100):
             paths = [draw.choice(first)] + ([draw.choice(second)] if trial % 2 else [])

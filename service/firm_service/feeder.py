@@ -19,7 +19,7 @@ from functools import partial
 from itertools import islice
 from pathlib import Path
 
-from .books import Book, Books
+from .books import Books
 from .bounds import MEBIBYTE
 from .faults import Faults, say
 from .feed import BEGIN, END, LINES, LOAD, STATUS, TENANT
@@ -166,11 +166,6 @@ class Feeder:
     def replied_all(self, lines: Sequence[bytes], replies: Sequence[bytes], seconds: float | None) -> None:
         if self._is_telling:
             self._tell(LINES, lambda: lines_text(lines, replies, seconds))
-
-    def tell_joined(self, book: Book) -> None:
-        """Tells of a tenant that no line has admitted."""
-        if self._is_telling:
-            self._tell(TENANT, partial(tenant_text, book))
 
     def tell_status(self) -> None:
         """Tells what firmd knows of itself; called again and again."""

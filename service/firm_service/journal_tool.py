@@ -55,7 +55,7 @@ def print_lines(options: argparse.Namespace) -> None:
     """As firm gets them in a replay, or as they were sent: it may read them again. A terminal is shown no line that
     could steer it."""
     state = StateFolder(options.state)
-    found = found_now(options.state, None if options.senders or state.joined is None else state.base)
+    found = found_now(options.state, None if options.senders or state.renewed is None else state.base)
     is_shown = sys.stdout.isatty()
     for kept in kept_lines(found):
         if options.senders:
@@ -114,8 +114,10 @@ def rewrite(options: argparse.Namespace) -> None:
     if source.is_of_today and not options.forget_replies and not options.obey:
         print(f"{source.folder}: all segments have today's form already")
         return
-    if state.joined is not None:
-        raise Fault(Exit.STATE, f"{source.folder}: a tenant has joined the service, whose state is of these segments")
+    if state.renewed is not None:
+        raise Fault(
+            Exit.STATE, f"{source.folder}: the replica has begun anew from a snapshot, and lacks the first lines"
+        )
     if source.found.base != BEGINNING:
         raise Fault(Exit.STATE, f"{source.folder}: the first lines are archived or deleted: put them back")
     for number in options.obey:

@@ -147,8 +147,8 @@ def find_today(state: StateFolder, folder: Path, there: tuple[list[int], Extent]
     take_old_segments(found, [segment_path(folder, number) for number in old], may_be_torn=False)
     for number in headers:
         take_segment(found, segment_path(folder, number), extent, headers.get(number + 1))
-    if headers[last].roster not in state.sums:
-        what = "the roster that the state began with" if state.joined is None else "what the state goes on from"
+    if headers[last].roster != state.roster_sum:
+        what = "the roster that the state began with" if state.renewed is None else "what the state goes on from"
         damaged(f"{state.opening.path}: this is not {what}")
     if headers[last].state != found.state:
         damaged(f"{extent_path(folder)}: it is that of the state {found.state}, not {headers[last].state}")

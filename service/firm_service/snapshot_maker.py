@@ -55,7 +55,7 @@ def beginning(state: StateFolder, before: int) -> Beginning:
         books = read_books(found.state, found.books, found.base.lines)
         return Beginning(found.base, opening_of(state, found), books, point_of(found) if is_replica else None)
     books = opening_books(state, state.read_opening())
-    return Beginning(state.base, state.opening, books, opening_point(state.joined) if is_replica else None)
+    return Beginning(state.base, state.opening, books, opening_point(state.renewed) if is_replica else None)
 
 
 def cut_at(found: Found, segment: int) -> Found:

@@ -18,10 +18,10 @@ from zlib import crc32
 from . import roster, states
 from .faults import RESTORE, Exit, Fault, reason
 from .files import PRIVATE, replace_synced, sync_folder, write_synced
-from .joined import Joined, require_same
-from .joined import read as read_joined
 from .lock import lock_alone
 from .records import BEGINNING, Base
+from .replicated.renewed import Renewed, require_same
+from .replicated.renewed import read as read_renewed
 from .states import MOST_BYTES, Opening, digest
 
 ROSTER, JOURNAL, VIEW, ID = "roster.csv", "journal", "view", "id"
@@ -53,7 +53,7 @@ class StateFolder:
         self.roster_path, self.journal_path, self.view_path = folder / ROSTER, folder / JOURNAL, folder / VIEW
         self.id_path, self.restored_path, self.snapshots_path = folder / ID, folder / RESTORED, folder / SNAPSHOTS
         self.had_roster = self.first.path.exists()  # so a start came as far as the journal
-        self.joined = read_joined(folder)  # what it goes on from, if a tenant has joined it
+        self.renewed = read_renewed(folder)  # what a replica goes on from that began anew
         # Checksum of the opening, once that is read, and whether it lets tenants have a patience.
         self.roster_sum, self.is_extended = 0, False
         self.id = self._read_id()  # None before the first start is through
@@ -67,29 +67,24 @@ class StateFolder:
     @property
     def opening(self) -> Opening:
         """What a start without a snapshot goes on from."""
-        return self.first if self.joined is None else self.joined.opening(self.folder)
+        return self.first if self.renewed is None else self.renewed.opening(self.folder)
 
     @property
     def base(self) -> Base:
         """What stands before the lines that follow the opening."""
-        return BEGINNING if self.joined is None else self.joined.base
-
-    @property
-    def sums(self) -> set[int]:
-        """What the last segment's header may have as the checksum of the opening."""
-        return {self.roster_sum, *(self.joined.former if self.joined is not None else ())}
+        return BEGINNING if self.renewed is None else self.renewed.base
 
     def read_opening(self) -> bytes:
         """The text of the opening, whose checksum is known from then on."""
         text = read(self.opening)
-        if self.joined is not None:
-            require_same(self.joined, text, self.opening.path)
+        if self.renewed is not None:
+            require_same(self.renewed, text, self.opening.path)
         self._know(text)
         return text
 
-    def go_on_from(self, joined: Joined, text: bytes) -> None:
-        """Takes in that a tenant has joined it."""
-        self.joined = joined
+    def go_on_from(self, renewed: Renewed, text: bytes) -> None:
+        """Takes in that the replica has begun anew."""
+        self.renewed = renewed
         self._know(text)
 
     def _know(self, text: bytes) -> None:
@@ -127,7 +122,7 @@ class State(StateFolder):
         Other replicas may have begun before, with what a new state takes then.
         """
         text = self._choose(given, firm) if common is None else self._take(common, given, firm)
-        if self.joined is not None:
+        if self.renewed is not None:
             return self.read_opening()
         self._know(text)
         return text

@@ -92,7 +92,6 @@ class Successor(NamedTuple):
 
     firm: Firm
     base: Base
-    on_switch: Callable[[], None] = lambda: None  # called by the loop, before it hears this firm
 
 
 class Stopping(Exception):
@@ -198,14 +197,6 @@ class Stream:
     def is_replayed(self) -> bool:
         """Whether the replay is over; asked by any thread."""
         return self._is_replayed.is_set()
-
-    def hold(self, tenant: bytes) -> None:
-        """Gives firm no line of a tenant until it is released; those that are under way are answered."""
-        self.lanes.hold(tenant)
-
-    def release(self, tenant: bytes) -> None:
-        self.lanes.release(tenant)
-        self._hand_over_soon()
 
     def order(self, order: Order) -> None:
         """Has the writer do something between two writes; called by any thread."""
@@ -431,7 +422,6 @@ class Stream:
         """Hears the successor from now on; nothing is owed by the former firm, which ends."""
         former, self._firm = self._firm, successor.firm
         self._loop.remove_reader(former.output)
-        successor.on_switch()
         self._loop.add_reader(self._firm.output, self._reader)
         self._heard = self._loop.time()
         self.status.firm_process = self._firm.process.pid

@@ -26,7 +26,6 @@ from .faults import Anew
 from .housekeeper import Housekeeper
 from .housekeeper import Journal as KeptJournal
 from .lease import Lease
-from .offers import offer_of
 from .point import Point, Position
 from .renewal import is_late
 from .shared import Shared
@@ -125,7 +124,6 @@ class ReplicatedJournal:
         keys, size = self._keys, self._position.size
         known = self._store.range(keys.digest)
         before = self._store.range(keys.lines, keys.entry(size) + b"\0", limit=1, is_last_first=True)
-        self._require_tenants()
         if before.found:
             yield from self._take(before.found[0])
         elif is_late(self._store, keys, self._agreed, size):
@@ -134,7 +132,6 @@ class ReplicatedJournal:
             self._require_begin()
         while True:
             rows = self._store.range(keys.entry(self._position.size), after(keys.lines), limit=ENTRIES)
-            self._require_tenants()
             for row in rows.found:
                 yield from self._take(row)
             if not rows.found:
@@ -152,12 +149,6 @@ class ReplicatedJournal:
             raise another_history(f"its lines end at byte {begin.size:,} in etcd, and at {own.size:,} here")
         if own.size < begin.size:
             Entry(0, begin.size, begin.chain, 0, []).left(own)
-
-    def _require_tenants(self) -> None:
-        """Asks that no tenant has come, by the snapshot that stands in etcd, that firm lacks here."""
-        offer = offer_of(self._store, self._keys)
-        if offer is not None and offer.is_another_than(self._own.state.joined):
-            raise Anew("a tenant has come from another service")
 
     def _take(self, row: Row) -> Iterator[Piece]:
         """An entry, or what is left of it, into the own files."""
@@ -182,8 +173,6 @@ class ReplicatedJournal:
                         yield from self._take(Row(key, value, 0))
                 elif value is not None and key == keys.digest:
                     self.digests.compare(Digest.read(value))
-                elif value is not None and key == keys.snapshot:
-                    self._require_tenants()  # the change may be an old one, as above
             if self._is_stopping.is_set():
                 return
 
