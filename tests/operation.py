@@ -335,7 +335,8 @@ def folders_of_others(setup: Setup) -> None:
         folder.mkdir()
         (folder / "lock").symlink_to(victim)
         places = ["--view", "v", "--state", str(folder)]
-        commands = [[*JOURNAL_TOOL, verb, str(folder)] for verb in ("state", "rewrite", "new-id")]
+        verbs = (["state"], ["rewrite", "--extent"], ["new-id"])
+        commands = [[*JOURNAL_TOOL, *words, str(folder)] for words in verbs]
         commands += [
             [*FIRMD, "--firm", setup.program, "--roster", "r", "--state", str(folder), "--socket", f"{name}/s"]
         ]

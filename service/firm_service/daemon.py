@@ -140,7 +140,6 @@ class Daemon:
         loop.set_exception_handler(self._hear_of_error)
         for number in (signal.SIGTERM, signal.SIGINT):
             loop.add_signal_handler(number, self._stop)
-        self._stream.is_mistaken = self._books.may_have_moved
         self._stream.observe(self._books)
         if self._replicated is not None:
             self._follow(self._replicated, partial(self._keep_snapshots, own, snapshot))

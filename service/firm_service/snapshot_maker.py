@@ -61,7 +61,7 @@ def beginning(state: StateFolder, before: int) -> Beginning:
 def cut_at(found: Found, segment: int) -> Found:
     """What was found up to the end of a segment. What is kept of its lines may stand behind it."""
     following = found.segments[segment - found.base.segment]
-    kept = Found(found.base, since=found.since, state=found.state)
+    kept = Found(found.base, state=found.state)
     kept.segments = found.segments[: segment - found.base.segment]
     kept.blocks = [block for block in found.blocks if block.end <= following.size]
     kept.refused = {number: time for number, time in found.refused.items() if number <= following.lines}

@@ -152,8 +152,6 @@ class Snapshots:
 
     def _look(self) -> None:
         """Makes a snapshot if it is time, behind a segment to which nothing is added."""
-        if not self._journal.found.since:  # nothing was written since an older firmd
-            return
         sealed, status = self._journal.sealed(), self._status
         is_due = sealed.lines - self._last.lines >= self._settings.lines
         if not is_due and status.lines > self._last.lines:

@@ -1,9 +1,7 @@
 """The state's folder: its lock, its id, the roster or the state of a service that it began with, and the journal.
 
-The id is kept behind the extent, and a new one behind the segment that begins with it, so it tells how far a beginning
-or a renewal came. An older firmd kept it first, so ids of today are longer, 20 characters in place of 16. A state with
-an old one alone is begun anew; one with a roster too, but without segments, has lost them: remove its id if no line of
-it was ever answered.
+The id is kept after the extent, and a new one after the segment that begins with it: so it shows how far a beginning or
+a renewal came, and a state with an id, but without a roster or segments, has lost them.
 """
 
 from __future__ import annotations
@@ -29,7 +27,7 @@ RESTORED, SNAPSHOTS = "restored", "snapshots"
 REPLICA = "replica"  # is there where the lines stand in etcd too
 OLD_JOURNAL, NEW_JOURNAL = "journal.old", "journal.new"  # the one that was rewritten, and the one that is written
 ROSTER_SECONDS = 60  # in which firm must have judged a roster
-OLD_ID_BYTES, ID_BYTES = 8, 10  # an older firmd kept the id before its journal, this one once the journal is there
+ID_BYTES = 10
 
 
 @dataclass(frozen=True, slots=True)
@@ -52,7 +50,6 @@ class StateFolder:
         self.folder = folder
         self.roster_path, self.journal_path, self.view_path = folder / ROSTER, folder / JOURNAL, folder / VIEW
         self.id_path, self.restored_path, self.snapshots_path = folder / ID, folder / RESTORED, folder / SNAPSHOTS
-        self.had_roster = self.first.path.exists()  # so a start came as far as the journal
         self.renewed = read_renewed(folder)  # what a replica goes on from that began anew
         # Checksum of the opening, once that is read, and whether it lets tenants have a patience.
         self.roster_sum, self.is_extended = 0, False
@@ -90,11 +87,6 @@ class StateFolder:
     def _know(self, text: bytes) -> None:
         """Note the opening's checksum and heading."""
         self.roster_sum, self.is_extended = crc32(text), is_extended(self.opening, text)
-
-    @property
-    def is_of_today(self) -> bool:
-        """Whether the id is one that was kept behind a journal of today's form."""
-        return self.id is not None and len(self.id) == 2 * ID_BYTES
 
     def _read_id(self) -> str | None:
         try:
@@ -167,17 +159,11 @@ class State(StateFolder):
         return read(self.first)
 
     def _require_new(self) -> None:
-        """Asks that no start came as far as the journal; only an older firmd kept the id before a roster."""
+        """Asks that no start came as far as the journal."""
         folders = [self.folder / name for name in (JOURNAL, OLD_JOURNAL, NEW_JOURNAL)]
-        if self.is_of_today or any(path for folder in folders for path in folder.glob("*.lines")):
+        if self.id is not None or any(path for folder in folders for path in folder.glob("*.lines")):
             what = f"{self.roster_path} or {self.restored_path.name}"
             raise Fault(Exit.JOURNAL, f"{what} is missing, with which the state began; {RESTORE}")
-        try:
-            if self.id is not None:
-                self.id_path.unlink()
-                self.id = None
-        except OSError as error:
-            raise Fault(Exit.STATE, f"cannot use the state {self.folder}: {reason(error)}") from error
 
     def _keep(self, text: bytes, given: Opening, firm: Sequence[str]) -> None:
         path = self.restored_path if given.is_state else self.roster_path

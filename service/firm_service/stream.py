@@ -15,11 +15,9 @@ import os
 import time
 from collections import deque
 from collections.abc import Callable, Iterator, Sequence
-from contextlib import suppress
 from dataclasses import dataclass
 from functools import partial
 from itertools import groupby, islice
-from pathlib import Path
 from queue import SimpleQueue
 from threading import Event, Thread
 from typing import NamedTuple, Protocol
@@ -32,7 +30,7 @@ from .lanes import OPERATORS, Bounds, Lanes, Owner, Share
 from .lines import NO_MEMORY, OPERATOR_NO_MEMORY, WORN, is_memory_refused
 from .load import SYNC_SECONDS, Histogram
 from .logs import ERROR, INFO, tell
-from .observers import Observer, Status
+from .observers import Observer
 from .owed import OwedShares
 from .pieces import Piece, Place
 from .records import UNKNOWN, Answered, Base, Batch, Block
@@ -63,9 +61,6 @@ class Journal(Protocol):
         """Since when its disk is written, where it is."""
 
     def pieces(self) -> Iterator[Piece]:
-        ...
-
-    def place_of(self, number: int) -> tuple[Path, int]:
         ...
 
     def append(self, batches: Sequence[Batch]) -> Place:
@@ -110,8 +105,6 @@ class Stream:
         self.on_stop: Callable[[], None] = lambda: None  # called once, before the last lines are handed over
         self.on_late: Callable[[], None] = lambda: None  # called at each look at a journal that isn't written for long
         self.on_shortage: Callable[[BaseException], None] = lambda error: None  # of memory; called by any thread
-        # Whether memory can't have been refused to a line, before it is taken in: an older firmd was mistaken then.
-        self.is_mistaken: Callable[[bytes], bool] = lambda line: False
         self._loop = asyncio.get_running_loop()
         self.replayed: asyncio.Future[None] = self._loop.create_future()
         self.ended: asyncio.Future[None] = self._loop.create_future()  # has the fault, where there is one
@@ -525,8 +518,8 @@ class Stream:
             reply = replies[done].decode(errors="replace")
             raise Fault(Exit.FIRM, f"firm gave a reply that nobody asked for: {reply}")
         count = min(share.count - share.answered, len(replies) - done)
-        if share.piece is not None:
-            count = self._begin_piece(share, share.piece, count)
+        if share.piece is not None and share.piece.block is not None and share.answered == 0:
+            self._end_block()  # of lines before, whose own record was lost
         self._answer_share(share, replies[done : done + count])
         if share.answered == share.count:
             self._owed.drop_first()
@@ -543,31 +536,6 @@ class Stream:
         self.lanes.answered(share)
         if self.lanes.has_ready:
             self._hand_over_soon()
-
-    def _begin_piece(self, share: Share, piece: Piece, count: int) -> int:
-        """How many of a piece's next replies may be taken in at once: a refusal that may be a mistake is one alone."""
-        if share.answered == 0 and piece.block is not None:
-            self._end_block()  # of lines before, whose own record was lost
-        if not piece.doubtful:
-            return count
-        following = min([below for below in piece.doubtful if below >= share.answered], default=share.count)
-        if following > share.answered:
-            return min(count, following - share.answered)
-        line = piece.text.split(b"\n")[following]
-        if self.is_mistaken(line):
-            raise Fault(Exit.JOURNAL, self._mistake(piece.place.number + following, line))
-        return 1
-
-    def _mistake(self, number: int, line: bytes) -> str:
-        """What is to be done about a refusal that was none."""
-        path, below = self._journal.place_of(number)
-        return (
-            f"{path}, line {below}, {line.decode(errors='replace')!r}: an older firmd took its reply, which may end "
-            "with `move no 14 memory`, for a refusal of memory. To have the line obeyed, run "
-            f"`firm-journal rewrite --obey {number} {path.parents[1]}`, and start firmd again. If firmd was restarted "
-            "since the mistake, it answered some lines on a wrong state, and the start may end with 5 for these: then "
-            "`--forget-replies` goes on with what firm makes of all lines"
-        )
 
     def _answer_share(self, share: Share, replies: list[bytes]) -> None:
         first, last = share.answered, share.answered + len(replies)

@@ -10,7 +10,6 @@ import os
 import time
 from collections.abc import Callable, Iterator, Sequence
 from dataclasses import dataclass
-from pathlib import Path
 from threading import Event
 from zlib import crc32
 
@@ -158,7 +157,7 @@ class ReplicatedJournal:
             text = b"".join([batch.text for batch in batches])
             place = self._own.append(batches, copied=entry.time)
             self._position = self._position.behind(text)
-            yield Piece(text, text.count(b"\n"), place, None, frozenset(), frozenset())
+            yield Piece(text, text.count(b"\n"), place, None, frozenset())
 
     def _follow(self) -> Iterator[Piece]:
         """Entries as they come, until the leader's key goes."""
@@ -251,9 +250,6 @@ class ReplicatedJournal:
     def keep_refused(self, numbers: list[int]) -> None:
         """Others may have had the memory, and would answer otherwise: so nothing is answered here."""
         raise Fault(Exit.FIRM, f"memory was refused to line {numbers[0]}: another replica answers what follows")
-
-    def place_of(self, number: int) -> tuple[Path, int]:
-        return self._own.place_of(number)
 
     def close(self) -> None:
         self.leave()

@@ -90,6 +90,4 @@ def begin_journal(journal: Path, renewed: Renewed, text: bytes, name: str) -> No
     header = Header(name, number, crc32(text), lines, size, chain, milliseconds()).text()
     make_folder(journal, 0o700)
     write_synced(segment_path(journal, number), header, 0o600)
-    replace_synced(
-        extent_path(journal), Extent(name.encode(), number, number, len(header), crc32(header, chain)).text()
-    )
+    replace_synced(extent_path(journal), Extent(name.encode(), number, len(header), crc32(header, chain)).text())
