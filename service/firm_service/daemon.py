@@ -136,7 +136,7 @@ class Daemon:
         self._stream = Stream(firm, self._replicated or own, self._accounts, self._faults, options)
         self._relief = Relief(self._faults)
         self._faults.give_up = self._stream.fail
-        self._stream.on_shortage = own.on_shortage = self._relief.relieve_soon
+        own.on_shortage = self._relief.relieve_soon
         loop.set_exception_handler(self._hear_of_error)
         for number in (signal.SIGTERM, signal.SIGINT):
             loop.add_signal_handler(number, self._stop)
@@ -201,7 +201,6 @@ class Daemon:
         limits = Limits(self._options.most_clients, self._options.most_unread, together, unanswered)
         clients = Clients(self._stream, limits, self._accounts, self._faults, self._selector)
         self._relief.look_at(clients.of_sockets)
-        self._relief.on_memory = clients.hold
         rounds = Rounds(self._books, self._stream, Times(self._options.every, self._options.after), self._faults)
         if self._options.after is not None:
             self._stream.observe(rounds)
@@ -347,8 +346,8 @@ class Daemon:
     def _hear_of_error(self, loop: asyncio.AbstractEventLoop, context: dict[str, object]) -> None:
         """An error that nobody caught. Stream and journal catch their own, so it ends its connection at most."""
         error, transport = context.get("exception"), context.get("transport")
-        if isinstance(error, MemoryError) or isinstance(error, OSError) and error.errno in SHORTAGES:
-            self._relief.relieve(error)
+        if isinstance(error, OSError) and error.errno in SHORTAGES:
+            self._relief.relieve()
         elif isinstance(error, BaseException):
             self._faults.note(part_of(context), error)
         else:

@@ -156,7 +156,7 @@ class Feeder:
             end, other = socket.socketpair()
             with other:
                 self._process = self._spawn(other)
-        except (OSError, MemoryError) as error:
+        except OSError as error:
             self._told.faults.note("viewer", error)
             self._loop.call_later(self._next_pause(), self.start)
             return
@@ -233,8 +233,7 @@ class Feeder:
                     self._fall_behind()
         except Exception as error:  # it lacks a part now
             self._fall_behind()
-            with suppress(MemoryError):
-                self._told.faults.note("viewer", error)
+            self._told.faults.note("viewer", error)
 
     def _fall_behind(self) -> None:
         self._told.status.viewer_gaps += 1

@@ -49,14 +49,6 @@ def finish_rewrite(state: State) -> None:
     new.rename(state.journal_path)
 
 
-class Shortage(MemoryError):
-    """Memory is lacking, and nothing was done yet."""
-
-
-def is_shortage(error: BaseException) -> bool:
-    return isinstance(error, MemoryError) or isinstance(error, OSError) and error.errno in SHORTAGES
-
-
 class Writing:
     """Knows since when the disk is written, and remembers a failure: whatever is written behind that could make the
     extent say what the disk has not."""
@@ -76,7 +68,7 @@ class Writing:
         if isinstance(error, OSError):
             self._trouble = self._fault_of(error)
             raise self._trouble from error
-        if error is not None and not isinstance(error, Shortage):
+        if error is not None:
             self._trouble = Fault(Exit.INTERNAL, f"the journal failed before: {error!r}")
 
 
@@ -95,9 +87,8 @@ class Journal:
 
     def __init__(self, state: State, room: Room, base: Base = BEGINNING, draft: Path | None = None) -> None:
         self.state, self.folder, self.room = state, draft or state.journal_path, room
-        self.on_shortage: Callable[[BaseException], None] = lambda error: None  # of a descriptor or memory
+        self.on_shortage: Callable[[], None] = lambda: None  # of a descriptor
         self._lock = Lock()
-        self._is_short = False  # what is under way waits for a descriptor or memory
         self._writing = Writing(partial(self._fault, "write"))
         self._extent: ExtentFile | None = None  # none before the first segment
         self._file = -1  # the last segment
@@ -177,7 +168,7 @@ class Journal:
             if self._is_full(size) and self._has_lines():
                 self._begin_segment()
             time = milliseconds() if copied is None else copied
-            self._write(self._patiently(partial(self._records, batches, time)))
+            self._write(self._records(batches, time))
             if copied is None:
                 self._sync()
             place = Place(found.lines + 1, found.size + size)
@@ -191,20 +182,10 @@ class Journal:
             self._write(block.text())
 
     def keep_refused(self, numbers: list[int], time: int | None = None) -> None:
-        """Keeps on the disk that memory was refused to these lines, before that is answered.
-
-        It raises `Shortage` and does not wait for memory, since the loop's thread calls it, which makes room meanwhile.
-        """
-        text = refusals(numbers, milliseconds() if time is None else time)
-        while not self._lock.acquire(timeout=SHORTAGE_SECONDS):
-            if self._is_short:
-                raise Shortage
-        try:
-            with self._writing:
-                self._write(text, is_patient=False)
-                self._sync()
-        finally:
-            self._lock.release()
+        """Keeps on the disk that memory was refused to these lines, before that is answered."""
+        with self._lock, self._writing:
+            self._write(refusals(numbers, milliseconds() if time is None else time))
+            self._sync()
 
     def sync(self) -> None:
         """Waits until copied lines are on the disk too."""
@@ -287,17 +268,14 @@ class Journal:
             self._extent.keep(self._reached())
             self._extent.sync()
 
-    def _write(self, text: bytes, is_patient: bool = True) -> None:
+    def _write(self, text: bytes) -> None:
         """Writes at the end of the last segment; takes it back where that fails."""
         written = 0
         try:
             while written < len(text):
-                write = partial(os.write, self._file, text[written:])
-                written += self._patiently(write) if is_patient else write()
-        except (MemoryError, OSError) as error:
-            is_back = self._take_back(self._size)
-            if is_back and not is_patient and is_shortage(error):
-                raise Shortage from error
+                written += os.write(self._file, text[written:])
+        except BaseException:
+            self._take_back(self._size)
             raise
         self._size += len(text)
         self.found.chain = crc32(text, self.found.chain)
@@ -313,31 +291,25 @@ class Journal:
         if self._extent is not None:
             self._extent.keep(self._reached())
 
-    def _take_back(self, size: int) -> bool:
+    def _take_back(self, size: int) -> None:
         with suppress(OSError):
             os.ftruncate(self._file, size)
-            return True
-        return False
 
     def _reached(self) -> Extent:
         found = self.found
         return Extent(self._id().encode(), found.last, self._synced, found.chain)
 
     def _patiently(self, work: Callable[[], Result]) -> Result:
-        """Does what may lack a descriptor or memory, again and again while clients are closed for it."""
-        try:
-            for _ in range(SHORTAGE_TRIES):
-                try:
-                    return work()
-                except (MemoryError, OSError) as error:
-                    if not is_shortage(error):
-                        raise
-                    self.on_shortage(error)
-                self._is_short = True
-                time.sleep(SHORTAGE_SECONDS)
-            return work()
-        finally:
-            self._is_short = False
+        """Does what may lack a descriptor, again and again while clients are closed for it."""
+        for _ in range(SHORTAGE_TRIES):
+            try:
+                return work()
+            except OSError as error:
+                if error.errno not in SHORTAGES:
+                    raise
+                self.on_shortage()
+            time.sleep(SHORTAGE_SECONDS)
+        return work()
 
     def _fault(self, verb: str, error: OSError) -> Fault:
         return Fault(Exit.STATE, f"cannot {verb} the journal {error.filename or self.folder}: {reason(error)}")
