@@ -288,7 +288,7 @@ def used_up_descriptors(setup: Setup) -> None:
         daemon.words = ["prlimit", "--nofile=100:100", *FIRMD]
         daemon.start()
         with Client(daemon.folder / "beta") as client, crowd(daemon.folder / "alpha", 500):
-            wait_for(lambda: b"are lacking" in daemon.said(), "descriptors are used up")
+            wait_for(lambda: b"out of descriptors" in daemon.said(), "descriptors are used up")
             for number in range(1, 1_501):
                 require(client.ask(b"beta show").startswith(b"beta %d ok" % number), number)
             with Client(daemon.folder / "beta") as other:

@@ -97,7 +97,7 @@ def senders(setup: Setup) -> None:
 
 
 def other_versions(setup: Setup) -> None:
-    """What another version wrote is told, and not taken for damage: a segment, one without headings, an extent."""
+    """Files of other versions are refused by name: a segment, one without headings, an extent."""
     with setup.daemon("--segment-bytes", "4000") as daemon:
         said = answered(daemon, is_killed=True)
         first, extent = daemon.segments()[0], daemon.state / "journal" / "extent"

@@ -1,4 +1,4 @@
-"""Where descriptors run out, the newest connection of the socket that has most is closed, and no other.
+"""Closes the newest connection of the socket that has most when descriptors run out, and no other.
 
 It is the likeliest cause, and the others keep what they have. The socket that has most may be an honest tenant's, if a
 hostile one spreads its own over several; on a socket that both share, the newest may be anyone's.
@@ -18,7 +18,7 @@ from .faults import Faults
 # What runs out for a while, and is there again once a connection is closed.
 SHORTAGES = frozenset({errno.EMFILE, errno.ENFILE, errno.ENOMEM, errno.ENOBUFS, errno.EAGAIN})
 TURNS = 4  # of the loop without a further shortage, until connections accepted at once are known to their sockets
-LACKING = "descriptors are lacking: the newest connection of the socket that has most is closed"
+LACKING = "out of descriptors: the newest connection of the socket that has most is closed"
 REFUSED = b"? too-many-clients: there is no descriptor for more\n"
 
 Held = dict[str, list[asyncio.WriteTransport]]  # connections by their sockets, the newest last

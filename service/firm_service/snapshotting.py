@@ -281,7 +281,7 @@ class Snapshots:
         say(f"a fresh firm goes on from the snapshot {base.segment:08}", INFO)
 
     def _change_over(self, opening: Opening, base: Base) -> None:
-        """Has a fresh firm go on from an opening, which stands for a base."""
+        """Replace the running firm by a fresh one with an opening that stands for a base."""
         settings = self._settings
         firm = Firm([*settings.firm, *opening.words()])
         rehearsal = Rehearsal(firm, base.lines, settings.firm_timeout)

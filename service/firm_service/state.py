@@ -1,7 +1,7 @@
 """The state's folder: its lock, its id, the roster or the state of a service that it began with, and the journal.
 
-The id is kept after the extent, and a new one after the segment that begins with it: so it shows how far a beginning or
-a renewal came, and a state with an id, but without a roster or segments, has lost them.
+The id is written after the extent, and a new one after the segment that begins with it: it shows how far a beginning or
+a renewal came. So a state with an id, but without a roster or segments, has lost them.
 """
 
 from __future__ import annotations

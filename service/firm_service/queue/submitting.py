@@ -1,4 +1,4 @@
-"""What `firmctl submit` sends: a submission of the command line, or those of a file."""
+"""Submissions of the command line or of a file, as `firmctl submit` sends them."""
 
 from __future__ import annotations
 

@@ -53,7 +53,7 @@ def point_of(snapshot: Snapshot) -> Point | None:
 
 
 def opening_point(renewed: Renewed | None) -> Point:
-    """That of what a start without a snapshot goes on from."""
+    """Return the point of a start without a snapshot."""
     return Point() if renewed is None else point_at(renewed.base, renewed.books[KEY])
 
 

@@ -29,7 +29,7 @@ MARK, FORMER = "anew", "journal.former"
 
 
 def renew(store: Store, keys: Keys, state: State, agreed: Agreed) -> None:
-    """Has a state go on from the snapshot in etcd, if its own lines don't lead to those there."""
+    """Begin a state anew from the snapshot in etcd, if its own lines end before those there."""
     offer, is_begun = offer_of(store, keys), (state.folder / MARK).exists()
     if offer is None:
         if is_begun:

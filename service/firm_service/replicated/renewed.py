@@ -1,4 +1,4 @@
-"""What a replica goes on from since it began anew, from the snapshot in etcd (renewal.py).
+"""The state from which a replica goes on after it began anew, from the snapshot in etcd (renewal.py).
 
 The state behind some segment takes the place of what the service began with: `renewed` in the state's folder names it,
 and `renewed-DIGEST` has its text. `renewed` is written whole and synced last, so a replica has begun anew if it exists.
@@ -52,7 +52,7 @@ class Renewed:
 
 
 def read(folder: Path) -> Renewed | None:
-    """What a state goes on from; None if it never began anew."""
+    """Return the state that a replica began anew from; None if it never did."""
     path = folder / NAME
     try:
         text = path.read_bytes()
@@ -67,7 +67,7 @@ def read(folder: Path) -> Renewed | None:
 
 
 def parsed(text: bytes) -> Renewed | None:
-    """What such a file says; None if it is not as it was written."""
+    """Return the content of such a file; None if it is not as it was written."""
     heading, _, body = text.partition(b"\n")
     fields = heading.split(b" ")[-FIELDS:]
     if sealed(KIND, b" ".join(fields), body) != text:
@@ -89,7 +89,7 @@ def write_state(folder: Path, renewed: Renewed, text: bytes) -> None:
 
 
 def write_name(folder: Path, renewed: Renewed) -> None:
-    """Has the replica go on from there, now and after each start; the text is on the disk."""
+    """Write the name, by which each start goes on from the state; the text is on the disk."""
     replace_synced(folder / NAME, renewed.text(), PRIVATE)
 
 

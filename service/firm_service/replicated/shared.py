@@ -1,4 +1,4 @@
-"""What a leader has in common with who follows it, beside lines: snapshots."""
+"""A leader's snapshots in etcd, for replicas that come late."""
 
 from __future__ import annotations
 
