@@ -1,4 +1,4 @@
-"""Damages the state of firmd and looks whether each damage is told at the next start.
+"""Damages the state of firmd and checks that the next start reports each damage.
 
 usage: tools/run tests/journal.py [--quick] [--only WORDS] [--program FILE] [--trials N] [--seed N]
 Each check has a line; the last line is 'N passed, M failed', and the exit status is 1 where one failed. It needs Python
@@ -114,6 +114,12 @@ def other_versions(setup: Setup) -> None:
         daemon.refuses(5, f"{extent}: it is an older firmd's: run `firm-journal rewrite --extent`")
         tool("rewrite", "--extent", daemon.state)
         require(extent.read_bytes() == whole, "the extent is as it was")
+        for name in ("joined", "moving"):
+            (daemon.state / name).touch()
+            daemon.refuses(
+                5, f"{daemon.state / name}: it is an older firmd's", "`firm-journal state` writes: firmd --restore"
+            )
+            (daemon.state / name).unlink()
         serves(daemon, said, setup)
         daemon.stop()
 

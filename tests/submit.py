@@ -526,7 +526,7 @@ def deaf(path: Path) -> Iterator[None]:
 
 
 def a_queue_that_leaves(found: Cluster) -> None:
-    """A queue that takes no request is told with status 3, and no signal ends firmctl without a word."""
+    """A queue that takes no request gives status 3, and no signal ends firmctl without a word."""
     path = found.folder / "deaf"
     with deaf(path):
         done = found.run("firmctl", "submit", "--queue", str(path), "--patience", "1", "--", "true")

@@ -10,7 +10,7 @@ A segment begins with its header, and has records behind it. A heading ends its 
 SUM is the CRC-32 of the heading's other text and the lines below it. It is to find damage, not a forger, who could
 write a digest as well; it takes a nanosecond a byte. Lines are numbered from 1, and their bytes from 0, over all
 segments and without headings, as firm reads them: so a record can stand in a segment of any other cut. Times are
-milliseconds since 1970. No line that is kept begins with `#`, as such a line gets no reply.
+milliseconds since 1970. No line of a journal begins with `#`, as such a line gets no reply.
 Headings that are not text would save some 15 bytes of 55.
 """
 

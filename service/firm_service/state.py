@@ -28,6 +28,7 @@ REPLICA = "replica"  # is there where the lines stand in etcd too
 OLD_JOURNAL, NEW_JOURNAL = "journal.old", "journal.new"  # the one that was rewritten, and the one that is written
 ROSTER_SECONDS = 60  # in which firm must have judged a roster
 ID_BYTES = 10
+OF_MOVES = ("joined", "moving")  # files of an older firmd, by which tenants moved while it ran
 
 
 @dataclass(frozen=True, slots=True)
@@ -48,6 +49,10 @@ class StateFolder:
 
     def __init__(self, folder: Path) -> None:
         self.folder = folder
+        for name in OF_MOVES:
+            if (folder / name).exists():
+                cure = "end moves by that firmd, and begin a new state with what its `firm-journal state` writes"
+                raise Fault(Exit.JOURNAL, f"{folder / name}: it is an older firmd's: {cure}: firmd --restore")
         self.roster_path, self.journal_path, self.view_path = folder / ROSTER, folder / JOURNAL, folder / VIEW
         self.id_path, self.restored_path, self.snapshots_path = folder / ID, folder / RESTORED, folder / SNAPSHOTS
         self.renewed = read_renewed(folder)  # what a replica goes on from that began anew
