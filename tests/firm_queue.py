@@ -69,7 +69,7 @@ def life(setup: Setup) -> None:
 
 
 def table_of_tasks(setup: Setup) -> None:
-    """Tasks that wait side by side are one line of the table, whatever state the others are in."""
+    """`ps` is the table of what `tasks` tells, whatever state the tasks are in."""
     with setup.case().start() as case, case.client() as client, case.firmd.client() as firm:
         for line in ("job j 3", "task j mine"):
             require(firm.ask(f"{case.tenant} {line}".encode()).endswith(b" ok"), line)
@@ -82,7 +82,12 @@ def table_of_tasks(setup: Setup) -> None:
         case.until(lambda: len(case.world.running()) == 2, "two run")
         wanted = {"foreign", "running", "waiting", "held", "blocked"}
         case.until(lambda: {row["state"] for row in client.ask("tasks")} >= wanted, "all states are there")
-        lines = columns.table(client.ask("tasks")).splitlines()
+
+        def are_alike() -> bool:  # unless a second has passed, or a state changed, between the two
+            return bool(client.ask("ps") == columns.table(client.ask("tasks")))
+
+        case.until(are_alike, "the table is that of the rows")
+        lines = client.ask("ps").splitlines()
         names = [line.split()[0] for line in lines[1:]]
         require(names == ["1_1", "1_2", "1_3", "2_[4-6]", "3", "4_[0-6]", "4_7", "4_[8-20]", "mine"], names)
 

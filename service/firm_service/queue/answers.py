@@ -28,6 +28,17 @@ class Listed(list[Json]):
         self.more = more
 
 
+class Shown(str):
+    """A list as a text, with the number of rows that were left out."""
+
+    more: int
+
+    def __new__(cls, text: str, more: int) -> Shown:
+        found = super().__new__(cls, text)
+        found.more = more
+        return found
+
+
 async def in_turns(tasks: Sequence[Task]) -> AsyncIterator[Sequence[Task]]:
     """Tasks of which rows are made, some in each turn of the loop."""
     for at in range(0, len(tasks), ROWS_AT_ONCE):

@@ -1,9 +1,9 @@
-"""The table of tasks, as firmctl prints it."""
+"""How tasks are shown in a table: by firmctl, and by the queue where it is asked for the text."""
 
 from __future__ import annotations
 
-import shlex
 from collections.abc import Iterable, Iterator, Sequence
+from functools import lru_cache
 from time import localtime, strftime
 from typing import NamedTuple
 
@@ -11,6 +11,7 @@ from .. import tables
 from ..tables import Column, Row, printable
 
 LONGEST_COMMAND = 32  # letters that a table shows
+UNQUOTED = frozenset("abcdefghijklmnopqrstuvwxyzABCDEFGHIJKLMNOPQRSTUVWXYZ0123456789_@%+=:,./-")
 
 
 def cell_of(text: str | None) -> str:
@@ -23,10 +24,19 @@ def escaped(head: str, key: str) -> Column:
     return Column(head, lambda row: cell_of(row[key]))
 
 
+def quoted(word: str) -> str:
+    """As `shlex.quote`, whose module takes as long to import as all of this."""
+    return word if word and UNQUOTED.issuperset(word) else "'" + word.replace("'", "'\"'\"'") + "'"
+
+
 def command_cell(command: Sequence[str] | None) -> str:
     # What is not shown is not looked at: a command may have many words, or long ones.
-    words = [word[: LONGEST_COMMAND + 1] for word in (command or ())[: LONGEST_COMMAND + 1]]
-    text = printable(shlex.join(words)) or "-"
+    return shortened(tuple(word[: LONGEST_COMMAND + 1] for word in (command or ())[: LONGEST_COMMAND + 1]))
+
+
+@lru_cache(maxsize=1_000)  # the tasks of an array have one command
+def shortened(words: tuple[str, ...]) -> str:
+    text = printable(" ".join(map(quoted, words))) or "-"
     return text if len(text) <= LONGEST_COMMAND else text[: LONGEST_COMMAND - 2] + ".."
 
 
@@ -83,8 +93,12 @@ def joined(first: Line, last: int) -> tuple[str, ...]:
     return (f"{first.number}_[{first.at}-{last}]", *first.cells[1:])
 
 
+def text_of(lines: Iterable[Line]) -> str:
+    return tables.aligned(TASKS, collapsed(lines))
+
+
 def table(tasks: Iterable[Row]) -> str:
-    return tables.aligned(TASKS, collapsed(map(line_of, tasks)))
+    return text_of(map(line_of, tasks))
 
 
 def table_with_starts(tasks: Iterable[Row]) -> str:

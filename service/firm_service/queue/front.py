@@ -34,7 +34,7 @@ MOST_TOLD = 4 * 2**20  # bytes that an agent may leave unread
 ROWS_AT_ONCE = 500  # of an answer, that are written as JSON in a turn of the loop
 # Their answers may be large. As `wait`, `why` and `log` each is begun once the answers before it are read, since it
 # changes nothing.
-LISTS = {"tasks", "task", "history", "machines", "agents", "jobs", "status"}
+LISTS = {"tasks", "ps", "task", "history", "machines", "agents", "jobs", "status"}
 TOO_MANY = Refused("too-many-clients", "close a connection first")
 CROWDED = "users have left too much unread, or unsent: the connection of the fullest that has most is closed"
 

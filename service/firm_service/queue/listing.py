@@ -6,7 +6,7 @@ import time
 from collections import Counter
 from collections.abc import Iterable, Iterator
 from dataclasses import asdict
-from itertools import islice
+from itertools import groupby, islice
 from typing import Any
 
 from ..books import Book
@@ -14,6 +14,7 @@ from ..tables import duration
 from . import states
 from .agents import Agents
 from .backlog import used
+from .columns import Line, cell_of, command_cell
 from .core import Core
 from .fields import Json
 from .rows import SINGLE, Attempt, Name, Submission, Task
@@ -59,6 +60,18 @@ class Lists:
             "time": submission.spec.time,
             "command": submission.spec.command,
         }
+
+    def lines(self, tasks: Iterable[Task]) -> Iterator[Line]:
+        """Tasks as the table has them: the cells of their rows, of which those of a submission are made once."""
+        for submission, group in groupby(tasks, lambda task: task.submission):
+            user, job = cell_of(name_of(submission.user)), cell_of(submission.job)
+            command = command_cell(submission.spec.command)
+            for task in group:
+                state, machine, reason = self._seen(task)
+                index = None if task.index == SINGLE or machine is not None or task.attempts else task.index
+                took = duration(seconds_of(task.attempt))
+                cells = (task.shown, user, job, state, cell_of(machine), took, command, cell_of(reason))
+                yield Line(submission.number, index, cells)
 
     def _seen(self, task: Task) -> tuple[State, str | None, str]:
         """A task's state, the machine where it is or was, and why it is not further."""

@@ -70,6 +70,8 @@ tasks: {"ask": "tasks", "user": null|NAME, "job": null, "states": null|[..], "ta
   `tried again in 3 s`, `no free slot`, ..; of an ended one why: `signal 9`, `no such folder: /x`, ..
   With "start" each row has "start": t|null, at which the queue estimates that a waiting task starts.
 
+ps: {"ask": "ps"} -> {"ps": TEXT, "more": 0}: the table that `firmctl ps` prints of the same, up to 100,000 rows.
+
 task: {"ask": "task", "task": "12_4"} -> {"task": {ROW.., "spec": {the submission's fields}, "attempts": [ATTEMPT, ..]}}
   ATTEMPT: {"attempt": 1, "agent": "a1", "machine": "m1", "run": 7, "began": t|null, "ended": t|null, "seconds": s|null,
    "outcome": null (open)|"done"|"failed"|"timeout"|"cancelled"|"preempted"|"moved"|"drained"|"removed"|"lease"|"told"|
@@ -206,7 +208,8 @@ from typing import Any, Protocol
 from ..faults import reason
 from . import queries
 from .agents import CORDONED, DRAINED, Agents, Session
-from .answers import Answers, Listed, in_turns
+from .answers import Answers, Listed, Shown, in_turns
+from .columns import Line, line_of, text_of
 from .core import Core
 from .estimates import Estimates
 from .explaining import Explainer
@@ -227,7 +230,7 @@ READ_AT_ONCE = 100  # submissions
 MOST_COMMAND_BYTES = 2**24  # of an answer: each row of an array has its command
 GONE_SECONDS = 5.0  # between two looks whether a client that waits is still there
 ANEW_SECONDS = 1.0  # until it is waited anew, where an end was not written
-NAMING = {"tasks", "jobs"}  # their answers name users of tasks that have not ended
+NAMING = {"tasks", "ps", "jobs"}  # their answers name users of tasks that have not ended
 OPERATORS_ALONE = {"cordon", "uncordon", "drain", "register", "beat", "claim", "told", "kept"}
 
 
@@ -292,6 +295,7 @@ class Requests:
             "submit": self._submit,
             "submit-all": self._submit_all,
             "tasks": self._tasks,
+            "ps": self._ps,
             "task": self._task,
             "why": self._why,
             "cancel": self._change,
@@ -324,7 +328,7 @@ class Requests:
         others = self._core.rows.live_of_user if caller.user.is_operator and ask in NAMING else ()
         await self.know(caller.user, (caller.user.number, *others))
         found = await handler(caller, given)
-        return {ask: found, "more": found.more} if isinstance(found, Listed) else {ask: found}
+        return {ask: found, "more": found.more} if isinstance(found, (Listed, Shown)) else {ask: found}
 
     # Submissions
 
@@ -422,6 +426,16 @@ class Requests:
                     return rows
                 rows.append(self._lists.row(task))
         return rows
+
+    async def _ps(self, caller: Caller, given: Json) -> Any:
+        Fields(given, ["ask"])
+        chosen = Chosen(None, None, None, None, MOST_ROWS)
+        tasks, more = await self._chosen_tasks(caller.user, chosen)
+        lines: list[Line] = []
+        async for some in in_turns(tasks[:MOST_ROWS]):
+            lines += self._lists.lines(some)
+        lines += map(line_of, self._foreign(caller.user, chosen))
+        return Shown(text_of(lines[:MOST_ROWS]), max(0, len(tasks) - MOST_ROWS) + more)
 
     async def _chosen_tasks(self, user: User, chosen: Chosen) -> tuple[list[Task], int]:
         """The tasks of a list, by number and index, and how many were left out as their words take too much."""
