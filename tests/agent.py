@@ -29,7 +29,7 @@ from agent_kit import AGENT, LIMIT_SECONDS, SOON_SECONDS, SSH, WAITS_FOR_GO
 from agent_kit import Case, children, command, connections_to, is_there, words_of
 from firm_service.agent import BEGUN_AT_A_TIME
 from harness.checks import Check, Missed, Skipped, Suite, print_skipped, require, run_script, run_suites
-from harness.deployed import SERVICE, Follower, feed, supervisor
+from harness.deployed import SERVICE, supervisor
 from harness.files import write_program
 from harness.ports import free_port
 from harness.program import ROOT, add_program
@@ -589,27 +589,6 @@ def retired_tenant() -> None:
         case.until(lambda: case.text("a.log") == "begin m1\nbegin m1\n", "a has begun again on m1")
 
 
-def moved_tenant() -> None:
-    """What ran for a tenant that goes, and comes back by a move, of which no line tells, is begun again."""
-    with Case("", a=command(WAITS_FOR_GO)) as case:
-        case.start()
-        case.firmd.round("start a m1")
-        case.until_begun("a")
-        rows = feed.tenant_text(case.firmd.books.tenants["alpha"])
-
-        async def go() -> None:
-            case.firmd.shown.replied_all([b"+ retire alpha"], [b"+ ok retired alpha"], None)
-
-        async def come() -> None:
-            Follower(case.firmd.shown, lambda: None).take(feed.TENANT, rows)
-
-        case.firmd.within(go())
-        case.until_runs()
-        case.firmd.within(come())
-        case.until_runs("a")
-        case.until(lambda: case.text("a.log") == "begin m1\nbegin m1\n", "a has begun again on m1")
-
-
 def commands_to_come() -> None:
     """A task without a command waits for one, reported once; so is a faulty new table, and the old one stands."""
     with Case("", a=command(WAITS_FOR_GO)) as case:
@@ -748,7 +727,6 @@ LONG = [
     machine_given_up_late,
     firmd_restarts,
     retired_tenant,
-    moved_tenant,
     commands_to_come,
     faulty_starts,
     timeline,

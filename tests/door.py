@@ -1,4 +1,4 @@
-"""Asks firmd through a door of HAProxy: whose lines go where, who is let in, and how tenants move and leaders change.
+"""Asks firmd through a door of HAProxy: whose lines go where, who is let in, and how leaders change.
 
 usage: tools/run tests/door.py [--quick] [--program FILE] [--only WORDS]
 --quick looks at tables and what is written from them. The rest needs Debian's haproxy, openssl and etcd-server; a check
@@ -9,8 +9,6 @@ exit status is 1 where one failed.
 from __future__ import annotations
 
 import argparse
-import fcntl
-import random
 import signal
 import socket
 import ssl
@@ -18,16 +16,13 @@ import subprocess
 import tempfile
 import time
 from collections.abc import Callable, Iterator
-from concurrent.futures import ThreadPoolExecutor
 from contextlib import ExitStack, contextmanager
 from dataclasses import dataclass, field
 from functools import partial
-from itertools import count
 from pathlib import Path
 from typing import Any
 
 from etcd_kit import (
-    START_SECONDS,
     Authority,
     Replicas,
     cluster,
@@ -38,25 +33,16 @@ from etcd_kit import (
     require_programs,
     until,
 )
-from firmd_kit import extended
-from harness.checks import Skipped, Suite, require, run_script, run_suites
+from harness.checks import Suite, require, run_script, run_suites
 from harness.deployed import SERVICE
 from harness.guard import guard
 from harness.program import add_program
-from harness.service import LONGEST_PATIENCE
 
-from firm_service.door.moving import Move
 from firm_service.door.table import Table, TableError
 from firm_service.door.writing import DOOR_NAME as DOOR
 from firm_service.door.writing import map_text, write
-from firm_service.programs import program_of
-from firm_service.view_client import Service
 
 HEADING = "tenant,nodes,arcs,life,spread,churn\n"
-KILLED_MOVES = 12
-SHORTEST_MOVE, LOOK_SECONDS = 0.01, 0.001  # seconds, and those between two looks whether one is under way
-SHOWN_SECONDS = 10.0  # until a shard's view has what was answered
-MOST_TASKS = 20  # of a tenant that is at work
 BUSY_SECONDS = 2.0  # some looks of HAProxy
 SILENCE_SECONDS = 6.0  # of a client of the door, whose leader is killed: a lease, and two looks of HAProxy
 TABLE = """\
@@ -71,15 +57,8 @@ SHARD = """
 [shards.{name}]
 certificate = "{folder}/tls/{name}.pem"
 sockets = "{folder}/{name}-{{tenant}}"
-operator = "{folder}/{name}.operator"
-state = "{folder}/{name}"
 replicas = {{ {replicas} }}
 """
-
-
-def require_state_program() -> None:
-    if not program_of("firm_state").exists():
-        raise Skipped("firm_state is not built, which writes states")
 
 
 class Shut(Exception):
@@ -150,12 +129,6 @@ class Door:
             with open(self.folder / f"{name}.log", "ab") as log:
                 self.processes[name] = subprocess.Popen(words, stdout=log, stderr=log)
 
-    def restart(self, name: str) -> None:
-        self.processes[name].kill()
-        self.processes[name].wait()
-        self.start(name)
-        until(lambda: is_listening(self.folder / "admin"), "HAProxy is there")
-
     def stop(self) -> None:
         for process in self.processes.values():
             process.kill()
@@ -177,9 +150,6 @@ class Door:
             return self.ask(tenant, f"{tenant} show")[0].startswith(tenant)
         except Shut:
             return False
-
-    def control(self, *words: str) -> subprocess.CompletedProcess[str]:
-        return subprocess.run([SERVICE / "firmctl", *words, "--door", self.table], capture_output=True, text=True)
 
 
 @contextmanager
@@ -213,13 +183,11 @@ ROW = "{},100,1000,100000,1,2\n"
 
 
 @contextmanager
-def two_shards(program: str, patience: int | None = None) -> Iterator[Door]:
-    """alpha and beta at one shard, perhaps with a patience, gamma at another, to which alpha may move."""
+def two_shards(program: str) -> Iterator[Door]:
+    """alpha and beta at one shard, gamma at another, where alpha has a socket too."""
     with door() as here, ExitStack() as stack:
         here.write({"one": ["a"], "two": ["a"]}, {"alpha": ["one", "two"], "beta": ["one"], "gamma": ["two"]})
         one = HEADING + ROW.format("alpha") + ROW.format("beta")
-        if patience is not None:
-            one = extended(one.encode(), patience).decode()
         stack.enter_context(firmd(here, "one", program, one))
         stack.enter_context(firmd(here, "two", program, HEADING + ROW.format("gamma")))
         here.start("one-a", "two-a", "door")
@@ -362,237 +330,6 @@ def length(size: int) -> bytes:
     return bytes([size]) if size < 0x80 else b"\x82" + size.to_bytes(2, "big")
 
 
-def moves(program: str) -> None:
-    """A tenant moves with its placements, waits and numbers while it works; clients of others notice nothing; what
-    can't be done is refused."""
-    require_state_program()
-    with two_shards(program) as here, here.visit("beta") as beta, here.visit("alpha") as alpha:
-        beta.ask("beta machine m1 1")
-        for line in WORK:
-            require(" ok" in alpha.ask(line), line)
-        waiting = [alpha.ask(line) for line in ("alpha task web c", "alpha round", "alpha where c")]
-        require("waits 1" in waiting[-1], waiting)
-        number = int(waiting[-1].split()[1])
-        for words, status, text in (
-            (("move", "beta", "--to", "two"), 1, "has no socket at a shard two"),
-            (("move", "delta", "--to", "two"), 1, "has no socket"),
-        ):
-            done = here.control(*words)
-            require(done.returncode == status and text in done.stderr, done)
-        done = here.control("move", "alpha", "--to", "two")
-        require((done.returncode, done.stdout) == (0, "alpha is at two, its tasks run and wait on\n"), done)
-        require_moved(here, alpha)
-        moved = here.ask("alpha", "alpha where a", "alpha where c", "alpha round")
-        first = int(moved[0].split()[1])
-        require(first > number and [int(reply.split()[1]) for reply in moved] == [first, first + 1, first + 2], moved)
-        require("at m1" in moved[0] and "waits 1" in moved[1], moved)
-        require(beta.ask("beta show").startswith("beta "), "beta's client is still connected")
-        require(here.control("move", "alpha", "--to", "two").stdout == "alpha is at two\n", "again")
-        done = here.control("move", "alpha", "--to", "one", "--json")
-        require(done.returncode == 0 and '"lines": null' in done.stdout, done)
-        until(lambda: here.serves("alpha"), "alpha is served again")
-        require("waits 2" in here.ask("alpha", "alpha where c")[0], "it has waited for another round")
-
-
-WORK = ("alpha machine m1 2", "alpha job web 10", "alpha task web a", "alpha task web b m1", "alpha round")
-
-
-def require_moved(here: Door, alpha: Visitor) -> None:
-    """Asks that alpha is at two, and that its client of before is not connected any more."""
-    try:
-        require(False, f"its client was left connected: {alpha.ask('alpha show')}")
-    except Shut:
-        pass
-    until(lambda: here.serves("alpha"), "alpha is served again")
-    require((here.folder / "tenants.map").read_text() == "alpha two\nbeta one\ngamma two\n", "the map is kept")
-
-
-def moves_by_lines(program: str) -> None:
-    """By lines a tenant moves with its rows, and all its tasks wait again."""
-    with two_shards(program) as here, here.visit("alpha") as alpha:
-        for line in WORK:
-            require(" ok" in alpha.ask(line), line)
-        shown = alpha.ask("alpha show").split(" ", 2)[2]
-        done = here.control("move", "alpha", "--to", "two", "--by-lines")
-        require(done.returncode == 0 and "alpha is at two, by 4 lines" in done.stdout, done)
-        require_moved(here, alpha)
-        moved = here.ask("alpha", "alpha show", "alpha where a", "alpha round", "alpha where a")
-        require(moved[0].split(" ", 2)[2] == shown.replace("running 2", "running 0"), (moved, shown))
-        require("waits" in moved[1] and "at m1" in moved[3], moved)
-        # What an older firmctl left that was killed before it retired alpha at one: two has all rows.
-        require(operator_says(here.folder / "one.operator", "+ admit alpha,100,1000,100000,1,2").startswith("+ ok"), "")
-        (here.folder / "tenants.map.move").write_text("alpha two one\n")
-        require(here.control("move", "alpha", "--to", "two").stdout == "alpha is at two\n", "the former move is ended")
-        require(operator_says(here.folder / "one.operator", "alpha show") == "! unknown-tenant", "it is at two alone")
-        done = here.control("move", "alpha", "--to", "one", "--by-lines", "--json")
-        require(done.returncode == 0 and '"lines": 4' in done.stdout, done)
-
-
-def told_meanwhile(program: str) -> None:
-    """What a client at the old shard's own socket is answered while a tenant moves by lines is at the new one too."""
-    with two_shards(program) as here, ThreadPoolExecutor(1) as pool:
-        require(here.ask("alpha", "alpha job web 10")[0].endswith(" ok"), "a job")
-        working = pool.submit(work, here.folder / "one-alpha")
-        done = here.control("move", "alpha", "--to", "two", "--by-lines")
-        require(done.returncode == 0, done)
-        tasks = working.result()
-
-        def carried() -> set[str]:
-            lines = Service(str(here.folder / "two")).ask("lines", "alpha")["lines"]
-            return {line.split()[3] for line in lines if line.startswith("alpha task ")}
-
-        until(lambda: carried() == tasks, f"those at two are {sorted(tasks)}", SHOWN_SECONDS)
-
-
-def work(path: Path) -> set[str]:
-    """Submits tasks and has earlier ones done, until the tenant has gone; those that are there by what was answered."""
-    tasks: dict[str, None] = {}
-    with socket.socket(socket.AF_UNIX) as connected:
-        connected.settimeout(60)
-        connected.connect(str(path))
-        replies = connected.makefile("rb")
-        for number in count():
-            tasks[f"t{number}"] = None
-            lines = [f"task web t{number}"] + [f"done {name}" for name in [*tasks][:-MOST_TASKS]]
-            for line in lines:
-                connected.sendall(f"alpha {line}\n".encode())
-                reply = replies.readline()
-                is_done = reply.startswith(b"alpha ") and b" ok" in reply
-                if is_done == line.startswith("done "):
-                    tasks.pop(line.split()[-1])
-                if not is_done:
-                    require(reply == b"! unknown-tenant\n", reply)
-                    return set(tasks)
-            time.sleep(0.02)
-    raise ValueError("unreachable")
-
-
-def late_rows(program: str) -> None:
-    """A move takes all that was answered with it, also where the reader of the rows lags behind firmd."""
-    with two_shards(program) as here:
-        shards = Table.read(here.table).shards
-        move = Move("alpha", shards["one"], shards["two"], "0" * 8)
-        here.ask("alpha", "alpha machine m1 2")
-        until(lambda: "alpha machine m1 2" in Service(str(here.folder / "one")).ask("lines", "alpha")["lines"], "m1")
-        old = Service(str(here.folder / "one")).ask("lines", "alpha")
-        here.ask("alpha", "alpha machine m2 2")
-        asked = 0
-
-        def lines(state: str, tenant: str) -> dict[str, Any]:
-            nonlocal asked
-            asked += 1
-            return old if asked < 5 else Service(state).ask("lines", tenant)
-
-        require(move.carry(lines) == 2 and asked >= 5, f"it took rows from before an answer, at look {asked}")
-
-
-def killed_moves(program: str) -> None:
-    """A move that is killed at any moment is ended by the next one: the tenant has all its rows, at one shard alone."""
-    require_state_program()
-    kill_moves(program)
-
-
-def killed_moves_by_lines(program: str) -> None:
-    """The same of moves by lines."""
-    kill_moves(program, "--by-lines")
-
-
-def kill_moves(program: str, *how: str) -> None:
-    draw = random.Random(9)
-    with two_shards(program) as here:
-        lines = ["machine m1 2", "job web 10", *[f"task web t{number} m1" for number in range(12)]]
-        require(all(reply.endswith(" ok") for reply in here.ask("alpha", *[f"alpha {line}" for line in lines])), "rows")
-        record, middle, at, killed = here.folder / "tenants.map.move", 0.0, "one", 0
-        for number in range(KILLED_MOVES):
-            to = "one" if at == "two" else "two"
-            words: list[Any] = [SERVICE / "firmctl", "move", "alpha", "--to", to, "--door", here.table, *how]
-            with subprocess.Popen(words, stdout=subprocess.DEVNULL, stderr=subprocess.DEVNULL) as move:
-                while not record.exists() and move.poll() is None:
-                    time.sleep(LOOK_SECONDS)
-                began = time.monotonic()
-                ends = began + (draw.uniform(0, middle) if number else START_SECONDS)
-                while record.exists() and time.monotonic() < ends:
-                    time.sleep(LOOK_SECONDS)
-                if not record.exists():  # as of the first, which is not killed
-                    middle = max(SHORTEST_MOVE, time.monotonic() - began)
-                move.kill()
-            killed += record.exists()
-            if number % 3 == 0:
-                here.restart("door")  # it has what its map's file says
-            at = draw.choice(["one", "two"])
-            done = here.control("move", "alpha", "--to", at, *how)
-            require(done.returncode == 0, done)
-            until(lambda: here.serves("alpha"), "alpha is served")
-            shown = here.ask("alpha", "alpha show")[0]
-            require("machines 1 jobs 1 tasks 12 " in shown, f"killed move {number}: {shown}")
-            other = "one" if at == "two" else "two"
-            said = operator_says(here.folder / f"{other}.operator", "alpha show")
-            require(said == "! unknown-tenant", f"killed move {number}: {other} has it too: {said}")
-            require((here.folder / "tenants.map").read_text().startswith(f"alpha {at}\n"), "the map's file")
-            require(not record.exists(), "the record is gone")
-        print(f"  {killed} of {KILLED_MOVES} moves were killed in their middle")
-        require(killed > KILLED_MOVES / 4, f"{killed} of {KILLED_MOVES} moves were killed in their middle")
-
-
-def refused_moves(program: str) -> None:
-    """A move that the other shard refuses leaves the tenant where it is, with all its rows."""
-    with two_shards(program) as here:
-        here.ask("alpha", "alpha machine m1 2")
-        operator = here.folder / "two.operator"
-        require(operator_says(operator, "+ admit alpha,100,1000,100000,1,2").startswith("+ ok"), "admitted")
-        done = here.control("move", "alpha", "--to", "two")
-        require(done.returncode == 1 and "has a tenant alpha already" in done.stderr, done)
-        operator_says(operator, "+ retire alpha")
-        with open(here.folder / "tenants.map.lock", "wb") as lock:
-            fcntl.flock(lock, fcntl.LOCK_EX)
-            done = here.control("move", "alpha", "--to", "two")
-            require(done.returncode == 3 and "another move is under way" in done.stderr, done)
-        spares = [f"spare{number},2,0,1000,0,0" for number in range(63)]
-        for row in spares:
-            require(operator_says(operator, f"+ admit {row}").startswith("+ ok"), row)
-        done = here.control("move", "alpha", "--to", "two", "--by-lines")
-        require(done.returncode == 1 and "operator-full" in done.stderr, done)
-        done = here.control("move", "alpha", "--to", "two")
-        require(done.returncode == 1 and "the shard two: " in done.stderr, done)
-        until(lambda: here.serves("alpha"), "alpha is served")
-        require("machines 1" in here.ask("alpha", "alpha show")[0], "its rows are there")
-
-
-def refused_patience(program: str) -> None:
-    """A tenant with a patience stays where it is if the other shard's roster has none; its client notices nothing. With
-    the default patience it moves, and the other shard still accepts none."""
-    require_state_program()
-    with two_shards(program, 5) as here, here.visit("alpha") as alpha:
-        require(alpha.ask("alpha machine m1 2").endswith(" ok"), "a machine")
-        for how in ((), ("--by-lines",)):
-            done = here.control("move", "alpha", "--to", "two", *how)
-            told = "alpha has a patience, and the roster of the shard two has none"
-            require(done.returncode == 1 and told in done.stderr, done)
-            require("machines 1" in alpha.ask("alpha show"), "its client is still connected")
-        said = operator_says(here.folder / "two.operator", "alpha show")
-        require(said == "! unknown-tenant" and not (here.folder / "tenants.map.move").exists(), said)
-    with two_shards(program, LONGEST_PATIENCE) as here:
-        require(here.ask("alpha", "alpha machine m1 2")[0].endswith(" ok"), "a machine")
-        done = here.control("move", "alpha", "--to", "two")
-        require(done.returncode == 0, done)
-        until(lambda: here.serves("alpha"), "alpha is served again")
-        require("machines 1" in here.ask("alpha", "alpha show")[0], "its rows have come")
-        reply = operator_says(here.folder / "two.operator", "+ admit delta,2,0,9,0,0,0,5")
-        require(reply == "+ no 22 operator-row", reply)
-
-
-def is_listening(path: Path) -> bool:
-    with socket.socket(socket.AF_UNIX) as tried:
-        return tried.connect_ex(str(path)) == 0
-
-
-def operator_says(path: Path, line: str) -> str:
-    with socket.socket(socket.AF_UNIX) as connected:
-        connected.connect(str(path))
-        connected.sendall(line.encode() + b"\n")
-        return connected.makefile("rb").readline().decode().rstrip("\n")
-
-
 def leaders(program: str) -> None:
     """Clients of the door get to the replica that leads, also where the former one is killed, stopped or asleep."""
     roster = (HEADING + ROW.format("alpha")).encode()
@@ -626,71 +363,6 @@ def start_replicas(here: Door, replicas: Replicas) -> None:
 def spawn(here: Door, replicas: Replicas, name: str) -> None:
     sockets = [word for one in ("none", "alpha") for word in ("--client", f"{one}={here.folder}/{name}/{one}")]
     replicas.spawn(name, *sockets)
-
-
-def moves_of_replicas(program: str) -> None:
-    """Between shards of replicas a tenant moves with its placements, waits and numbers, also right behind a leader's
-    end, and whichever leads then has it."""
-    require_state_program()
-    with door() as here, cluster(program, b"") as (_, found), ExitStack() as stack:
-        tenants = {"alpha": ["one", "two"], "gamma": ["two"]}
-        here.write({"one": ["a", "b"], "two": ["a", "b"]}, tenants)
-        table = here.table.read_text()
-        shards = {}
-        for shard, row in (("one", "alpha"), ("two", "gamma")):
-            folder = here.folder / shard
-            table = table.replace(f"{folder}.operator", f"{folder}/{{replica}}.operator")
-            table = table.replace(f'state = "{folder}"', f'state = "{folder}/{{replica}}"')
-            served = [one for one, where in tenants.items() if shard in where]
-            shards[shard] = Hosts(folder, found.urls, program, ["--etcd-prefix", f"/{shard}"], tenants=served)
-            stack.callback(shards[shard].stop)
-            folder.mkdir()
-            (folder / "roster.csv").write_text(HEADING + ROW.format("probe") + ROW.format(row))
-            shards[shard].begin(here, "a", "b")
-        here.table.write_text(table)
-        here.start("door")
-        for tenant in tenants:
-            until(partial(here.serves, tenant), f"{tenant} is served")
-        require(all(" ok" in reply for reply in here.ask("alpha", *WORK, "alpha task web c", "alpha round")), "rows")
-        number = int(here.ask("alpha", "alpha where c")[0].split()[1])
-        shards["one"].kill(shards["one"].leads())
-        shards["two"].kill(shards["two"].leads())
-        done = here.control("move", "alpha", "--to", "two")
-        require((done.returncode, done.stdout) == (0, "alpha is at two, its tasks run and wait on\n"), done)
-        shards["two"].revive()
-        until(lambda: "follows" in shards["two"].said(shards["two"].follower()), "the other replica follows")
-        require_moved_on(here, number)
-        time.sleep(1)  # in which it may have met the tenant's lines
-        shards["two"].kill(shards["two"].leads())
-        require_moved_on(here, number)
-        shards["one"].revive()
-        done = here.control("move", "alpha", "--to", "one", "--by-lines")
-        require(done.returncode == 0 and "alpha is at one, by 5 lines" in done.stdout, done)
-
-
-@dataclass
-class Hosts(Replicas):
-    """Each with sockets of its own for tenants, and its host's HAProxy."""
-
-    tenants: list[str] = field(default_factory=list)
-
-    def spawn(self, name: str, *options: str) -> subprocess.Popen[bytes]:
-        names = ("none", *self.tenants)
-        sockets = [word for one in names for word in ("--client", f"{one}={self.folder}/{name}-{one}")]
-        return super().spawn(name, *sockets, *options)
-
-    def begin(self, here: Door, *names: str) -> None:
-        for name in names:
-            path = here.folder / f"{self.folder.name}-{name}.cfg"
-            path.write_text(path.read_text().replace(f"{self.folder}-", f"{self.folder}/{name}-"))
-            self.spawn(name)
-            here.start(path.stem)
-
-
-def require_moved_on(here: Door, number: int) -> None:
-    until(lambda: here.serves("alpha"), "alpha is served")
-    replies = here.ask("alpha", "alpha where a", "alpha where c")
-    require(int(replies[0].split()[1]) > number and "at m1" in replies[0] and "waits 1" in replies[1], replies)
 
 
 # What is written.
@@ -748,7 +420,6 @@ def written_files() -> None:
         require("server b 10.0.0.2:7444 track two/b sni str(beta.two.firm)" in text, text)
         require("backend one:alpha" in text and "backend two:alpha" in text and "backend one:beta" not in text, text)
         require(map_text(table, {"alpha": "two", "beta": "one", "gone": "one"}) == "alpha two\nbeta two\n", "moved")
-        require(map_text(table, {"alpha": "none"}) == "alpha none\nbeta two\n", "a tenant on its way")
         write(table, folder)
         (folder / "door.toml").write_text((folder / "door.toml").read_text().replace("/etc/firm/tls", name))
         (folder / "door.pem").touch()
@@ -764,12 +435,8 @@ CHECKS: list[Callable[[str], None]] = [
     shards_apart,
     busy_tenant,
     names,
-    moves,
-    moves_by_lines,
-    told_meanwhile,
-    late_rows,
+    leaders,
 ]
-CHECKS += [killed_moves, killed_moves_by_lines, refused_moves, refused_patience, moves_of_replicas, leaders]
 
 
 def main() -> int:

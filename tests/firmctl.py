@@ -11,7 +11,6 @@ a line that says so.
 from __future__ import annotations
 
 import argparse
-import asyncio
 import contextlib
 import json
 import os
@@ -31,8 +30,7 @@ from web_pages import web_checks
 from front_kit import DAY, FIRMCTL, LIMIT_SECONDS, ROSTER, Viewer, front, http_ask, missing_of, samples_of, wait_until
 from harness import program, service
 from harness.checks import Check, Missed, Skipped, Suite, print_skipped, require, run_script, run_suites
-from harness.deployed import MOST_OF_USER, MOST_UNREAD, Book, Books, Doors, Firm, Follower
-from harness.deployed import book_of, feed, gets_reply, roster, text_of
+from harness.deployed import MOST_OF_USER, MOST_UNREAD, Book, Books, book_of, gets_reply, roster, text_of
 from harness.ports import free_port
 from harness.program import ROOT
 from harness.small_streams import random_bad_roster, random_stream, with_noise
@@ -594,44 +592,6 @@ def watchers_follow() -> None:
         require(wait_until(lambda: len(started.shown.watchers) == 2), "a watcher stays behind")
 
 
-def watchers_see_who_joins() -> None:
-    """Who watches a tenant that comes by a move, so that no line admits it, is shown it as a new watcher is."""
-    with front() as started, contextlib.ExitStack() as stack:
-        everyone, alpha, beta, gamma = [stack.enter_context(Viewer(started.state)) for _ in range(4)]
-        everyone.ask({"ask": "watch"})
-        first, _, nobody = [
-            viewer.ask({"ask": "watch", "tenant": name})
-            for viewer, name in ((alpha, "alpha"), (beta, "beta"), (gamma, "gamma"))
-        ]
-        require(first["book"]["tasks"] and nobody["book"] is None, (first, nobody))
-        follower = Follower(started.shown, lambda: None)
-        come, tasks = Book(roster.Limits("gamma", 9, 24, 100, 1, 2)), list[asyncio.Task[None]]()
-
-        async def watched() -> Firm:
-            """The tenant as a queue knows it."""
-            firm = Firm(Doors("gamma", started.state / "view", started.state / "lines"), lambda heard: None)
-            tasks.append(asyncio.get_running_loop().create_task(firm.watch()))
-            return firm
-
-        async def join(book: Book) -> None:
-            follower.take(feed.TENANT, feed.tenant_text(book))
-
-        firm = started.run(watched())
-        require(wait_until(lambda: firm.reason == "firm has no tenant gamma"), firm.reason)
-        left = started.books.tenants["alpha"]
-        started.say(b"+ retire alpha", seconds=0.001)
-        for book in (left, come):
-            started.run(join(book))
-        started.say(b"beta show", seconds=0.001)
-        require(alpha.next()["line"] == "+ retire alpha" and alpha.next() == first, "alpha is back")
-        require(gamma.next() == {**nobody, "book": gamma.ask({"ask": "book", "tenant": "gamma"})["book"]}, "gamma")
-        require(everyone.next()["line"] == "+ retire alpha", "its retirement")
-        told = [[row["tenant"] for row in everyone.next()["tenants"]] for _ in range(2)]
-        require(told == [["beta", "alpha"], ["beta", "alpha", "gamma"]], told)
-        require(everyone.next()["line"] == beta.next()["line"] == "beta show", "lines follow")
-        require(wait_until(lambda: firm.book is not None), firm.reason)
-
-
 def closed_watchers_leave_nothing() -> None:
     """What would end a watcher that is closed, and does not read, goes with its connection."""
     with front() as started:
@@ -764,7 +724,6 @@ def checks(built: str, streams: range) -> dict[str, Check]:
         "firmctl, a view that leaves": a_view_that_leaves,
         "firmctl, watch": watch_prints,
         "view, watchers": watchers_follow,
-        "view, tenants that join": watchers_see_who_joins,
         "view, closed watchers": closed_watchers_leave_nothing,
         "view, lost watchers": lost_in_an_answer,
         "view, refusals and limits": views_refuse,

@@ -288,7 +288,7 @@ def used_up_descriptors(setup: Setup) -> None:
         daemon.words = ["prlimit", "--nofile=100:100", *FIRMD]
         daemon.start()
         with Client(daemon.folder / "beta") as client, crowd(daemon.folder / "alpha", 500):
-            wait_for(lambda: b"are lacking" in daemon.said(), "descriptors are used up")
+            wait_for(lambda: b"out of descriptors" in daemon.said(), "descriptors are used up")
             for number in range(1, 1_501):
                 require(client.ask(b"beta show").startswith(b"beta %d ok" % number), number)
             with Client(daemon.folder / "beta") as other:
@@ -309,7 +309,7 @@ from firm_service.state import State
 state = State(Path({state!r}))
 state.roster_sum = crc32(state.roster_path.read_bytes())
 journal = Journal(state, Room(300))
-journal.on_shortage = lambda error: sys.exit(f"segment {{len(journal.found.segments) + 1}}: {{error}}")
+journal.on_shortage = lambda: sys.exit(f"segment {{len(journal.found.segments) + 1}} has no descriptor")
 resource.setrlimit(resource.RLIMIT_NOFILE, (64, 64))
 def fill():
     try:
@@ -336,55 +336,35 @@ def spare_descriptor(setup: Setup) -> None:
 
 
 LACKING = """\
-import os, sys
-from firm_service import journal, relief
-is_asked, has_room = [], []
-def relieve(self, error):
-    has_room.extend(is_asked)
-relief.Relief.relieve = relieve
-def keep_refused(self, numbers, time=None, original=journal.Journal.keep_refused):
-    is_asked.append(True)
-    original(self, numbers, time)
-journal.Journal.keep_refused = keep_refused
-def write(file, text, original=os.write):
-    if {is_write} and bytes(text[:8]) == b"#refused" and not has_room:
-        raise OSError(12, "no memory")
-    return original(file, text)
-def opened(path, *words, original=os.open, **named):
-    if not {is_write} and str(path).endswith("2.lines") and not has_room:
-        raise OSError(24, "no descriptor")
-    return original(path, *words, **named)
-os.write, os.open = write, opened
-from firm_service.daemon import main
-sys.exit(main())
-"""
-REFUSING = """\
-#!{python}
-import sys, time
-for number, line in enumerate(sys.stdin, 1):
-    if "refused" in line:
-        time.sleep(0.5)
-    print("alpha", number, "no 14 memory" if "refused" in line else "ok", flush=True)
+import os
+from firm_service import lanes, stream
+def lacking(*words, original={where}):
+    if os.path.exists({flag!r}):
+        raise MemoryError
+    return original(*words)
+{where} = lacking
 """
 
 
-def refusals_in_shortages(setup: Setup) -> None:
-    """A refusal that lacks memory, or waits for a segment that lacks a descriptor, is kept once there is room."""
-    for is_write in (True, False):
-        with setup.daemon("--segment-bytes", "400") as daemon:
-            script = daemon.folder / "lacking.py"
-            script.write_text(LACKING.format(is_write=is_write))
-            daemon.words = [sys.executable, str(script)]
-            daemon.firm = firmd_kit.stand_in(daemon.folder, REFUSING.format(python=sys.executable))
+def lacking_memory(setup: Setup) -> None:
+    """Memory that is refused to firmd itself ends it with 1, and its next start has all that was answered."""
+    for where in ("stream.batches_of", "stream.Stream._answer_share", "lanes.Lanes.next"):
+        with setup.daemon() as daemon:
+            flag = daemon.folder / "flag"
+            patch(daemon, LACKING.format(where=where, flag=str(flag)))
             daemon.start()
             with daemon.client() as client:
-                client.send(b"alpha machine refused 1\n")
-                wait_for(lambda: b"refused" in daemon.journal(), "the line is written")
-                client.send(b"alpha machine m 1\n" * 20)  # which begin a segment
-                replies = [client.reply() for _ in range(21)]
-                require(replies[:2] == [b"alpha 1 no 14 memory", b"alpha 2 ok"], replies)
-            require(b"#refused " in b"".join(path.read_bytes() for path in daemon.segments()), "it is kept")
-            daemon.kill()
+                require(client.ask(b"alpha machine m1 2").endswith(b" ok"), "it serves")
+                flag.touch()
+                with suppress(Gone):
+                    client.ask(b"alpha show")
+                require(daemon.status() == 1 and b"MemoryError" in daemon.said(), f"{where}: {daemon.said()!r}")
+            flag.unlink()
+            daemon.start()
+            is_served(daemon)
+            with daemon.client() as client:
+                require(b" machines 1 " in client.ask(b"alpha show"), "what was answered is there")
+            ends_well(daemon)
 
 
 def view_of(daemon: Daemon) -> Client:
@@ -570,16 +550,16 @@ def gone_before_their_turn(setup: Setup) -> None:
 
 
 def read_again(setup: Setup) -> None:
-    """A client that fails while none is read, for a shortage of memory, is lost alone: all others are read again."""
+    """A client that fails as it is to be read again is lost alone: all others are read."""
     with setup.daemon() as daemon:
-        patch(daemon, SHORT_OF_MEMORY)
+        patch(daemon, FAILING_CLIENT)
         daemon.start()
-        with daemon.client() as first, daemon.client() as second, daemon.client() as newest:
-            for client in (first, second, newest):
+        with daemon.client() as first, daemon.client() as second:
+            for client in (first, second):
                 require(client.ask(b"alpha show").startswith(b"alpha "), "they are served")
             daemon.running().send_signal(signal.SIGUSR1)
-            require(first.rest() == newest.rest() == b"", "the one that failed is closed, and the newest")
-            require(second.ask(b"alpha show").startswith(b"alpha 4 ok"), "the other is read again")
+            require(first.rest() == b"", "the one that failed is closed")
+            require(second.ask(b"alpha show").startswith(b"alpha 3 ok"), "the other is read")
             is_served(daemon)
         ends_well(daemon)
 
@@ -616,22 +596,22 @@ def start(self, original=threading.Thread.start):
     original(self)
 threading.Thread.start = start
 """
-# At SIGUSR1 memory is lacking, and the first client that is held for it fails.
-SHORT_OF_MEMORY = """\
-import signal
-from firm_service import clients, relief
+# At SIGUSR1 it is chosen which clients are read, and the first fails.
+FAILING_CLIENT = """\
+import asyncio, signal
+from firm_service import clients
 failing = []
 def choose_reading(self, original=clients.Client.choose_reading):
     if failing:
         raise failing.pop()
     original(self)
-def __init__(self, faults, original=relief.Relief.__init__):
-    original(self, faults)
-    def lack():
-        failing.append(MemoryError())
-        self.relieve(MemoryError())
-    self._loop.add_signal_handler(signal.SIGUSR1, lack)
-clients.Client.choose_reading, relief.Relief.__init__ = choose_reading, __init__
+def __init__(self, *words, original=clients.Clients.__init__):
+    original(self, *words)
+    def fail():
+        failing.append(ValueError())
+        self._choose_readings()
+    asyncio.get_running_loop().add_signal_handler(signal.SIGUSR1, fail)
+clients.Client.choose_reading, clients.Clients.__init__ = choose_reading, __init__
 """
 # All lines of a client are taken, however many replies it has left unread when the later ones come.
 NEVER_HELD = "from firm_service import clients\nclients.HIGH_WATER = 1 << 30\n"
@@ -691,7 +671,7 @@ CHECKS = [
     unforeseen_faults,
     used_up_descriptors,
     spare_descriptor,
-    refusals_in_shortages,
+    lacking_memory,
     bounded_replies,
     bounded_lines,
     bounded_in_all,

@@ -1,4 +1,4 @@
-"""Damages the state of firmd and looks whether each damage is told at the next start, and reads older journals.
+"""Damages the state of firmd and checks that the next start reports each damage.
 
 usage: tools/run tests/journal.py [--quick] [--only WORDS] [--program FILE] [--trials N] [--seed N]
 Each check has a line; the last line is 'N passed, M failed', and the exit status is 1 where one failed. It needs Python
@@ -24,11 +24,11 @@ from pathlib import Path
 
 import firmd_kit
 import journal_tool
-from firmd_kit import JOURNAL_TOOL, ROSTER, ROWS, Daemon, Setup
+from firmd_kit import ROSTER, ROWS, Daemon, Setup
 from harness import program, service
 from harness.checks import Check, Missed, Suite, require, run_script, run_suites
 from harness.waiting import pause_since
-from journal_kit import MOVED, OLD, QUESTIONS, ROUNDS, answered, ask_all, serves, tool, write_old
+from journal_kit import QUESTIONS, ROUNDS, answered, ask_all, serves, tool
 
 CHECKS_AT_A_TIME = 4
 
@@ -96,15 +96,59 @@ def senders(setup: Setup) -> None:
         require(setup.alone(ROSTER, as_it_is) == setup.alone(ROSTER, daemon.journal()), "it is an input of firm")
 
 
-def newer_version(setup: Setup) -> None:
-    """A segment of a later version is told, and not taken for damage."""
+def other_versions(setup: Setup) -> None:
+    """Files of other versions are refused by name: a segment, one without headings, an extent."""
+    with setup.daemon("--segment-bytes", "4000") as daemon:
+        said = answered(daemon, is_killed=True)
+        first, extent = daemon.segments()[0], daemon.state / "journal" / "extent"
+        kept, whole = first.read_bytes(), extent.read_bytes()
+        kind, (_, _, rest) = b"firm-journal 3", kept.partition(b"\n")[0].split(b" ", 3)[1:]
+        first.write_bytes(b"#%b %08x %b\n" % (kind, zlib.crc32(kind + rest + b"\n"), rest))
+        daemon.refuses(5, f"{first}: it is of version 3, of a later firmd", "`firm-journal state`", "--restore")
+        first.write_bytes(kept)
+        digests = first.with_suffix(".blocks")
+        digests.touch()
+        daemon.refuses(5, f"{first.parent}: it is of version 1, of an older firmd", "`firm-journal state`")
+        digests.unlink()
+        extent.write_bytes(b"#firm-extent 2 %08x 1 1\n" % zlib.crc32(b"firm-extent 2" + b"1 1\n"))
+        daemon.refuses(5, f"{extent}: it is an older firmd's: run `firm-journal rewrite --extent`")
+        tool("rewrite", "--extent", daemon.state)
+        require(extent.read_bytes() == whole, "the extent is as it was")
+        for name in ("joined", "moving"):
+            (daemon.state / name).touch()
+            daemon.refuses(
+                5, f"{daemon.state / name}: it is an older firmd's", "`firm-journal state` writes: firmd --restore"
+            )
+            (daemon.state / name).unlink()
+        serves(daemon, said, setup)
+        daemon.stop()
+
+
+REFUSING = """\
+#!{python}
+import sys
+for number, line in enumerate(sys.stdin, 1):
+    print("alpha", number, "no 14 memory" if "refused" in line else "ok", flush=True)
+"""
+
+
+def kept_refusals(setup: Setup) -> None:
+    """A line that memory was refused to counts and changes nothing, in each replay and in a journal written anew."""
+    lines = [b"alpha machine m1 2", b"alpha machine refused 2", b"alpha job j 10", b"alpha task j a"]
     with setup.daemon() as daemon:
-        daemon.start().stop()
-        path = daemon.segments()[0]
-        rest = path.read_bytes().split(b" ", 3)[3]
-        kind = b"firm-journal 3"
-        path.write_bytes(b"#%b %08x %b" % (kind, zlib.crc32(kind + rest), rest))
-        daemon.refuses(5, "version 3", "later firmd")
+        plain, daemon.firm = daemon.firm, firmd_kit.stand_in(daemon.folder, REFUSING.format(python=sys.executable))
+        daemon.start()
+        require(ask_all(daemon, lines)[1] == b"alpha 2 no 14 memory", "memory is refused")
+        daemon.kill()
+        daemon.firm = plain
+        for is_rewritten in (False, True):
+            if is_rewritten:
+                tool("rewrite", "--forget-replies", daemon.state)
+            daemon.start()
+            wanted = service.serve(ROSTER, b"".join(line + b"\n" for line in [*lines, *QUESTIONS]), (1,))
+            require(ask_all(daemon, QUESTIONS) == wanted[len(lines) :], "the refusal stays")
+            lines += QUESTIONS
+            daemon.kill()
 
 
 # What is missing.
@@ -186,7 +230,7 @@ def other_pieces(setup: Setup) -> None:
     """A state with a piece of another one, or one that is older, is not served."""
     with setup.daemon("--segment-bytes", "4000") as daemon, setup.daemon("--segment-bytes", "4000") as other:
         said = answered(daemon, True)
-        shutil.copytree(daemon.state, daemon.folder / "copy", ignore=shutil.ignore_patterns("view", "moves", "lock"))
+        shutil.copytree(daemon.state, daemon.folder / "copy", ignore=shutil.ignore_patterns("view", "lock"))
         more = [b"alpha show"] * 200
         daemon.start()
         ask_all(daemon, more)
@@ -375,135 +419,6 @@ def power_cuts_at_any_moment(setup: Setup) -> None:
         firmd_kit.check_kept(setup, daemon.journal(), tenants)
 
 
-# Journals of an older firmd.
-
-
-def old_journals(setup: Setup) -> None:
-    """A journal of an older firmd is read and gone on with, and written anew on request; nothing is lost thereby."""
-    said = [line for segment in OLD for line in segment]
-    for is_rewritten in (False, True):
-        with setup.daemon("--segment-bytes", "2000") as daemon:
-            write_old(daemon, setup, OLD)
-            serves(daemon, said, setup)
-            daemon.stop()
-            serves(daemon, said + QUESTIONS, setup)
-            daemon.kill()
-            kept = said + 2 * QUESTIONS
-            journal = daemon.state / "journal"
-            if is_rewritten:
-                require(f"{len(kept)} lines are written anew" in tool("rewrite", daemon.state), "it tells")
-                require(not [*journal.glob("*.blocks")] and (daemon.state / "journal.old").is_dir(), "the old ones")
-                require("today's form already" in tool("rewrite", daemon.state), "nothing is left to be done")
-                records = [record for path in daemon.segments() for record in records_of(path.read_bytes())]
-                known = {(record.sender, record.time > 0) for record in records}
-                require(known == {("?", False), (f"+:{os.geteuid()}", True)}, known)
-            for path in sorted(journal.iterdir()):
-                if path.name != "extent":
-                    flip(path, random.Random(1))
-                    daemon.refuses(5, str(journal))
-                    flip(path, random.Random(1))
-            require((daemon.state / "id").read_text() == "0123456789abcdef\n", "its id")
-            serves(daemon, kept, setup)
-            daemon.stop()
-
-
-def old_damage(setup: Setup) -> None:
-    """Of an older journal that was not gone on with yet, a lost segment and what has a digest are told."""
-    with setup.daemon() as daemon:
-        write_old(daemon, setup, OLD)
-        journal = daemon.state / "journal"
-        first, second = daemon.segments()
-        second.rename(daemon.folder / "away")
-        daemon.refuses(5, "segments are missing", "00000002.blocks")
-        (daemon.folder / "away").rename(second)
-        text = first.read_bytes()
-        first.write_bytes(text.replace(b"task j a", b"task j b", 1))
-        daemon.refuses(5, "00000001.lines, lines 1 to", "not the lines that were answered")
-        first.write_bytes(text[:60])
-        daemon.refuses(5, "00000001.lines")
-        first.write_bytes(text)
-        text, kept = second.read_bytes(), second.with_suffix(".blocks").read_bytes()
-        for lost in (b"", bytes(len(text)), bytes(100)):
-            second.write_bytes(lost)
-            daemon.refuses(5, "00000002.lines: 0 bytes, and")
-            second.with_suffix(".blocks").unlink()
-            (journal / "refused").write_bytes(b"2 3\n")
-            daemon.refuses(5, "refused:1")
-            (journal / "refused").unlink()
-            second.with_suffix(".blocks").write_bytes(kept)
-        second.write_bytes(text)
-        kept = first.with_suffix(".blocks").read_bytes()
-        first.with_suffix(".blocks").write_bytes(b"no record\n")
-        daemon.refuses(5, "00000001.blocks:1", "not a record")
-        first.with_suffix(".blocks").write_bytes(kept)
-        (journal / "refused").write_bytes(b"9 9\n")
-        daemon.refuses(5, "refused:1")
-        (journal / "refused").unlink()
-        journal.rename(daemon.folder / "away")
-        daemon.refuses(5, "no segments", f"or remove {daemon.state / 'id'}")
-        (daemon.folder / "away").rename(journal)
-        (daemon.state / "roster.csv").rename(daemon.folder / "kept.csv")
-        given = daemon.folder / "roster.csv"
-        given.write_bytes(ROSTER.replace(b"1000000000,1,2", b"1000000000,0,9"))
-        daemon.refuses(5, str(daemon.state / "roster.csv"))
-        given.write_bytes(ROSTER)
-        (daemon.folder / "kept.csv").rename(daemon.state / "roster.csv")
-        serves(daemon, [line for segment in OLD for line in segment], setup)
-        daemon.stop()
-
-
-def old_beginnings(setup: Setup) -> None:
-    """What an older firmd leaves that is killed in its first start is begun, or told with its cure."""
-    for has_roster, has_segment in ((False, False), (True, False), (True, True)):
-        with setup.daemon() as daemon:
-            journal, name = daemon.state / "journal", daemon.state / "id"
-            journal.mkdir(parents=True)
-            name.write_text("0123456789abcdef\n")
-            if has_roster:
-                (daemon.state / "roster.csv").write_bytes(ROSTER)
-            if has_segment:
-                (journal / "00000001.lines").touch()
-            elif has_roster:
-                daemon.refuses(5, f"or remove {name} if no line of it was ever answered")
-                name.unlink()
-            for said in (QUESTIONS[:0], QUESTIONS):
-                serves(daemon, said, setup)
-                daemon.kill()
-
-
-def old_mistakes(setup: Setup) -> None:
-    """A round's reply that an older firmd took for a refusal of memory is told, and where; real refusals stay."""
-    replies = setup.alone(ROSTER, b"".join(line + b"\n" for line in MOVED))
-    require(replies[-1].endswith(b" move no 14 memory"), replies[-1])
-    for before in (None, "rewrite", "new-id"):
-        with setup.daemon() as daemon:
-            write_old(daemon, setup, [MOVED[:5], MOVED[5:]])
-            (daemon.state / "journal" / "refused").write_bytes(b"2 3\n")
-            if before is not None:
-                tool(before, daemon.state)
-                shutil.rmtree(daemon.state / "journal.old", ignore_errors=True)
-            cure = f"`firm-journal rewrite --obey {len(MOVED)} {daemon.state}`"
-            daemon.refuses(5, "alpha round", cure, *([] if before == "rewrite" else ["00000002.lines, line 4"]))
-            done = subprocess.run([*JOURNAL_TOOL, "rewrite", "--obey", "2", daemon.state], capture_output=True)
-            require(done.returncode == 2 and b"line 2 is none" in done.stderr, done)
-            tool("rewrite", "--obey", str(len(MOVED)), daemon.state)
-            serves(daemon, MOVED, setup)
-            daemon.stop()
-    with setup.daemon() as daemon:
-        marks = (len(MOVED) - 3, len(MOVED))  # a round before the names are there, and a task behind the move
-        lines = [*MOVED, b"alpha task j x"]
-        write_old(daemon, setup, [lines[:5], lines[5:]], marks)
-        for rewritten in (False, True):
-            if rewritten:
-                tool("rewrite", daemon.state)
-            daemon.start()
-            with daemon.client() as client:
-                wanted = service.serve(ROSTER, b"".join(line + b"\n" for line in [*lines, *QUESTIONS]), marks)
-                require([client.ask(line) for line in QUESTIONS] == wanted[len(lines) :], "the refusals stay")
-            lines += QUESTIONS
-            daemon.kill()
-
-
 FAILING = """\
 import os, sys
 from pathlib import Path
@@ -609,7 +524,7 @@ def random_damage(setup: Setup, part: int, trials: int) -> None:
         said = answered(daemon, is_killed, 200)
         alone = setup.alone(ROSTER, b"".join(line + b"\n" for line in [*said, *QUESTIONS]))[len(said) :]
         kept = daemon.folder / "kept"
-        shutil.copytree(daemon.state, kept, ignore=shutil.ignore_patterns("view", "moves"))
+        shutil.copytree(daemon.state, kept, ignore=shutil.ignore_patterns("view"))
         told = 0
         for trial in range(trials):
             shutil.rmtree(daemon.state)
@@ -639,7 +554,8 @@ def is_told(daemon: Daemon, said: list[bytes], alone: list[bytes], what: str) ->
 
 SHORT = [
     senders,
-    newer_version,
+    other_versions,
+    kept_refusals,
     missing_pieces,
     damaged_ids,
     lost_beginnings,
@@ -648,10 +564,6 @@ SHORT = [
     begun_segments,
     power_cuts,
     power_cuts_at_any_moment,
-    old_journals,
-    old_damage,
-    old_beginnings,
-    old_mistakes,
     failed_writes,
     *journal_tool.SHORT,
 ]

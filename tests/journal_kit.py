@@ -3,11 +3,9 @@
 from __future__ import annotations
 
 import subprocess
-from hashlib import blake2b
 from pathlib import Path
 
 from firmd_kit import JOURNAL_TOOL, ROSTER, ROWS, Client, Daemon, Setup
-from harness import service
 from harness.checks import require
 
 QUESTIONS = [b"alpha show", b"alpha costs", b"alpha where a", b"beta show", b"beta where l", b"alpha where no"]
@@ -51,30 +49,3 @@ def answered(daemon: Daemon, is_killed: bool, lines: int = 400) -> list[bytes]:
     daemon.kill() if is_killed else daemon.stop()
     require(len(daemon.segments()) > 2, "segments")
     return said
-
-
-def write_old(daemon: Daemon, setup: Setup, segments: list[list[bytes]], refused: tuple[int, ...] = ()) -> None:
-    """A state as an older firmd left it: lines alone, and the digests of each segment's first half beside them."""
-    journal = daemon.state / "journal"
-    journal.mkdir(parents=True)
-    (daemon.state / "roster.csv").write_bytes(ROSTER)
-    (daemon.state / "id").write_text("0123456789abcdef\n")
-    lines = [line for segment in segments for line in segment]
-    replies = service.serve(ROSTER, b"".join(line + b"\n" for line in lines), refused)
-    for number, segment in enumerate(segments, 1):
-        path = journal / f"{number:08}.lines"
-        path.write_bytes(b"".join(line + b"\n" for line in segment))
-        half = len(segment) // 2
-        texts = [b"".join(line + b"\n" for line in part[:half]) for part in (segment, replies)]
-        digests = [blake2b(text, digest_size=16).hexdigest() for text in texts]
-        path.with_suffix(".blocks").write_text(f"{len(texts[0])} {half} {digests[0]} {digests[1]}\n")
-        replies = replies[len(segment) :]
-    if refused:
-        starts = [sum(map(len, segments[:number])) for number in range(len(segments))]
-        for place in refused:
-            number = max(number for number, start in enumerate(starts, 1) if start <= place)
-            with open(journal / "refused", "a") as marks:
-                marks.write(f"{number} {place - starts[number - 1]}\n")
-
-
-OLD = [[*ROUNDS, *[b"alpha show"] * 20], [b"alpha task j b", *[b"beta show"] * 20]]

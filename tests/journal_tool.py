@@ -4,6 +4,7 @@ from __future__ import annotations
 
 import os
 import pty
+import shutil
 import signal
 import subprocess
 import sys
@@ -16,50 +17,46 @@ from firmd_kit import JOURNAL_TOOL, Setup
 from harness.checks import require
 from harness.deployed import SERVICE, found_now, kept_lines
 from harness.program import opened
-from journal_kit import OLD, QUESTIONS, ROUNDS, answered, ask_all, serves, tool, write_old
+from journal_kit import QUESTIONS, ROUNDS, answered, ask_all, serves, tool
 
 
 def cut_rewrites(setup: Setup) -> None:
     """A crash while a journal is written anew leaves the former one or the new one in its place."""
-    said = [line for segment in OLD for line in segment]
-    with setup.daemon() as daemon:
-        write_old(daemon, setup, OLD)
+    with setup.daemon("--segment-bytes", "4000") as daemon:
+        said = answered(daemon, is_killed=True)
         journal = daemon.state / "journal"
         (daemon.state / "journal.new").mkdir()
         (daemon.state / "journal.new" / "00000001.lines").write_bytes(b"#firm-jour")
-        tool("rewrite", daemon.state)
-        new = journal.rename(daemon.state / "journal.new")  # as between the two renames
-        old, rest = (daemon.state / "journal.old" / "00000002.lines"), b"beta show\n"
-        text = old.read_bytes()
-        old.write_bytes(text + rest)  # so the new one is of an earlier moment
-        daemon.refuses(5, f"{new} has not the lines of {old.parent}")
-        old.write_bytes(text)
+        tool("rewrite", "--forget-replies", daemon.state)
+        new, old = daemon.state / "journal.new", daemon.state / "journal.old"
+        journal.rename(new)  # as between the two renames
         serves(daemon, said, setup)
-        require(not (daemon.state / "journal.new").exists(), "the new one is in its place")
+        require(not new.exists(), "the new one is in its place")
         daemon.stop()
+        shutil.copytree(journal, new)
+        serves(daemon, said + QUESTIONS, setup)
+        daemon.stop()
+        shutil.rmtree(old)
+        journal.rename(old)  # so the new one is of an earlier moment
+        daemon.refuses(5, f"{new} has not the lines of {old}")
 
 
 def cut_renewals(setup: Setup) -> None:
     """A crash before the new id is kept leaves a state that gets it at its start; else a former id is no id."""
-    said = [line for segment in OLD for line in segment]
-    for is_old in (False, True):
-        with setup.daemon() as daemon:
-            if is_old:
-                write_old(daemon, setup, OLD)
-            else:
-                daemon.start()
-                ask_all(daemon, said)
-                daemon.kill()
-            path = daemon.state / "id"
-            before = path.read_bytes()
-            tool("new-id", daemon.state)
-            after = path.read_bytes()
-            path.write_bytes(before)
-            serves(daemon, said, setup)
-            require(path.read_bytes() == after != before, "the new id")
-            daemon.kill()
-            path.write_bytes(before)
-            daemon.refuses(5, str(path))
+    with setup.daemon() as daemon:
+        daemon.start()
+        ask_all(daemon, ROUNDS)
+        daemon.kill()
+        path = daemon.state / "id"
+        before = path.read_bytes()
+        tool("new-id", daemon.state)
+        after = path.read_bytes()
+        path.write_bytes(before)
+        serves(daemon, ROUNDS, setup)
+        require(path.read_bytes() == after != before, "the new id")
+        daemon.kill()
+        path.write_bytes(before)
+        daemon.refuses(5, str(path))
 
 
 def mended_extents(setup: Setup) -> None:

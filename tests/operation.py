@@ -28,12 +28,9 @@ from firmd_kit import FIRMD, JOURNAL_TOOL, NOBODY, START_SECONDS, Client, Daemon
 from harness import program
 from harness.checks import Check, Skipped, Suite, require, run_script, run_suites
 from harness.deployed import LOCK_SECONDS, SERVICE
-from harness.program import ROOT
 from hostile import patch, patch_viewer
 from queue_kit import QUEUE
 
-from firm_service.door.moving import Record
-from firm_service.door.table import Table
 from firm_service.files import replace_synced
 from firm_service.slurm.bridge import lock_alone
 
@@ -338,7 +335,8 @@ def folders_of_others(setup: Setup) -> None:
         folder.mkdir()
         (folder / "lock").symlink_to(victim)
         places = ["--view", "v", "--state", str(folder)]
-        commands = [[*JOURNAL_TOOL, verb, str(folder)] for verb in ("state", "rewrite", "new-id")]
+        verbs = (["state"], ["rewrite", "--extent"], ["new-id"])
+        commands = [[*JOURNAL_TOOL, *words, str(folder)] for words in verbs]
         commands += [
             [*FIRMD, "--firm", setup.program, "--roster", "r", "--state", str(folder), "--socket", f"{name}/s"]
         ]
@@ -376,11 +374,9 @@ def led_by_others(folder: Path) -> dict[Path, str]:
 def links_in_the_place_of_files(setup: Setup) -> None:
     """A symbolic link in the place of a draft or of a lock is refused, not followed."""
     with tempfile.TemporaryDirectory(prefix="firm-") as name:
-        victim, path, table = Path(name, "victim"), Path(name, "file"), Path(name, "door.toml")
-        table.write_text((ROOT / "examples/cluster/door.toml").read_text().replace("out/tenants.map", str(path)))
+        victim, path = Path(name, "victim"), Path(name, "file")
         writes: dict[str, Callable[[], object]] = {
             "file.new": partial(replace_synced, path, b"x"),
-            "file.lock": lambda: Record(Table.read(table)),
             "slurm.lock": lambda: asyncio.run(lock_alone(Path(name, "slurm.lock"))),
         }
         for link, write in writes.items():

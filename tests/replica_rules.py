@@ -268,7 +268,7 @@ def full_and_away() -> None:
         here.memory.remove(KEYS.entry(0))
         late, _ = here.open("b")
         refused(lambda: here.leads(late), Fault, "late: bytes 0 to 11", "copy the state's folder")
-        here.memory.set(Put(KEYS.snapshot, Offer("-", 23, "none").text()))
+        here.memory.set(Put(KEYS.snapshot, Offer(23, "none").text()))
         late, _ = here.open("c")
         refused(lambda: here.leads(late), Anew, "the lines behind byte 0 are gone from etcd")
         here.memory.remove(KEYS.snapshot)
@@ -510,7 +510,7 @@ def filled_store() -> None:
 
     for offset in range(0, 1000, 100):
         memory.set(Put(KEYS.entry(offset), b""))
-    memory.set(Put(KEYS.snapshot, Offer("-", 700, "none").text()))
+    memory.set(Put(KEYS.snapshot, Offer(700, "none").text()))
     require(kept(250) == list(range(0, 1000, 100)), "a quarter is not too much")
     require(kept(500) == list(range(500, 1000, 100)), "half of them go, where it is twice as much")
     require(kept(500) == [700, 800, 900], "those after the snapshot there stay")

@@ -2,6 +2,7 @@
 
 from __future__ import annotations
 
+import json
 import random
 from collections.abc import Callable
 from contextlib import suppress
@@ -13,7 +14,6 @@ from replica_rules import ID, KEYS, ROSTER, Case, batch, case, refused
 from stand_in_etcd import Connection, Memory
 
 from firm_service.faults import Fault
-from firm_service.joined import Joined
 from firm_service.journal import Journal, Room
 from firm_service.records import Base
 from firm_service.replicated import renewal
@@ -21,10 +21,11 @@ from firm_service.replicated.beginning import agree, beginning_of
 from firm_service.replicated.chunks import CHUNK_BYTES, chunk_key, put_chunks
 from firm_service.replicated.entries import Agreed
 from firm_service.replicated.etcd import Condition, Put, Size, Unsure
-from firm_service.replicated.faults import Anew, NotLeading
+from firm_service.replicated.faults import NotLeading
 from firm_service.replicated.journal import ReplicatedJournal
 from firm_service.replicated.offers import Offer, fetch, offer_of, packed
 from firm_service.replicated.point import Point, Position
+from firm_service.replicated.renewed import Renewed
 from firm_service.replicated.shared import Shared
 from firm_service.state import State
 from firm_service.states import digest
@@ -77,12 +78,12 @@ def only(memory: Memory, count: int) -> Connection:
 # Snapshots in etcd.
 
 
-def joined_at(base: Base, move: str, state: bytes) -> Joined:
+def renewed_at(base: Base, state: bytes) -> Renewed:
     """What a replica goes on from behind these lines, which are `alpha show` alone."""
     point = Point()
     point.add(b"alpha show\n" * base.lines, [b"alpha %d ok" % number for number in range(base.lines)])
     books: dict[str, Any] = {"refusals": {}, "tenants": {}, **point.kept()}
-    return Joined((7,), base, len(state), digest(state), (move,), books)
+    return Renewed.of(base, state, json.dumps(books).encode())
 
 
 def shared_of(journal: ReplicatedJournal) -> Shared:
@@ -97,31 +98,25 @@ def offers() -> None:
     with case() as here:
         first, _ = here.open("a")
         here.leads(first)
-        for seed, move in enumerate(("0123456789abcdef", "f" * 16)):
+        for seed in (0, 1):
             first.append([batch(*[b"alpha show"] * 3)])
-            joined, state = joined_at(Base(4, 3, 33, 99), move, long_state(seed)), long_state(seed)
-            shared_of(first).offer(joined, state)
-            shared_of(first).commit()
-            require(fetch(Connection(here.memory), KEYS) == (joined, state), "another offer")
+            renewed, state = renewed_at(Base(4, 3, 33, 99), long_state(seed)), long_state(seed)
+            shared_of(first).offer(renewed, state)
+            require(fetch(Connection(here.memory), KEYS) == (renewed, state), "another offer")
             (offer,) = filter(None, [offer_of(Connection(here.memory), KEYS)])
-            require((offer.move, offer.size) == (move, 33), offer)
+            require(offer.size == 33, offer)
             chunks = [key for key in here.memory.rows if key.startswith(KEYS.chunks)]
             require(len(chunks) > 2 and all(offer.digest.encode() in key for key in chunks), chunks)
             require(shared_of(first).is_due(34) and not shared_of(first).is_due(33), "when one is due")
-        shared_of(first).offer(joined_at(Base(4, 3, 33, 99), "a" * 16, state), state)
         second, _ = here.open("b")
-        refused(lambda: here.leads(second), Anew)  # it lacks the tenant
-        third, _ = here.open("c")
-        here.states[-1].joined = joined
-        here.leads(third)
+        here.leads(second)
         before = dict(here.memory.rows)
-        refused(lambda: shared_of(first).commit(), NotLeading)
-        refused(lambda: shared_of(first).offer(joined, state), NotLeading)
-        refused(lambda: shared_of(first).write(b"held"), NotLeading)
-        refused(lambda: shared_of(first).require_current(), NotLeading)
+        refused(lambda: shared_of(first).offer(renewed, state), NotLeading)
         require(here.memory.rows == before, "one that leads no more has changed something")
         here.memory.remove(chunk_key(KEYS.chunks, offer.digest, 1))
         refused(lambda: fetch(Connection(here.memory), KEYS), Fault, "the snapshot in etcd can't be used")
+        here.memory.set(Put(KEYS.snapshot, b"- 33 " + offer.digest.encode()))
+        refused(lambda: fetch(Connection(here.memory), KEYS), Fault, "or an older firmd's: b'- 33 ", "by `etcdctl del`")
 
 
 def kept_beginnings() -> None:
@@ -140,13 +135,12 @@ def kept_beginnings() -> None:
         for _ in range(3):
             journal.append([batch(b"alpha show")])
         require(first_entry() == 22, "lines that all have are gone")
-        refused(lambda: shared.offer(joined_at(Base(1, 1, 11, 0), "-", state), state), Fault, "are gone from etcd")
+        refused(lambda: shared.offer(renewed_at(Base(1, 1, 11, 0), state), state), Fault, "are gone from etcd")
         with shared.keeping(33):
             journal.append([batch(b"alpha show")])
             journal.append([batch(b"alpha show")])
             require(first_entry() == 33, "lines that one needs who is to begin")
-            shared.offer(joined_at(Base(3, 3, 33, 0), "-", state), state)
-            shared.commit()
+            shared.offer(renewed_at(Base(3, 3, 33, 0), state), state)
         journal.append([batch(b"alpha show")])
         require(first_entry() == 33, "lines behind the offer")
         here.memory.size = Size(6, 10)
@@ -154,37 +148,34 @@ def kept_beginnings() -> None:
 
 
 def begun_anew() -> None:
-    """A replica that is late, or lacks a tenant, begins anew whatever step is cut off, and keeps what it had."""
-    state, base = b"firm state 1\nplace admissions 1\nrows 1\n", Base(4, 3, 33, 99)
-    for move, size in (("0123456789abcdef", 3), ("-", 1)):
-        cut = 0
-        while True:
-            with case() as here:
-                journal, _ = here.open("a")
-                here.leads(journal)
-                journal.append([batch(*[b"alpha show"] * size)])
-                journal.close()
-                if move == "-":
-                    here.memory.remove(KEYS.entry(0))
-                    here.memory.set(Put(KEYS.entry(33), b"1 0\n"))
-                joined, store = joined_at(base, move, state), Connection(here.memory)
-                text = packed(joined, state)
-                leads = Condition(b"nobody", made=0)
-                require(put_chunks(store, KEYS.chunks, leads, text), "chunks")
-                here.memory.set(Put(KEYS.snapshot, Offer.of(joined, text).text()))
-                is_cut = renewed_but_for(here, store, cut)
-                again = restarted(here)
-                found = Journal(again, Room(4096), again.base).found
-                require((again.joined, found.base, found.lines, again.id) == (joined, base, 3, ID), f"{cut}: {found}")
-                former = (here.folder / "a" / "journal.former").glob("*.lines")
-                kept = b"".join(path.read_bytes() for path in former)
-                require(kept.count(b"alpha show\n") == size, f"{cut}: {kept!r}")
-                names = {path.name for path in (here.folder / "a").iterdir()}
-                require("anew" not in names and f"joined-{joined.digest}" in names, names)
-            if not is_cut:
-                break
-            cut += 1
-        require(cut > 8, f"it has {cut} steps")
+    """A replica that is late begins anew whatever step is cut off, and keeps what it had."""
+    state, base, cut = b"firm state 1\nplace admissions 1\nrows 1\n", Base(4, 3, 33, 99), 0
+    while True:
+        with case() as here:
+            journal, _ = here.open("a")
+            here.leads(journal)
+            journal.append([batch(b"alpha show")])
+            journal.close()
+            here.memory.remove(KEYS.entry(0))
+            here.memory.set(Put(KEYS.entry(33), b"1 0\n"))
+            renewed, store = renewed_at(base, state), Connection(here.memory)
+            text = packed(renewed, state)
+            leads = Condition(b"nobody", made=0)
+            require(put_chunks(store, KEYS.chunks, leads, text), "chunks")
+            here.memory.set(Put(KEYS.snapshot, Offer.of(renewed, text).text()))
+            is_cut = renewed_but_for(here, store, cut)
+            again = restarted(here)
+            found = Journal(again, Room(4096), again.base).found
+            require((again.renewed, found.base, found.lines, again.id) == (renewed, base, 3, ID), f"{cut}: {found}")
+            former = (here.folder / "a" / "journal.former").glob("*.lines")
+            kept = b"".join(path.read_bytes() for path in former)
+            require(kept.count(b"alpha show\n") == 1, f"{cut}: {kept!r}")
+            names = {path.name for path in (here.folder / "a").iterdir()}
+            require("anew" not in names and f"renewed-{renewed.digest}" in names, names)
+        if not is_cut:
+            break
+        cut += 1
+    require(cut > 8, f"it has {cut} steps")
 
 
 def restarted(here: Case) -> State:
@@ -209,7 +200,7 @@ def renewed_but_for(here: Case, store: Connection, cut: int) -> bool:
             if is_before:
                 work(*words, **more)
 
-    names = ["write_state", "replace_synced", "remove_all", "make_folder", "write_synced", "tell", "clear_texts"]
+    names = ["write_state", "replace_synced", "remove_all", "make_folder", "write_synced", "write_name", "clear_texts"]
     names += ["sync_folder"]
     own = {name: getattr(renewal, name) for name in names}
     for name in names:

@@ -441,7 +441,7 @@ def keep(folder: Path) -> None:
     """Copies the logs to where they are wanted."""
     kept = os.environ.get("KEEP_LOGS")
     if kept is not None:
-        ignored = shutil.ignore_patterns("socket*", "any", "view", "moves", "operator", "spool", "database", "*.new")
+        ignored = shutil.ignore_patterns("socket*", "any", "view", "operator", "spool", "database", "*.new")
         shutil.copytree(folder, Path(kept) / folder.name, ignore=ignored)
 
 

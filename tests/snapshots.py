@@ -29,7 +29,7 @@ import snapshot_restores
 from firmd_kit import ROSTER, Client, Daemon, Gone, Setup, Tenant, in_threads, roster_of, wait_for
 from harness import program
 from harness.checks import Check, Suite, require, run_script, run_suites
-from harness.deployed import Limits, archive, extent, kept_books, records, service_states, snapshots
+from harness.deployed import Limits, archive, kept_books, records, service_states, snapshots
 from hostile import patch
 from journal_kit import QUESTIONS, ROUNDS, ask_all, tool
 from snapshot_kit import (
@@ -259,7 +259,7 @@ def damages(setup: Options) -> None:
     with with_snapshots(setup) as (daemon, said):
         daemon.kill()
         kept = daemon.folder / "kept"
-        shutil.copytree(daemon.state, kept, ignore=shutil.ignore_patterns("view", "moves"))
+        shutil.copytree(daemon.state, kept, ignore=shutil.ignore_patterns("view"))
         first, second = [snapshots.paths_of(daemon.state / "snapshots", segment) for segment in named(daemon)[:2]]
         for trial in range(2 if setup.is_quick else 100):
             paths = [draw.choice(first)] + ([draw.choice(second)] if trial % 2 else [])
@@ -342,7 +342,6 @@ def clocks_jump(setup: Options) -> None:
             for number, days in enumerate(times, 1):
                 header = records.Header("state", number, 0, 0, 0, 0, int((now + days * day) * 1_000))
                 (journal / f"{number:08}.lines").write_bytes(header.text())
-            (journal / "extent").write_bytes(extent.Extent(b"state", 1, len(times), 0, 0).text())
             count = archive.clear(journal, archive.Keeping(days=1.0), len(times) - 1)
             require(count == taken == len(times) - len(list(journal.glob("*.lines"))), f"{times}: {count} are taken")
     clock_is_ahead()
@@ -358,7 +357,6 @@ def clock_is_ahead() -> None:
         for number, begun in enumerate((-2.0 * day, -1.0, ten_years, ten_years), 1):
             header = records.Header("state", number, 0, 0, 0, 0, int((1e9 + begun) * 1_000))
             (journal / f"{number:08}.lines").write_bytes(header.text())
-        (journal / "extent").write_bytes(extent.Extent(b"state", 1, 4, 0, 0).text())
         for at, is_ahead, taken in (
             (1.0, True, 0),
             (6.0, True, 0),

@@ -1,4 +1,4 @@
-"""Asks firmctl's verbs, firm-submit and the Python clients, over firmd and firm-queue, with tasks that are processes.
+"""Asks firmctl's verbs and the Python clients, over firmd and firm-queue, with tasks that are processes.
 
 usage: tools/run tests/submit.py [--quick] [--only WORDS] [--program FILE]
 Each check has a line; the last line is 'N passed, M failed', and the exit status is 1 where one failed. It needs Python
@@ -10,7 +10,6 @@ from __future__ import annotations
 import argparse
 import asyncio
 import csv
-import json
 import os
 import re
 import socket
@@ -165,7 +164,7 @@ def files(found: Cluster) -> None:
     """Many submissions of a file, in the order of its lines, with labels and dependencies; all of them or none."""
     path = found.folder / "work.jsonl"
     path.write_text(FILE.replace('"array"', '"output": "of-train-%a", "array"'))
-    done = found.run("firm-submit", "--dir", str(found.folder), "--job", "filed", "--file", str(path))
+    done = found.run("firmctl", "submit", "--dir", str(found.folder), "--job", "filed", "--file", str(path))
     numbers = done.output.decode().split()
     require(done.status == 0 and len(numbers) == 3, done)
     found.firmctl("wait", *numbers)
@@ -189,10 +188,10 @@ def files(found: Cluster) -> None:
     ]
     for text, status, told in cases:
         path.write_bytes(text.encode("latin-1"))
-        done = found.run("firm-submit", "--job", "faulty", "--file", str(path))
+        done = found.run("firmctl", "submit", "--job", "faulty", "--file", str(path))
         require(done.status == status and told in done.faults.decode() and not done.output, f"{text}: {done}")
     require(not found.json("ps", "--all", "--job", "faulty")["tasks"], "a part of a file was taken")
-    done = found.run("firm-submit", "--job", "filed", "--file", "-", text='{"command": ["true"], "dir": "/"}')
+    done = found.run("firmctl", "submit", "--job", "filed", "--file", "-", text='{"command": ["true"], "dir": "/"}')
     require(done.status == 0 and len(done.output.split()) == 1, done)
 
 
@@ -214,22 +213,22 @@ def words_are_judged(found: Cluster) -> None:
         (
             ["echo", "a", "-b"],
             2,
-            "unrecognized arguments: -b; write -- before the command: firm-submit .. -- echo a -b",
+            "unrecognized arguments: -b; write -- before the command: firmctl .. -- echo a -b",
         ),
         ([], 2, "name a command"),
         (["--file", "/nonexistent"], 2, "cannot read /nonexistent"),
         (["--file", "-", "--", "true"], 2, "has its commands itself"),
     ]
     for words, status, told in cases:
-        done = found.run("firm-submit", *words)
+        done = found.run("firmctl", "submit", *words)
         require(done.status == status and told in done.faults.decode() and not done.output, f"{words}: {done}")
-    other = found.run("firm-submit", "--queue", "/nonexistent", "--patience", "0.1", "--", "true")
+    other = found.run("firmctl", "submit", "--queue", "/nonexistent", "--patience", "0.1", "--", "true")
     require(other.status == 3 and b"no queue answers at /nonexistent" in other.faults, other)
-    foreign = found.run("firm-submit", "--queue", str(found.daemon.any), "--", "true")
+    foreign = found.run("firmctl", "submit", "--queue", str(found.daemon.any), "--", "true")
     require(foreign.status == 3 and b"is not firm-queue; it says b'! unknown-tenant" in foreign.faults, foreign)
     for words, status in [(["ps", "--queue", "/nonexistent"], 3), (["logs", "99999"], 1), (["cancel"], 2)]:
         require(found.run("firmctl", *words).status == status, words)
-    keyed = [found.run("firm-submit", "--dir", "/", "--key", "mine", "--", "true") for _ in range(2)]
+    keyed = [found.run("firmctl", "submit", "--dir", "/", "--key", "mine", "--", "true") for _ in range(2)]
     require(keyed[0] == keyed[1] and keyed[0].status == 0 and keyed[0].output.strip().isdigit(), keyed)
 
 
@@ -391,27 +390,15 @@ def why_of_user(path: Path, other: str) -> list[object]:
             return [queue.why(number), refusal.name]
 
 
-def quick_ps(found: Cluster) -> None:
-    """`ps` alone, which the queue writes, is what firmctl itself makes of the rows; what is unusual goes on to that."""
+def shown_words(found: Cluster) -> None:
+    """`ps` prints the words of commands quoted, shortened and without control characters; an array's tasks as one."""
     letters = 'a "b" \\ \N{GREEK SMALL LETTER ALPHA} \N{FIRE} \t'
-    found.submit("--job", "quick", "--hold", "--", "echo", letters)
-    found.submit("--job", "quick", "--hold", "--array", "1-9", "--", "x" * 100)
-    first = found.submit("--job", "quick", "--hold", "--", "true")
-    found.submit("--job", "quick", "--after-any", first, "--", "true")
-    whole = [sys.executable, "-c", "import sys; from firm_service.firmctl import main; sys.exit(main())", "ps"]
-    environment = {**os.environ, "FIRM_QUEUE": str(found.socket)}
-    firmctl = str(SERVICE / "firmctl")
-    texts = [
-        subprocess.run(words, cwd=SERVICE, env=environment, capture_output=True, text=True, timeout=300).stdout
-        for words in (whole, [firmctl, "ps"], [firmctl, "--queue", str(found.socket), "ps"])
-    ]
-    # Tasks of other checks may widen a column meanwhile.
-    shown = [[line.split() for line in text.splitlines() if " quick " in line] for text in texts]
-    require(len(shown[0]) == 4 and shown[0] == shown[1] == shown[2], texts)
-    require("\N{FIRE}" in texts[0] and "_[1-9]" in texts[0], texts[0])
-    done = subprocess.run([firmctl, "ps", "--queue", "/nonexistent"], capture_output=True, text=True, timeout=300)
-    require(done.returncode == 3 and "no queue answers at /nonexistent" in done.stderr, done)
-    found.firmctl("cancel", "quick")
+    found.submit("--job", "words", "--hold", "--", "echo", letters)
+    found.submit("--job", "words", "--hold", "--array", "1-9", "--", "x" * 100)
+    text = found.firmctl("ps", "--job", "words")
+    require("'a \"b\" \\ \N{GREEK SMALL LETTER ALPHA} \N{FIRE} \\t'" in text, text)
+    require("_[1-9]" in text and f"{'x' * 30}..  " in text, text)
+    found.firmctl("cancel", "words")
 
 
 def clients(found: Cluster) -> None:
@@ -539,10 +526,10 @@ def deaf(path: Path) -> Iterator[None]:
 
 
 def a_queue_that_leaves(found: Cluster) -> None:
-    """A queue that takes no request is told with status 3, and no signal ends firm-submit without a word."""
+    """A queue that takes no request gives status 3, and no signal ends firmctl without a word."""
     path = found.folder / "deaf"
     with deaf(path):
-        done = found.run("firm-submit", "--queue", str(path), "--patience", "1", "--", "true")
+        done = found.run("firmctl", "submit", "--queue", str(path), "--patience", "1", "--", "true")
     require(done.status == 3 and f"no queue answers at {path}".encode() in done.faults, done)
 
 
@@ -571,12 +558,12 @@ def submit_many(path: Path, job: str, count: int) -> list[str]:
 
 
 def help_names_the_statuses() -> None:
-    for words in (["firmctl"], ["firmctl", "wait"], ["firm-submit"]):
+    for words in (["firmctl"], ["firmctl", "wait"], ["firmctl", "submit"]):
         done = program.run_words([sys.executable, str(SERVICE / words[0]), *words[1:], "--help"], b"")
         require(done.status == 0 and b"exit statuses:\n  0 " in done.output, words)
 
 
-SHARED = [statuses_of_waits, arrays, files, words_are_judged, logs, changes, history, tables, quick_ps, clients]
+SHARED = [statuses_of_waits, arrays, files, words_are_judged, logs, changes, history, tables, shown_words, clients]
 SHARED += [client_of_the_page, asynchronous_client, lost_answers, a_queue_that_leaves]
 
 

@@ -19,7 +19,7 @@ from typing import Any
 
 import firmd_kit
 from harness.checks import require
-from harness.deployed import SERVICE, client, submitting
+from harness.deployed import SERVICE, client, firmctl, submitting
 from harness.program import Run, run_words
 
 ROSTER = firmd_kit.HEADING + b"alpha,60,400,1000000000,0,1000\n"
@@ -216,9 +216,9 @@ class Cluster:
             return {machine.machine: machine for machine in queue.machines()}[name]
 
     def submit(self, *words: str) -> str:
-        """The number of a submission, by what firm-submit does."""
-        where = ["--queue", str(self.socket), "--dir", str(self.folder)]
-        (submitted,) = submitting.submit(submitting.parser().parse_args([*where, *words]))
+        """The number of a submission, by what `firmctl submit` does."""
+        where = ["submit", "--queue", str(self.socket), "--dir", str(self.folder)]
+        (submitted,) = submitting.submit(firmctl.parser("submit").parse_args([*where, *words]))
         return submitted.id
 
 

@@ -41,7 +41,6 @@ SERVICES = {
     "firm-agent": "runs the tasks that firm places",
     "firm-journal": "looks after the journal of a firmd",
     "firm-queue": "takes work from users and gives it to firm",
-    "firm-submit": "submits a command from a script",
     "firm-slurm": "has Slurm run what firm decides",
     "firm-door": "writes the configuration of one door to many firmd",
 }
@@ -51,7 +50,6 @@ PARSERS = {  # modules with the parsers of command lines; the others' completion
     "firm-agent": "firm_service.agent",
     "firm-journal": "firm_service.journal_tool",
     "firm-queue": "firm_service.queue.daemon",
-    "firm-submit": "firm_service.queue.submitting",
     "firm-slurm": "firm_service.slurm.daemon",
     "firm-door": "firm_service.door.writing",
 }

@@ -10,10 +10,9 @@ from pathlib import Path
 from queue import Empty, SimpleQueue
 from threading import Thread
 
-from .extent import Extent
 from .faults import Exit, Fault
 from .files import PRIVATE, make_folder, replace_synced, sync_folder
-from .recovery import extent_path, numbers_of, read_file, read_header, segment_path
+from .recovery import numbers_of, read_file, read_header, segment_path
 
 DAY_SECONDS = 86_400
 SET_SECONDS = 60.0  # by which a clock changes that is set
@@ -86,8 +85,7 @@ class Removal:
 
 def clear(journal: Path, keeping: Keeping, needless: int) -> int:
     """Takes away the oldest segments up to a needless one whose last line is older than is kept; how many."""
-    extent = Extent.read(extent_path(journal))
-    if keeping.days is None or extent is None or extent.since != 1:  # those of an older firmd are not cut
+    if keeping.days is None:
         return 0
     numbers, count = numbers_of(journal), 0
     ends = ends_of(journal, numbers, keeping.clock.now())

@@ -187,13 +187,6 @@ class Books:
         """Takes in a line and its reply; the seconds are None in a replay."""
         self.replied_all((line,), (reply,), seconds)
 
-    def may_have_moved(self, line: bytes) -> bool:
-        """Whether the reply to a round that is not taken in yet may have ended with `move no 14 memory`."""
-        words = line.decode("latin-1").split()
-        book = self.tenants.get(words[0]) if words[1:] == ["round"] else None
-        task = book.tasks.get("no") if book is not None else None
-        return book is not None and task is not None and task.machine == "14" and "memory" in book.machines
-
     def replied_all(self, lines: Sequence[bytes], replies: Sequence[bytes], seconds: float | None) -> None:
         """Takes in lines and their replies, in the order of the lines.
 

@@ -11,7 +11,6 @@ import socket
 import struct
 import time
 from collections import deque
-from contextlib import suppress
 from dataclasses import dataclass
 from pathlib import Path
 from typing import NamedTuple, Protocol
@@ -84,7 +83,6 @@ class Clients:
         self.taker, self.limits, self.faults, self.selector = taker, limits, faults, selector
         self.connected: dict[Client, None] = {}  # the newest last
         self.buffer = memoryview(bytearray(MOST_BYTES))  # of all clients: nothing stays in it
-        self.is_held = False  # none is read
         self.turns, self.tally = Turns(accounts), accounts.tally
         self.unread = Account(limits.unread_together)
         self.backlog = Backlog(limits.unanswered)
@@ -112,7 +110,7 @@ class Clients:
 
     def holds(self, socket: bytes, lane: bytes) -> bool:
         """Whether clients of a socket are not to be read that have lines in this lane."""
-        return self.is_held or lane in self._full_lanes or self.backlog.is_full(socket)
+        return lane in self._full_lanes or self.backlog.is_full(socket)
 
     def of_sockets(self) -> Held:
         """The connections of each socket."""
@@ -120,11 +118,6 @@ class Clients:
         for client in self.connected:
             found.setdefault(client.rights.socket.decode(), []).append(client.transport)
         return found
-
-    def hold(self, is_held: bool) -> None:
-        """Reads none of them, or each again."""
-        self.is_held = is_held
-        self._choose_readings()
 
     def unread_bytes(self) -> int:
         return sum(client.unread_bytes() for client in self.connected)
@@ -134,9 +127,8 @@ class Clients:
             try:
                 client.choose_reading()
             except Exception as error:  # it alone is lost: the others must be read again
-                with suppress(MemoryError):
-                    client.drop()
-                    self.faults.note("client", error)
+                client.drop()
+                self.faults.note("client", error)
 
     def stop_reading(self) -> None:
         for client in self.connected:

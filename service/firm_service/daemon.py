@@ -36,11 +36,8 @@ from .firm_process import Firm
 from .journal import SEGMENT_BYTES, Journal, Room
 from .kept_books import opening_books, read_books
 from .lanes import Bounds as LaneBounds
-from .files import PRIVATE
 from .lines import is_name
 from .measure import load_of
-from .moves import SOCKET as MOVES
-from .moves import Moves, Parts
 from .observers import WARNED_SHARE, Status
 from .register import Register
 from .relief import SHORTAGES, Relief
@@ -103,7 +100,6 @@ class Daemon:
             self._opened = self._state.begin(options.opening, self._program)
         else:
             self._opened = self._replica.begin(self._state, self._program)
-        self._snapshots: Snapshots | None = None
         self._names = Names()
         self._faults = Faults()
         self._has_warned = self._is_told_to_stop = False
@@ -114,7 +110,7 @@ class Daemon:
         snapshot = last(self._state) if self._replica is None else last(self._state, fits=has_point)
         room = Room(self._options.segment_bytes, self._options.snapshot_lines or None)
         own = Journal(self._state, room, snapshot.base if snapshot is not None else self._state.base)
-        point = point_of(snapshot) if snapshot is not None else opening_point(self._state.joined)
+        point = point_of(snapshot) if snapshot is not None else opening_point(self._state.renewed)
         self._replicated = self._replica.open(own, point or Point()) if self._replica is not None else None
         opening = opening_of(self._state, snapshot) if snapshot is not None else self._state.opening
         firm = Firm([*self._program, *opening.words()])
@@ -140,11 +136,10 @@ class Daemon:
         self._stream = Stream(firm, self._replicated or own, self._accounts, self._faults, options)
         self._relief = Relief(self._faults)
         self._faults.give_up = self._stream.fail
-        self._stream.on_shortage = own.on_shortage = self._relief.relieve_soon
+        own.on_shortage = self._relief.relieve_soon
         loop.set_exception_handler(self._hear_of_error)
         for number in (signal.SIGTERM, signal.SIGINT):
             loop.add_signal_handler(number, self._stop)
-        self._stream.is_mistaken = self._books.may_have_moved
         self._stream.observe(self._books)
         if self._replicated is not None:
             self._follow(self._replicated, partial(self._keep_snapshots, own, snapshot))
@@ -198,8 +193,7 @@ class Daemon:
                 options.log_format,
             )
             shared = self._replicated.shared if self._replicated is not None else None
-            self._snapshots = Snapshots(self._stream, journal, settings, self._faults, shared)
-            self._snapshots.start(snapshot)
+            Snapshots(self._stream, journal, settings, self._faults, shared).start(snapshot)
 
     async def _serve(self) -> None:
         together = Bounds(self._options.most_unread_of_socket, self._options.most_unread_in_all)
@@ -207,17 +201,14 @@ class Daemon:
         limits = Limits(self._options.most_clients, self._options.most_unread, together, unanswered)
         clients = Clients(self._stream, limits, self._accounts, self._faults, self._selector)
         self._relief.look_at(clients.of_sockets)
-        self._relief.on_memory = clients.hold
         rounds = Rounds(self._books, self._stream, Times(self._options.every, self._options.after), self._faults)
         if self._options.after is not None:
             self._stream.observe(rounds)
         self._stream.on_stop = partial(self._stop_taking, clients, rounds)
         servers: list[Acceptor] = []
         feeder: Feeder | None = None
-        moves: Moves | None = None
         try:
             feeder = Feeder(Told(self._books, self._status, self._faults, self._state.id or ""), self._served())
-            moves = await self._serve_moves(rounds, feeder)
             servers = self._listen(clients)
             self._stream.on_late = partial(self._give_way, clients, servers)
             self._stream.observe(feeder)
@@ -236,8 +227,6 @@ class Daemon:
             for server in servers:
                 server.close()
             await clients.close()
-            if moves is not None:
-                await moves.close()
             if feeder is not None:
                 await feeder.close()
 
@@ -251,15 +240,6 @@ class Daemon:
             await asyncio.wait([self._stream.ended])
             for task in ticking:
                 task.cancel()
-
-    async def _serve_moves(self, rounds: Rounds, feeder: Feeder) -> Moves:
-        """What moves tenants; one that was on its way is held from now on."""
-        shared = self._replicated.shared if self._replicated is not None else None
-        register = self._accounts.register
-        parts = Parts(self._state, self._stream, self._books, register, self._snapshots, self._faults, shared)
-        moves = Moves(parts, rounds, feeder)
-        await moves.listen(self._names.listen(self._state.folder / MOVES, PRIVATE))
-        return moves
 
     def _give_way(self, clients: Clients, servers: list[Acceptor]) -> None:
         """Has another replica lead where this one's disk hangs. Clients are closed first: as long as the disk has a
@@ -366,8 +346,8 @@ class Daemon:
     def _hear_of_error(self, loop: asyncio.AbstractEventLoop, context: dict[str, object]) -> None:
         """An error that nobody caught. Stream and journal catch their own, so it ends its connection at most."""
         error, transport = context.get("exception"), context.get("transport")
-        if isinstance(error, MemoryError) or isinstance(error, OSError) and error.errno in SHORTAGES:
-            self._relief.relieve(error)
+        if isinstance(error, OSError) and error.errno in SHORTAGES:
+            self._relief.relieve()
         elif isinstance(error, BaseException):
             self._faults.note(part_of(context), error)
         else:

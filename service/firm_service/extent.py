@@ -14,16 +14,15 @@ from typing import NamedTuple
 
 from .faults import RESTORE, Exit, Fault
 from .files import replace_synced
-from .records import VERSION, record_at, sealed
+from .records import record_at, sealed
 
-KIND = b"firm-extent %d" % VERSION
+KIND, FORMER_KIND = b"firm-extent 3", b"firm-extent 2"
 FILE_BYTES = 128  # in one sector of any disk, which has the old ones or the new
 FIELD_BYTES = FILE_BYTES - len(sealed(KIND, b""))
 
 
 class Extent(NamedTuple):
     state: bytes  # the state's id
-    since: int  # the first segment of this version
     segment: int  # the last segment
     size: int  # of its bytes that were synced
     chain: int  # the checksum of all segments up to there
@@ -36,13 +35,15 @@ class Extent(NamedTuple):
         except FileNotFoundError:
             return None
         record = record_at(text, 0)
+        if record is not None and record.kind == FORMER_KIND:
+            raise Fault(Exit.JOURNAL, f"{path}: it is an older firmd's: run `firm-journal rewrite --extent`")
         if record is None or record.kind != KIND or record.end != len(text):
             raise Fault(Exit.JOURNAL, f"{path}: this is not what firmd wrote; {RESTORE}")
-        state, since, segment, size, chain = filter(None, record.fields)
-        return cls(state, int(since), int(segment), int(size), int(chain, 16))
+        state, segment, size, chain = filter(None, record.fields)
+        return cls(state, int(segment), int(size), int(chain, 16))
 
     def text(self) -> bytes:
-        return sealed(KIND, (b"%b %d %d %d %08x" % self).ljust(FIELD_BYTES))
+        return sealed(KIND, (b"%b %d %d %08x" % self).ljust(FIELD_BYTES))
 
 
 class ExtentFile:

@@ -2,8 +2,7 @@
 
 A message is its kind and the length of its text, and the text. Rows begin with BEGIN, which names the tenants; then
 each of these has a TENANT, or was retired meanwhile; END follows the last. LINES come from BEGIN on: those of a tenant
-whose rows are still to come are in them already. STATUS and LOAD come at any time, as does the TENANT of one that has
-joined the service.
+whose rows are still to come are in them already. STATUS and LOAD come at any time.
 
 Most texts are written by `marshal`, in a fifth of JSON's time: firmd serves nobody else meanwhile, and the viewer is of
 the same Python.
@@ -18,7 +17,6 @@ from collections import Counter, deque
 from collections.abc import Iterator, Sequence
 from dataclasses import asdict, astuple, fields
 from operator import attrgetter
-from typing import Any
 
 from .books import COSTS_KEPT, Book, Books, Pending, RoundTimes, Task
 from .load import Load, OwnReply, SocketLoad, TenantLoad

@@ -19,7 +19,7 @@ from functools import partial
 from itertools import islice
 from pathlib import Path
 
-from .books import Book, Books
+from .books import Books
 from .bounds import MEBIBYTE
 from .faults import Faults, say
 from .feed import BEGIN, END, LINES, LOAD, STATUS, TENANT
@@ -156,7 +156,7 @@ class Feeder:
             end, other = socket.socketpair()
             with other:
                 self._process = self._spawn(other)
-        except (OSError, MemoryError) as error:
+        except OSError as error:
             self._told.faults.note("viewer", error)
             self._loop.call_later(self._next_pause(), self.start)
             return
@@ -166,11 +166,6 @@ class Feeder:
     def replied_all(self, lines: Sequence[bytes], replies: Sequence[bytes], seconds: float | None) -> None:
         if self._is_telling:
             self._tell(LINES, lambda: lines_text(lines, replies, seconds))
-
-    def tell_joined(self, book: Book) -> None:
-        """Tells of a tenant that no line has admitted."""
-        if self._is_telling:
-            self._tell(TENANT, partial(tenant_text, book))
 
     def tell_status(self) -> None:
         """Tells what firmd knows of itself; called again and again."""
@@ -238,8 +233,7 @@ class Feeder:
                     self._fall_behind()
         except Exception as error:  # it lacks a part now
             self._fall_behind()
-            with suppress(MemoryError):
-                self._told.faults.note("viewer", error)
+            self._told.faults.note("viewer", error)
 
     def _fall_behind(self) -> None:
         self._told.status.viewer_gaps += 1

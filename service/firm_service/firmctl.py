@@ -20,7 +20,7 @@ from .observers import WARNED_SHARE
 from .questions import add_questions, why
 from .tables import Column, Row, names, number, text
 from .version import add_version
-from .view_client import Service, service_of
+from .view_client import service_of
 
 # Verbs that are asked for often: the parsers of all others are not made for them.
 OF_FIRMD = frozenset("tasks machines jobs status why what-if plan".split())
@@ -138,12 +138,6 @@ def dashboard(_: argparse.Namespace) -> None:
     sys.stdout.write(Path(__file__).with_name("grafana.json").read_text())
 
 
-def move(options: argparse.Namespace) -> None:
-    from .door.moving import move as move_tenant  # here, as this takes a part of the start of any other command
-
-    move_tenant(options, lambda state, tenant: Service(state).ask("lines", tenant))
-
-
 def tenant_name(text: str) -> str:
     if not is_name(text.encode()):
         raise argparse.ArgumentTypeError(f"{text!r} is not a name: 1 to 16 of a-z, 0-9 and -")
@@ -244,12 +238,6 @@ def parser(only: str | None = None) -> argparse.ArgumentParser:
         from .queue.verbs import add_verbs  # here, as above
 
         add_verbs(verbs)
-    command = add("move", move, "move a tenant to another shard of a door")
-    command.add_argument("tenant", metavar="TENANT")
-    command.add_argument("--to", required=True, metavar="SHARD")
-    command.add_argument("--door", type=Path, required=True, metavar="TABLE", help="as firm-door has it")
-    told = "give the shard its rows alone, as where no snapshots are made: all its tasks wait again"
-    command.add_argument("--by-lines", action="store_true", help=told)
     add("dashboard", dashboard, "a dashboard of the metrics, for Grafana's import")
     return found
 

@@ -25,8 +25,8 @@ class Follower:
             self._shown.load = load_of(text)
         elif kind == BEGIN:
             self._state, self._coming = begun(text)
-        elif kind == TENANT:
-            (self._coming or self._shown).put(book_of(text))
+        elif kind == TENANT and self._coming is not None:
+            self._coming.put(book_of(text))
         elif kind == END and self._coming is not None:
             self._shown.replace(self._coming, self._state)
             self._coming = None

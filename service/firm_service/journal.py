@@ -4,11 +4,6 @@ It is a folder of segments, NUMBER.lines, in the form that records.py describes,
 or sync it takes nothing more: what the disk has is not known, and a record behind it could make the extent say more
 than is there. A refusal of memory is a record behind its line, so a start looks through all segments for such records
 before it gives firm a line.
-
-Segments of an older firmd, without headings, are read as they are; what comes is written behind them in today's form.
-Of the old ones only what has a digest in NUMBER.blocks is compared, until the first new segment seals them all.
-`firm-journal rewrite` writes them anew with a checksum for each record (times and senders are not known), and leaves
-the old ones in `journal.old`. An older firmd refuses today's segments.
 """
 
 from __future__ import annotations
@@ -29,9 +24,9 @@ from .faults import Exit, Fault, reason
 from .files import require_room, sync_folder
 from .pieces import Piece, Place, pieces_of
 from .records import BEGINNING, Base, Batch, Block, Header, refusals
-from .recovery import Found, Segment, damaged, extent_path, find, segment_path, whole_text
+from .recovery import Found, Segment, damaged, extent_path, find, segment_path
 from .relief import SHORTAGES, Spare
-from .state import ID_BYTES, NEW_JOURNAL, OLD_ID_BYTES, OLD_JOURNAL, State
+from .state import ID_BYTES, NEW_JOURNAL, OLD_JOURNAL, State
 
 SHORTAGE_TRIES, SHORTAGE_SECONDS = 200, 0.05
 SEGMENT_BYTES = 16 * 2**20  # of a segment, where nobody says how long it may be
@@ -54,14 +49,6 @@ def finish_rewrite(state: State) -> None:
     new.rename(state.journal_path)
 
 
-class Shortage(MemoryError):
-    """Memory is lacking, and nothing was done yet."""
-
-
-def is_shortage(error: BaseException) -> bool:
-    return isinstance(error, MemoryError) or isinstance(error, OSError) and error.errno in SHORTAGES
-
-
 class Writing:
     """Knows since when the disk is written, and remembers a failure: whatever is written behind that could make the
     extent say what the disk has not."""
@@ -81,7 +68,7 @@ class Writing:
         if isinstance(error, OSError):
             self._trouble = self._fault_of(error)
             raise self._trouble from error
-        if error is not None and not isinstance(error, Shortage):
+        if error is not None:
             self._trouble = Fault(Exit.INTERNAL, f"the journal failed before: {error!r}")
 
 
@@ -100,11 +87,10 @@ class Journal:
 
     def __init__(self, state: State, room: Room, base: Base = BEGINNING, draft: Path | None = None) -> None:
         self.state, self.folder, self.room = state, draft or state.journal_path, room
-        self.on_shortage: Callable[[BaseException], None] = lambda error: None  # of a descriptor or memory
+        self.on_shortage: Callable[[], None] = lambda: None  # of a descriptor
         self._lock = Lock()
-        self._is_short = False  # what is under way waits for a descriptor or memory
         self._writing = Writing(partial(self._fault, "write"))
-        self._extent: ExtentFile | None = None  # none before the first segment of today's form
+        self._extent: ExtentFile | None = None  # none before the first segment
         self._file = -1  # the last segment
         self._spare = Spare()  # for the next one
         self._size = self._synced = 0  # its bytes, and those of them that are synced
@@ -118,11 +104,6 @@ class Journal:
             self._open_last()
         except OSError as error:
             raise self._fault("open", error) from error
-
-    @property
-    def is_of_today(self) -> bool:
-        """Whether no segment is of an older firmd."""
-        return self.found.since == 1
 
     @property
     def writing_since(self) -> float | None:
@@ -143,29 +124,21 @@ class Journal:
         """All lines that were found, in their order."""
         return pieces_of(self.found)
 
-    def place_of(self, number: int) -> tuple[Path, int]:
-        """The segment of a line, and the line's number there, from 1 and without headings."""
-        segment = [segment for segment in self.found.segments if segment.lines < number][-1]
-        return segment.path, number - segment.lines
-
     # Opening
 
     def _open_last(self) -> None:
         """Opens the last segment, or begins the first, and syncs what a replay is about to obey."""
         for path in self.folder.glob("*.lines"):
             if int(path.stem) > self.found.last:  # it was begun, and has nothing
-                path.with_suffix(".blocks").unlink(missing_ok=True)
                 path.unlink()
-        if self.found.since:
+        if self.found.segments:
             self.state.keep_id(self.found.state)
-            self._open_today(self.found.segments[-1])
-        elif self.found.segments:
-            self._sync_old(self.found.segments[-1])
+            self._reopen(self.found.segments[-1])
         else:
             self._begin_segment()
         self.state.keep_id(self._id())
 
-    def _open_today(self, last: Segment) -> None:
+    def _reopen(self, last: Segment) -> None:
         self._file = os.open(last.path, os.O_RDWR | os.O_APPEND)
         if os.fstat(self._file).st_size > self.found.last_size:
             os.ftruncate(self._file, self.found.last_size)
@@ -176,19 +149,10 @@ class Journal:
         self._extent.keep(self._reached())
         self._extent.sync()
 
-    def _sync_old(self, last: Segment) -> None:
-        """The same of segments of an older firmd, and of its refusals."""
-        for path in (last.path, self.folder / "refused"):
-            with suppress(FileNotFoundError), open(path, "rb+") as file:
-                file.truncate(len(whole_text(path)))
-                os.fsync(file.fileno())
-        os.fsync(self._folder)
-
     def _id(self) -> str:
-        """The state's, which is drawn where it has none; one of today's tells that there is an extent."""
+        """The state's, which is drawn where it has none."""
         if self.state.id is None:
-            size = OLD_ID_BYTES if self.found.segments and not self.found.since else ID_BYTES
-            self.state.id = self.state.id_to_take or secrets.token_hex(size)
+            self.state.id = self.state.id_to_take or secrets.token_hex(ID_BYTES)
         return self.state.id
 
     # What comes
@@ -201,10 +165,10 @@ class Journal:
         size = sum([len(batch.text) for batch in batches])
         with self._lock, self._writing:
             found = self.found
-            if not self.found.since or self._is_full(size) and self._has_lines():
+            if self._is_full(size) and self._has_lines():
                 self._begin_segment()
             time = milliseconds() if copied is None else copied
-            self._write(self._patiently(partial(self._records, batches, time)))
+            self._write(self._records(batches, time))
             if copied is None:
                 self._sync()
             place = Place(found.lines + 1, found.size + size)
@@ -215,25 +179,13 @@ class Journal:
     def keep(self, block: Block) -> None:
         """Keeps what a later replay must give. It need not be on the disk soon: a replay compares what is there."""
         with self._lock, self._writing:
-            if not self.found.since:
-                self._begin_segment()
             self._write(block.text())
 
     def keep_refused(self, numbers: list[int], time: int | None = None) -> None:
-        """Keeps on the disk that memory was refused to these lines, before that is answered.
-
-        It raises `Shortage` and does not wait for memory, since the loop's thread calls it, which makes room meanwhile.
-        """
-        text = refusals(numbers, milliseconds() if time is None else time)
-        while not self._lock.acquire(timeout=SHORTAGE_SECONDS):
-            if self._is_short:
-                raise Shortage
-        try:
-            with self._writing:
-                self._write(text, is_patient=False)
-                self._sync()
-        finally:
-            self._lock.release()
+        """Keeps on the disk that memory was refused to these lines, before that is answered."""
+        with self._lock, self._writing:
+            self._write(refusals(numbers, milliseconds() if time is None else time))
+            self._sync()
 
     def sync(self) -> None:
         """Waits until copied lines are on the disk too."""
@@ -247,7 +199,7 @@ class Journal:
         Raises OSError where the disk may lack room for that; nothing is done then, and lines may still have some.
         """
         with self._lock:
-            if self.found.since and self._has_lines():
+            if self._has_lines():
                 require_room(self.folder, SEAL_BYTES)
                 with self._writing:
                     self._begin_segment()
@@ -255,8 +207,6 @@ class Journal:
     def renew(self) -> None:
         """Gives the state another id, for a copy that has lost what was answered since."""
         with self._lock, self._writing:
-            if not self.found.since:
-                self._begin_segment()  # so the last header has the former id, where a crash comes before the id is kept
             self.state.id = secrets.token_hex(ID_BYTES)
             self._begin_segment()
         self.state.keep_id(self.state.id)
@@ -310,25 +260,22 @@ class Journal:
         self._write(header)
         os.fsync(self._file)
         os.fsync(self._folder)
-        self._synced, found.since = self._size, found.since or number
-        found.segments.append(Segment(number, path, False, found.lines, found.size, before))
+        self._synced = self._size
+        found.segments.append(Segment(number, path, found.lines, found.size, before))
         if self._extent is None:
             self._extent = self._patiently(partial(ExtentFile.make, extent_path(self.folder), self._reached()))
         else:
             self._extent.keep(self._reached())
             self._extent.sync()
 
-    def _write(self, text: bytes, is_patient: bool = True) -> None:
+    def _write(self, text: bytes) -> None:
         """Writes at the end of the last segment; takes it back where that fails."""
         written = 0
         try:
             while written < len(text):
-                write = partial(os.write, self._file, text[written:])
-                written += self._patiently(write) if is_patient else write()
-        except (MemoryError, OSError) as error:
-            is_back = self._take_back(self._size)
-            if is_back and not is_patient and is_shortage(error):
-                raise Shortage from error
+                written += os.write(self._file, text[written:])
+        except BaseException:
+            self._take_back(self._size)
             raise
         self._size += len(text)
         self.found.chain = crc32(text, self.found.chain)
@@ -344,31 +291,25 @@ class Journal:
         if self._extent is not None:
             self._extent.keep(self._reached())
 
-    def _take_back(self, size: int) -> bool:
+    def _take_back(self, size: int) -> None:
         with suppress(OSError):
             os.ftruncate(self._file, size)
-            return True
-        return False
 
     def _reached(self) -> Extent:
         found = self.found
-        return Extent(self._id().encode(), found.since, found.last, self._synced, found.chain)
+        return Extent(self._id().encode(), found.last, self._synced, found.chain)
 
     def _patiently(self, work: Callable[[], Result]) -> Result:
-        """Does what may lack a descriptor or memory, again and again while clients are closed for it."""
-        try:
-            for _ in range(SHORTAGE_TRIES):
-                try:
-                    return work()
-                except (MemoryError, OSError) as error:
-                    if not is_shortage(error):
-                        raise
-                    self.on_shortage(error)
-                self._is_short = True
-                time.sleep(SHORTAGE_SECONDS)
-            return work()
-        finally:
-            self._is_short = False
+        """Does what may lack a descriptor, again and again while clients are closed for it."""
+        for _ in range(SHORTAGE_TRIES):
+            try:
+                return work()
+            except OSError as error:
+                if error.errno not in SHORTAGES:
+                    raise
+                self.on_shortage()
+            time.sleep(SHORTAGE_SECONDS)
+        return work()
 
     def _fault(self, verb: str, error: OSError) -> Fault:
         return Fault(Exit.STATE, f"cannot {verb} the journal {error.filename or self.folder}: {reason(error)}")

@@ -26,11 +26,10 @@ from .states import Part, Refused, StateError, fold
 from .tables import printable
 from .version import add_version
 
-COPIED_LINES = 4_096  # at a time, of an older segment
 EXITS = """\
 exit statuses:
   0  it is done
-  2  the command line, or a line to be obeyed that no older firmd took for a refused one
+  2  the command line
   3  the state's roster can't be read, or firm_state refuses a state or a tenant
   4  the state can't be read or written, or firmd has it
   5  the state lacks a part or has others than were written
@@ -55,7 +54,7 @@ def print_lines(options: argparse.Namespace) -> None:
     """As firm gets them in a replay, or as they were sent: it may read them again. A terminal is shown no line that
     could steer it."""
     state = StateFolder(options.state)
-    found = found_now(options.state, None if options.senders or state.joined is None else state.base)
+    found = found_now(options.state, None if options.senders or state.renewed is None else state.base)
     is_shown = sys.stdout.isatty()
     for kept in kept_lines(found):
         if options.senders:
@@ -74,7 +73,7 @@ def clock(milliseconds: int) -> str:
 
 def described(kept: Kept, refused: dict[int, int]) -> list[bytes]:
     """The lines, each behind its number, time and sender."""
-    begins = b"%b %b" % (clock(kept.time).encode() if kept.time else b"-", kept.sender)
+    begins = b"%b %b" % (clock(kept.time).encode(), kept.sender)
     return [
         b"%d %b%b %b" % (number, begins, b" refused" if number in refused else b"", line)
         for number, line in enumerate(kept.lines, kept.number)
@@ -107,26 +106,22 @@ def make_extent(options: argparse.Namespace) -> None:
 
 
 def rewrite(options: argparse.Namespace) -> None:
-    """Writes all segments anew in today's form, beside the old ones, and then puts them in their place."""
+    """Writes all segments anew without the digests of replies, beside the old ones, and puts them in their place."""
     if options.extent:
         return make_extent(options)
     state, source = opened(options.state)
-    if source.is_of_today and not options.forget_replies and not options.obey:
-        print(f"{source.folder}: all segments have today's form already")
-        return
-    if state.joined is not None:
-        raise Fault(Exit.STATE, f"{source.folder}: a tenant has joined the service, whose state is of these segments")
+    if state.renewed is not None:
+        raise Fault(
+            Exit.STATE, f"{source.folder}: the replica has begun anew from a snapshot, and lacks the first lines"
+        )
     if source.found.base != BEGINNING:
         raise Fault(Exit.STATE, f"{source.folder}: the first lines are archived or deleted: put them back")
-    for number in options.obey:
-        if source.found.refused.get(number) != 0:  # the time of a refusal that an older firmd kept is not known
-            raise Fault(Exit.WORDS, f"line {number} is none that an older firmd took for a refused one")
     draft, old = state.folder / NEW_JOURNAL, state.folder / OLD_JOURNAL
     if old.exists():
         raise Fault(Exit.STATE, f"{old} is there: move it away")
     shutil.rmtree(draft, ignore_errors=True)
     target = Journal(state, Room(SEGMENT_BYTES), draft=draft)
-    copy_all(source.found, target, options)
+    copy_all(source.found, target)
     source.close()
     target.close()
     remove_all(state.snapshots_path)  # they tell of the former segments, and maybe of another firm
@@ -136,22 +131,16 @@ def rewrite(options: argparse.Namespace) -> None:
     print(f"{source.folder}: {source.found.lines:,} lines are written anew; the old segments are in {old}")
 
 
-def copy_all(found: Found, target: Journal, options: argparse.Namespace) -> None:
-    """The lines, the digests of replies, and the refusals."""
+def copy_all(found: Found, target: Journal) -> None:
+    """The lines and the refusals."""
     for kept in kept_lines(found):
-        for first in range(0, len(kept.lines), COPIED_LINES):
-            lines = kept.lines[first : first + COPIED_LINES]
-            text = b"".join([line + b"\n" for line in lines])
-            target.append([Batch(kept.sender, text, len(lines))], kept.time)
+        text = b"".join([line + b"\n" for line in kept.lines])
+        target.append([Batch(kept.sender, text, len(kept.lines))], kept.time)
     if (target.found.lines, target.found.size) != (found.lines, found.size):
         raise Fault(Exit.INTERNAL, f"{target.found.lines} of {found.lines} lines were copied")
-    if not options.forget_replies:
-        for block in found.blocks:
-            target.keep(block)
     times: dict[int, list[int]] = {}
     for number, at in sorted(found.refused.items()):
-        if number not in options.obey:
-            times.setdefault(at, []).append(number)
+        times.setdefault(at, []).append(number)
     for at, numbers in times.items():
         target.keep_refused(numbers, at)
 
@@ -196,7 +185,7 @@ def parser() -> argparse.ArgumentParser:
         ("print", print_lines, "the lines, as firm gets them in a replay; firmd may run"),
         ("snapshots", show_snapshots, "the snapshots, each with its time and lines, or why it is not used"),
         ("state", write_state, "the service's state behind all lines, for firmd --restore; firmd must not run"),
-        ("rewrite", rewrite, "write a journal of an older firmd anew, with a checksum for each record"),
+        ("rewrite", rewrite, "write a journal anew without the digests of replies, or a damaged extent"),
         ("new-id", renew_id, "give a restored copy an id of its own: agents end what ran for lines that it has lost"),
     ]:
         command = commands.add_parser(name, help=explained, description=explained)
@@ -212,14 +201,11 @@ def parser() -> argparse.ArgumentParser:
             told = "keep these tenants alone"
             command.add_argument("--tenant", nargs="+", default=[], metavar="NAME", help=told)
         if name == "rewrite":
+            what = command.add_mutually_exclusive_group(required=True)
             told = "leave out the digests of replies, for a firm that replies otherwise"
-            command.add_argument("--forget-replies", action="store_true", help=told)
-            told = (
-                "write a damaged or missing extent anew, and nothing else: a loss at the journal's very end is missed"
-            )
-            command.add_argument("--extent", action="store_true", help=told)
-            told = "have a line obeyed that an older firmd took for one that memory was refused to; may be given again"
-            command.add_argument("--obey", type=int, action="append", default=[], metavar="NUMBER", help=told)
+            what.add_argument("--forget-replies", action="store_true", help=told)
+            told = "write a damaged or missing extent anew: a loss at the journal's very end is missed"
+            what.add_argument("--extent", action="store_true", help=told)
     return found
 
 

@@ -10,10 +10,9 @@ from contextlib import suppress
 from dataclasses import dataclass
 from pathlib import Path
 
-from .extent import Extent
 from .faults import Exit, Fault
 from .lines import first_word
-from .records import BEGINNING, LINES, UNKNOWN, Base, record_at
+from .records import BEGINNING, LINES, Base, record_at
 from .recovery import Found, damaged, extent_path, find, numbers_of, read_header, segment_path
 from .state import JOURNAL, StateFolder
 
@@ -25,7 +24,7 @@ class Kept:
     """Lines of one sender that were written together."""
 
     number: int  # of the first, from 1
-    time: int  # in milliseconds since 1970, 0 where it is not known
+    time: int  # in milliseconds since 1970
     sender: bytes
     lines: list[bytes]  # without their ends
 
@@ -62,10 +61,8 @@ def found_now(folder: Path, base: Base | None = None) -> Found:
 def first_base(folder: Path) -> Base:
     """What stands before the first segment that is there, as its header says."""
     journal = folder / JOURNAL
-    first, extent = min(numbers_of(journal), default=1), Extent.read(extent_path(journal))
-    if first == 1 or extent is None or extent.since > first:
-        return BEGINNING
-    return Base.before(read_header(segment_path(journal, first)))
+    first = min(numbers_of(journal), default=1)
+    return Base.before(read_header(segment_path(journal, first))) if first > 1 else BEGINNING
 
 
 def reached_now(folder: Path) -> tuple[bytes, list[str]]:
@@ -83,9 +80,6 @@ def kept_lines(found: Found) -> Iterator[Kept]:
         data = segment.path.read_bytes()
         if segment is found.segments[-1]:
             data = data[: found.last_size]
-        if segment.is_old:
-            yield Kept(segment.lines + 1, 0, UNKNOWN, data.split(b"\n")[:-1])
-            continue
         place = 0
         while place < len(data):
             record = record_at(data, place)

@@ -39,10 +39,10 @@ def start_books(opening: Opening, text: bytes) -> Books:
 
 def opening_books(state: StateFolder, text: bytes) -> Books:
     """The books before any line behind the opening, by its text."""
-    if state.joined is None:
+    if state.renewed is None:
         return start_books(state.opening, text)
     try:
-        return read_books(text, json.dumps(state.joined.books).encode(), state.base.lines)
+        return read_books(text, json.dumps(state.renewed.books).encode(), state.base.lines)
     except ValueError as error:
         raise Fault(Exit.JOURNAL, f"{state.opening.path} is of another version of firmd: {error}") from error
 

@@ -137,7 +137,6 @@ class Lanes:
         self.full: set[bytes] = set()  # lanes that take no more before half of it has left them
         self.on_room: Callable[[], None] = lambda: None  # one of them takes more again
         self._late: dict[bytes, float] = {}  # lanes that may be served again, each that number of seconds later
-        self._held: set[bytes] = set()  # lanes that nothing leaves
         self._ready: deque[Lane] = deque()
         self._rounds: deque[Lane] = deque()  # whose next line is a round
         self._rounds_under_way = 0
@@ -204,19 +203,6 @@ class Lanes:
         if name in self.by_name:
             self._queue(self.by_name[name])
 
-    def hold(self, name: bytes) -> None:
-        """Has nothing leave a lane until it is released; what is under way is answered."""
-        self._held.add(name)
-
-    def release(self, name: bytes) -> None:
-        self._held.discard(name)
-        if name in self.by_name:
-            self._queue(self.by_name[name])
-
-    def is_quiet(self, name: bytes) -> bool:
-        """Whether nothing of a lane is under way."""
-        return name not in self.by_name or not self.by_name[name].under_way
-
     def clear(self) -> None:
         """Drops what waits: it is not answered."""
         self._ready.clear()
@@ -230,7 +216,7 @@ class Lanes:
         return min((lane.shares[0].taken for lane in self.by_name.values() if lane.shares), default=None)
 
     def _queue(self, lane: Lane) -> None:
-        may_leave = not lane.is_away and lane.name not in self._late and lane.name not in self._held
+        may_leave = not lane.is_away and lane.name not in self._late
         if may_leave and lane.shares and not lane.is_queued:
             lane.is_queued = True
             self._ready.append(lane)
@@ -274,7 +260,7 @@ class Lanes:
         """Has the lane's first share leave it; whether the next one may be looked at."""
         share = lane.shares[0]
         self._left -= 1
-        if lane.name in self._held or lane.name == OPERATORS and self._waits_for_round(lane, share):
+        if lane.name == OPERATORS and self._waits_for_round(lane, share):
             return False
         verdict = self._judge.verdict(share, now)
         if verdict.wait:

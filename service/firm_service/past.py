@@ -70,7 +70,7 @@ def before(folder: Path, tenant: str, number: int) -> Row:
     (rows,) = tenants_of(text)
     if rows.commands != number - 1:
         raise Refused("no-such-round", f"line {asked.number} is not command {number} of {tenant}")
-    time = asked.time / 1_000 if asked.time else None
+    time = asked.time / 1_000
     alone = text_of(book_of(text.decode("ascii")))  # the places of others, and their admissions, are not told
     return {"tenant": tenant, "line": asked.number - 1, "time": time, "text": alone}
 

@@ -30,7 +30,6 @@ class Piece:
     place: Place
     block: Block | None
     refused: frozenset[int]  # lines that memory was refused to, counted in the piece from 0
-    doubtful: frozenset[int]  # those of them that an older firmd kept
 
     def effective(self) -> bytes:
         """The piece, with the lines that memory was refused to as their first words: they count and change nothing."""
@@ -61,7 +60,7 @@ def pieces_of(found: Found) -> Iterator[Piece]:
         data = read_file(segment.path)
         if segment is segments[-1]:
             data = data[: found.last_size]
-        text += data if segment.is_old else plain(data)
+        text += plain(data)
         at = 0
         for end, block in _cuts(text, start, blocks):
             piece = _piece(found, text[at:end], Place(number, start + end), block)
@@ -98,7 +97,5 @@ def _piece(found: Found, text: bytes, place: Place, block: Block | None) -> Piec
     if block is not None and (block.count != count or not text.endswith(b"\n")):
         last = place.number + count - 1
         damaged(f"{found.segments[0].path.parent}: the replies to lines {place.number} to {last} are of others")
-    known = found.refused
-    refused = frozenset(number - place.number for number in known if 0 <= number - place.number < count)
-    doubtful = frozenset(below for below in refused if not known[place.number + below])
-    return Piece(text, count, place, block, refused, doubtful)
+    refused = frozenset(number - place.number for number in found.refused if 0 <= number - place.number < count)
+    return Piece(text, count, place, block, refused)

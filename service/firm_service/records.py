@@ -10,7 +10,7 @@ A segment begins with its header, and has records behind it. A heading ends its 
 SUM is the CRC-32 of the heading's other text and the lines below it. It is to find damage, not a forger, who could
 write a digest as well; it takes a nanosecond a byte. Lines are numbered from 1, and their bytes from 0, over all
 segments and without headings, as firm reads them: so a record can stand in a segment of any other cut. Times are
-milliseconds since 1970, 0 where they are not known. No line that is kept begins with `#`, as such a line gets no reply.
+milliseconds since 1970. No line of a journal begins with `#`, as such a line gets no reply.
 Headings that are not text would save some 15 bytes of 55.
 """
 
@@ -27,7 +27,7 @@ HEADER, LINES, REPLIES, REFUSED = b"firm-journal %d" % VERSION, b"lines", b"repl
 HEADER_BEGINS = b"#firm-journal "
 DIGEST_BYTES = 16
 HEADING_BYTES = len(b"#lines 00000000 100 1000000 0 1000000000000 \n")  # beside its sender
-UNKNOWN = b"?"  # the sender of a line that an older firmd kept
+UNKNOWN = b"?"  # the sender of a line that nobody owns
 
 _HEADING = re.compile(rb"#(firm-[a-z]+ [0-9]+|lines|replies|refused) ([0-9a-f]{8}) ([^\n]*)\n")
 _HEADINGS = re.compile(rb"\n#[^\n]*")

@@ -8,29 +8,27 @@ Damage is told from a crash so: up to the extent each byte is compared, and none
 record that isn't whole was torn while it was written, and is cut off: nothing of it was answered. But where a whole
 record of a later write follows, it was answered, as a write begins only when all before it is synced: that is damage.
 A state with an id, but without its roster, segments or extent, has lost them; segments without a roster are a loss too.
-The oldest may be away where a snapshot stands for them.
+The oldest may be away where a snapshot stands for them. A journal of another version is refused.
 """
 
 from __future__ import annotations
 
 import re
 from dataclasses import dataclass, field
-from hashlib import blake2b
 from pathlib import Path
 from typing import NoReturn
 from zlib import crc32
 
 from .extent import Extent
 from .faults import RESTORE, Exit, Fault, reason
-from .lines import gets_reply
 from .records import (
     BEGINNING,
-    DIGEST_BYTES,
     HEADER,
     HEADER_BEGINS,
     LINES,
     REFUSED,
     REPLIES,
+    VERSION,
     Base,
     Block,
     Header,
@@ -49,7 +47,6 @@ HEADER_BYTES = 512  # at most
 class Segment:
     number: int
     path: Path
-    is_old: bool  # of an older firmd: lines without headings
     lines: int  # of all segments before
     size: int  # bytes of these lines
     chain: int  # the checksum of all segments before, as they are on the disk
@@ -67,7 +64,6 @@ class Found:
     size: int = 0  # bytes of the lines
     chain: int = 0  # the checksum of all segments, as they are on the disk
     last_size: int = 0  # bytes of the last segment, as it is on the disk
-    since: int = 0  # the first segment of today's form, 0 where there is none
     state: str = ""  # the id of its state
 
     def __post_init__(self) -> None:
@@ -94,8 +90,14 @@ def extent_path(folder: Path) -> Path:
     return folder / "extent"
 
 
-def damaged(text: str, other_cure: str = "") -> NoReturn:
-    raise Fault(Exit.JOURNAL, f"{text}; {RESTORE}{other_cure}")
+def damaged(text: str) -> NoReturn:
+    raise Fault(Exit.JOURNAL, f"{text}; {RESTORE}")
+
+
+def another_version(path: Path, version: int) -> Fault:
+    whose = "an older" if version < VERSION else "a later"
+    cure = "serve it by that firmd, or begin a new state with what its `firm-journal state` writes: firmd --restore"
+    return Fault(Exit.JOURNAL, f"{path}: it is of version {version}, of {whose} firmd: {cure}")
 
 
 def read_file(path: Path) -> bytes:
@@ -110,28 +112,8 @@ def find(state: StateFolder, folder: Path, base: Base = BEGINNING) -> Found:
     last one is left out where it was begun and has nothing."""
     extent = Extent.read(extent_path(folder))
     numbers = numbers_of(folder)
-    if extent is not None:
-        return find_today(state, folder, (numbers, extent), base)
-    if base != BEGINNING or numbers[:1] not in ([], [1]):
-        damaged(f"{folder}: segments are missing, or {extent_path(folder)}, which says how far they reach")
-    if not numbers and state.id is not None and (state.is_of_today or state.had_roster):
-        cure = "" if state.is_of_today else f", or remove {state.id_path} if no line of it was ever answered"
-        damaged(f"{folder} has no segments, and the state was begun with some", cure)
-    if state.is_of_today:
-        damaged(f"{extent_path(folder)} is missing, which says how far the segments reach")
-    if numbers and is_newborn(segment_path(folder, numbers[-1])):
-        numbers.pop()
-    found, paths = Found(), [segment_path(folder, number) for number in numbers]
-    for path in paths:
-        if read_file(path).startswith(HEADER_BEGINS):
-            damaged(f"{extent_path(folder)} is missing, which says how far {path} reaches")
-    take_old_segments(found, paths, may_be_torn=True)
-    return found
-
-
-def find_today(state: StateFolder, folder: Path, there: tuple[list[int], Extent], base: Base) -> Found:
-    """The same where there are segments of today's form, which have an extent."""
-    numbers, extent = there
+    if extent is None:
+        return find_none(state, folder, numbers, base)
     last = extent.segment
     if numbers[-1:] == [last + 1] and is_newborn(segment_path(folder, last + 1)):
         numbers.pop()
@@ -140,15 +122,12 @@ def find_today(state: StateFolder, folder: Path, there: tuple[list[int], Extent]
         what = "segments were added" if have > last else "segments are missing"
         begins = f"{numbers[0]} to {have}" if numbers else "none"
         damaged(f"{folder}: {what}: {begins} are there, and {base.segment + 1} to {last} were written")
-    first = max(extent.since, base.segment + 1)
-    headers = {number: read_header(segment_path(folder, number)) for number in range(first, last + 1)}
-    found = Found(base, since=extent.since, state=extent.state.decode())
-    old = range(base.segment + 1, extent.since)
-    take_old_segments(found, [segment_path(folder, number) for number in old], may_be_torn=False)
+    headers = {number: read_header(segment_path(folder, number)) for number in range(base.segment + 1, last + 1)}
+    found = Found(base, state=extent.state.decode())
     for number in headers:
         take_segment(found, segment_path(folder, number), extent, headers.get(number + 1))
-    if headers[last].roster not in state.sums:
-        what = "the roster that the state began with" if state.joined is None else "what the state goes on from"
+    if headers[last].roster != state.roster_sum:
+        what = "the roster that the state began with" if state.renewed is None else "what the state goes on from"
         damaged(f"{state.opening.path}: this is not {what}")
     if headers[last].state != found.state:
         damaged(f"{extent_path(folder)}: it is that of the state {found.state}, not {headers[last].state}")
@@ -159,29 +138,28 @@ def find_today(state: StateFolder, folder: Path, there: tuple[list[int], Extent]
     return found
 
 
+def find_none(state: StateFolder, folder: Path, numbers: list[int], base: Base) -> Found:
+    """The same where no extent says how far the segments reach: nothing was written yet, or it is lost."""
+    if numbers and is_newborn(segment_path(folder, numbers[-1])):
+        numbers.pop()
+    if base != BEGINNING or numbers or state.id is not None:
+        there = f"segments {numbers[0]} to {numbers[-1]} are there" if numbers else "no segments are there"
+        damaged(f"{extent_path(folder)} is missing, which says how far the segments reach: {there}")
+    return Found()
+
+
 def is_being_renewed(name: str | None, folder: Path, last: Header, found: Found) -> bool:
     """Whether the state gets another id, which is kept behind a segment that begins with it: this one is the former."""
     former = segment_path(folder, last.number - 1)
-    is_begun = last.lines == found.lines and last.number > found.since and former.exists()
+    is_begun = last.lines == found.lines and former.exists()
     return is_begun and read_header(former).state == name
 
 
 def is_newborn(path: Path) -> bool:
-    """Whether a segment of this version has no record yet: it was begun, and nothing answered from it.
-
-    Its header may be there in parts. An older segment's first line does not begin so, but with a zero byte, where firm
-    refuses it.
-    """
+    """Whether a segment has no record yet: it was begun, and nothing answered from it. Its header may be there in
+    parts."""
     data = read_file(path)
-    is_begun = data[:1] in (b"", b"#", b"\0") and len(data) <= HEADER_BYTES and b"\n" not in data[:-1]
-    return is_begun and not has_marks(path)
-
-
-def has_marks(path: Path) -> bool:
-    """Whether an older firmd kept digests or a refusal of the segment's lines."""
-    number = b"%d" % int(path.stem)
-    marks = [line.split()[:1] for line in whole_text(path.with_name("refused")).splitlines()]
-    return whole_text(path.with_suffix(".blocks")) != b"" or [number] in marks
+    return data[:1] in (b"", b"#", b"\0") and len(data) <= HEADER_BYTES and b"\n" not in data[:-1]
 
 
 def numbers_of(folder: Path) -> list[int]:
@@ -193,14 +171,9 @@ def numbers_of(folder: Path) -> list[int]:
     found = sorted(int(path.stem) for path in paths)
     if found and found != list(range(found[0], found[-1] + 1)):
         damaged(f"{folder}: segments are missing: those there are {found}")
-    orphans = [path for path in folder.glob("*.blocks") if not path.with_suffix(".lines").exists()]
-    lost = [path.name for path in orphans if whole_text(path)]  # one without a record was left by an older firmd
-    if lost:
-        damaged(f"{folder}: segments are missing: there are {', '.join(sorted(lost))} without their lines")
+    if any(folder.glob("*.blocks")):  # which had the digests of a segment without headings
+        raise another_version(folder, 1)
     return found
-
-
-# Segments of this version.
 
 
 def read_header(path: Path) -> Header:
@@ -216,7 +189,7 @@ def header_of(path: Path, data: bytes) -> Header:
     if record is not None and record.kind == HEADER:
         return Header.read(record)
     if record is not None and record.kind.startswith(HEADER_BEGINS[1:]):
-        raise Fault(Exit.JOURNAL, f"{path}: it is of version {record.kind.split()[1].decode()}, of a later firmd")
+        raise another_version(path, int(record.kind.split()[1]))
     damaged(f"{path}: its first bytes are not what firmd wrote")
 
 
@@ -260,16 +233,14 @@ def reach_of(folder: Path) -> Extent:
     numbers = numbers_of(folder)
     if numbers and is_newborn(segment_path(folder, numbers[-1])):
         numbers.pop()
-    today = [number for number in numbers if read_file(segment_path(folder, number)).startswith(HEADER_BEGINS)]
-    if not today or today[-1] != numbers[-1]:
-        damaged(f"{folder} has no segment of today's form")
-    path = segment_path(folder, today[-1])
+    if not numbers:
+        damaged(f"{folder} has no segment")
+    path = segment_path(folder, numbers[-1])
     data, header = read_file(path), read_header(path)
     end, _ = whole_records(data, len(header.text()), header.lines + 1)
     if is_synced_past(data, end):
         name_damage(path, data, header.lines)
-    since = today[0] if numbers[0] == 1 else 1  # those of an older firmd are not archived
-    return Extent(header.state.encode(), since, header.number, end, crc32(data[:end], header.chain))
+    return Extent(header.state.encode(), header.number, end, crc32(data[:end], header.chain))
 
 
 def take_segment(found: Found, path: Path, extent: Extent, following: Header | None) -> None:
@@ -290,7 +261,7 @@ def take_segment(found: Found, path: Path, extent: Extent, following: Header | N
             found.blocks.append(Block.read(record))
         else:
             found.refused |= read_refusals(record)
-    found.add(Segment(header.number, path, False, found.lines, found.size, found.chain), data, lines, size)
+    found.add(Segment(header.number, path, found.lines, found.size, found.chain), data, lines, size)
 
 
 def marks_of(data: bytes) -> list[Record]:
@@ -302,79 +273,4 @@ def marks_of(data: bytes) -> list[Record]:
             record = record_at(data, at)
             if record is not None:
                 found.append(record)
-    return found
-
-
-# Segments of an older firmd: NUMBER.lines, NUMBER.blocks with digests of lines and replies, and `refused`.
-
-
-def whole_text(path: Path) -> bytes:
-    """A file's text up to its last LF, empty where there is no file: what follows was not synced as a whole."""
-    data = read_file(path) if path.exists() else b""
-    return data[: data.rfind(b"\n") + 1]
-
-
-def take_old_segments(found: Found, paths: list[Path], may_be_torn: bool) -> None:
-    """Takes them in with the digests and refusals beside them; the last one may have a torn end."""
-    for path in paths:
-        take_old_segment(found, path, may_be_torn and path == paths[-1])
-    if paths:
-        kept = paths[0].with_name("refused")
-        found.refused = old_refusals(kept, found.segments, found.lines)
-        found.chain = crc32(whole_text(kept), found.chain)
-
-
-def take_old_segment(found: Found, path: Path, may_be_torn: bool) -> None:
-    data = whole_text(path) if may_be_torn else read_file(path)
-    if data and not data.endswith(b"\n"):
-        damaged(f"{path}: the last line has no end, and further segments follow")
-    end = 0
-    for count, block, lines in old_blocks(path, found.size):
-        text = data[end : block.end - found.size]
-        end = block.end - found.size
-        if end > len(data):
-            damaged(f"{path}: {len(data)} bytes, and {end} were answered")
-        if (text.count(b"\n"), blake2b(text, digest_size=DIGEST_BYTES).hexdigest()) != (block.count, lines):
-            name = f"{path}, lines {count + 1} to {count + block.count}"
-            damaged(f"{name}: these are not the lines that were answered")
-        found.blocks.append(block)
-    for place, line in enumerate(data[end:].split(b"\n")[:-1], data.count(b"\n", 0, end) + 1):
-        if not gets_reply(line):
-            damaged(f"{path}, line {place}: it gets no reply, so firmd did not write it")
-    segment = Segment(len(found.segments) + 1, path, True, found.lines, found.size, found.chain)
-    found.add(segment, data, data.count(b"\n"), len(data))
-    found.chain = crc32(whole_text(path.with_suffix(".blocks")), found.chain)
-
-
-def old_blocks(path: Path, size: int) -> list[tuple[int, Block, str]]:
-    """The blocks of an older segment: the lines before each, the block, and the digest of its lines."""
-    found: list[tuple[int, Block, str]] = []
-    start = count = 0
-    kept = path.with_suffix(".blocks")
-    for place, line in enumerate(whole_text(kept).splitlines(), 1):
-        try:
-            end, lines, digest, replies = line.decode().split()
-            block = Block(size + start, size + int(end), int(lines), replies)
-        except ValueError as error:
-            raise Fault(Exit.JOURNAL, f"{kept}:{place}: this is not a record of a block; {RESTORE}") from error
-        if int(end) <= start:
-            damaged(f"{kept}:{place}: it ends before the one before it")
-        found.append((count, block, digest))
-        start, count = int(end), count + int(lines)
-    return found
-
-
-def old_refusals(path: Path, segments: list[Segment], lines: int) -> dict[int, int]:
-    """Those of all lines that memory was refused to, by an older firmd's file; their time is not known."""
-    found: dict[int, int] = {}
-    ends = [segment.lines for segment in segments[1:]] + [lines]
-    for place, line in enumerate(whole_text(path).splitlines(), 1):
-        try:
-            segment, below = map(int, line.split())
-            number = segments[range(1, len(segments) + 1).index(segment)].lines + below + 1
-        except ValueError as error:
-            raise Fault(Exit.JOURNAL, f"{path}:{place}: these are not a segment and a line; {RESTORE}") from error
-        if below < 0 or number > ends[segment - 1]:
-            damaged(f"{path}:{place}: the segment {segment} has not as many lines")
-        found[number] = 0
     return found

@@ -51,10 +51,6 @@ class Register:
                 elif verb == _RETIRED:
                     self._worn.pop(name, None)
 
-    def join(self, tenant: bytes) -> None:
-        """Takes in a tenant that no line has admitted."""
-        self._worn[tenant] = None
-
     def wear(self, reply: bytes) -> None:
         """Takes in a tenant's reply, without its LF, that ends as that to a worn one does."""
         tenant = reply[: reply.index(b" ")]

@@ -1,4 +1,4 @@
-"""Where descriptors or memory run out, the newest connection of the socket that has most is closed, and no other.
+"""Closes the newest connection of the socket that has most when descriptors run out, and no other.
 
 It is the likeliest cause, and the others keep what they have. The socket that has most may be an honest tenant's, if a
 hostile one spreads its own over several; on a socket that both share, the newest may be anyone's.
@@ -18,9 +18,7 @@ from .faults import Faults
 # What runs out for a while, and is there again once a connection is closed.
 SHORTAGES = frozenset({errno.EMFILE, errno.ENFILE, errno.ENOMEM, errno.ENOBUFS, errno.EAGAIN})
 TURNS = 4  # of the loop without a further shortage, until connections accepted at once are known to their sockets
-BALLAST_BYTES = 2**23  # that are given back where memory runs out, so that what is under way can be ended
-HOLD_SECONDS = 0.05  # in which no client is read
-LACKING = "descriptors or memory are lacking: the newest connection of the socket that has most is closed"
+LACKING = "out of descriptors: the newest connection of the socket that has most is closed"
 REFUSED = b"? too-many-clients: there is no descriptor for more\n"
 
 Held = dict[str, list[asyncio.WriteTransport]]  # connections by their sockets, the newest last
@@ -57,10 +55,7 @@ class Relief:
         self._faults, self._refused = faults, refused
         self._loop = asyncio.get_running_loop()
         self._looks: list[Callable[[], Held]] = []
-        self.on_memory: Callable[[bool], None] = lambda is_lacking: None  # while it is, clients are not read
         self._turns = 0  # until a connection is closed
-        self._is_held = False
-        self._ballast: bytearray | None = bytearray(BALLAST_BYTES)
         self._spare = Spare()
 
     def look_at(self, sockets: Callable[[], Held]) -> None:
@@ -77,17 +72,15 @@ class Relief:
         self._close_one()
         return False
 
-    def relieve(self, error: BaseException) -> None:
+    def relieve(self) -> None:
         """Has one connection closed soon; a shortage that is met again until then is the same one."""
-        if isinstance(error, MemoryError):
-            return self._hold()
         if not self._turns:
             self._loop.call_soon(self._wait)
         self._turns = TURNS
 
-    def relieve_soon(self, error: BaseException) -> None:
+    def relieve_soon(self) -> None:
         """The same, of any thread."""
-        self._loop.call_soon_threadsafe(self.relieve, error)
+        self._loop.call_soon_threadsafe(self.relieve)
 
     def _refuse(self, listening: socket.socket) -> bool:
         self._faults.count("shortage", LACKING)
@@ -105,19 +98,6 @@ class Relief:
             self._loop.call_soon(self._wait)
         elif not is_descriptor_free():
             self._close_one()
-
-    def _hold(self) -> None:
-        if not self._is_held:
-            self._loop.call_later(HOLD_SECONDS, self._release)  # first, so that nothing that fails below can hold them
-            self._is_held, self._ballast = True, None
-            self.on_memory(True)
-            self._close_one()
-
-    def _release(self) -> None:
-        with suppress(MemoryError):  # then the next shortage is met without it
-            self._ballast = self._ballast or bytearray(BALLAST_BYTES)
-        self._is_held = False
-        self.on_memory(False)
 
     def _held(self) -> Held:
         return {name: held for look in self._looks for name, held in look().items()}

@@ -69,10 +69,6 @@ class Rounds:
         for tenant in self._books.tenants:
             self._changed(tenant)
 
-    def joined(self, tenant: str) -> None:
-        """Takes in that a tenant has come: what waits of it has changed."""
-        self._changed(tenant)
-
     def stop(self) -> None:
         for timer in [self._timer, *self._awaited.values()]:
             if timer is not None:

@@ -9,7 +9,7 @@ from collections import Counter
 from collections.abc import Callable, Sequence
 from typing import Protocol
 
-from .books import Book, Books, tenant_of
+from .books import Books, tenant_of
 from .bounds import MEBIBYTE
 from .faults import Faults
 from .load import Load
@@ -45,7 +45,6 @@ class Shown:
         self.faults_of_firmd: dict[str, int] = {}
         self.watchers: list[Watcher] = []
         self.on_told: Callable[[], None] = lambda: None  # watchers were told something
-        self.on_joined: Callable[[Book], None] = lambda book: None  # a tenant has come, of which no line tells
         self.turn = asyncio.Lock()  # for an answer that takes some time: lines are taken in between two of them
         self._told = time.monotonic()
 
@@ -68,11 +67,6 @@ class Shown:
             watcher.lose()
         self.books, self.state = books, state
         self.status.lines = books.lines
-
-    def put(self, book: Book) -> None:
-        """Shows a tenant that no line has admitted."""
-        self.books.put(book)
-        self.on_joined(book)
 
     def replied_all(self, lines: Sequence[bytes], replies: Sequence[bytes], seconds: float | None) -> None:
         first = self.books.lines + 1

@@ -55,13 +55,13 @@ def beginning(state: StateFolder, before: int) -> Beginning:
         books = read_books(found.state, found.books, found.base.lines)
         return Beginning(found.base, opening_of(state, found), books, point_of(found) if is_replica else None)
     books = opening_books(state, state.read_opening())
-    return Beginning(state.base, state.opening, books, opening_point(state.joined) if is_replica else None)
+    return Beginning(state.base, state.opening, books, opening_point(state.renewed) if is_replica else None)
 
 
 def cut_at(found: Found, segment: int) -> Found:
     """What was found up to the end of a segment. What is kept of its lines may stand behind it."""
     following = found.segments[segment - found.base.segment]
-    kept = Found(found.base, since=found.since, state=found.state)
+    kept = Found(found.base, state=found.state)
     kept.segments = found.segments[: segment - found.base.segment]
     kept.blocks = [block for block in found.blocks if block.end <= following.size]
     kept.refused = {number: time for number, time in found.refused.items() if number <= following.lines}

@@ -18,11 +18,10 @@ from contextlib import suppress
 from dataclasses import dataclass
 from pathlib import Path
 
-from .extent import Extent
 from .faults import Fault, say
 from .files import PRIVATE, make_folder, replace_synced, require_room
 from .records import Base, sealed
-from .recovery import extent_path, read_header, segment_path
+from .recovery import read_header, segment_path
 from .state import StateFolder
 from .states import Opening, digest, is_extended
 
@@ -125,12 +124,9 @@ def of_journal(state: StateFolder, segment: int) -> Snapshot:
     snapshot = read(state.snapshots_path, segment)
     path = segment_path(state.journal_path, segment + 1)
     try:
-        extent = Extent.read(extent_path(state.journal_path))
         header = read_header(path)
     except Fault as fault:
         raise Unusable(f"{path}, which follows the snapshot, can't be compared with it: {fault}") from fault
-    if extent is None or segment + 1 < extent.since:
-        raise Unusable(f"{path}, which follows the snapshot, is of an older firmd")
     if Base.before(header) != snapshot.base:
         raise Unusable(f"{path} is not what follows the snapshot {segment:08}: that is of another journal")
     if snapshot.roster != state.roster_sum:

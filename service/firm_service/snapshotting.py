@@ -6,35 +6,30 @@ here is told and tried again: the service goes on without.
 
 from __future__ import annotations
 
-import json
 import os
 import subprocess
 import sys
 import time
 from collections.abc import Callable, Sequence
-from contextlib import suppress
 from dataclasses import dataclass
 from pathlib import Path
-from queue import Empty, SimpleQueue
+from queue import SimpleQueue
 from threading import Thread
 from typing import TYPE_CHECKING, NamedTuple
 
 from .archive import LATE_SECONDS, Keeping, Removal
-from .faults import Exit, Fault, Faults, say
+from .faults import Fault, Faults, say
 from .firm_process import Firm
-from .files import require_room
-from .joined import Joined, clear_texts, read, tell, write_state
 from .journal import Journal
 from .kept import found_now
 from .logs import INFO
 from .pieces import pieces_of
 from .records import Base
-from .recovery import Found
 from .rehearsal import Rehearsal
 from .replicated.point import has_point
-from .snapshots import KEPT, ROOM_BYTES, Snapshot, Unusable, keep_alone, of_journal, opening_of, usable
-from .state import try_opening
-from .states import Opening, digest
+from .replicated.renewed import Renewed
+from .snapshots import KEPT, Snapshot, Unusable, keep_alone, of_journal, opening_of, usable
+from .states import Opening
 from .stream import Stopping, Stream, Successor
 
 if TYPE_CHECKING:
@@ -42,7 +37,6 @@ if TYPE_CHECKING:
 
 PROGRAM = str(Path(__file__).resolve().parents[1] / "firm-snapshot")  # stands there where the package is not installed
 LOOK_SECONDS = 0.2
-SEAL_SECONDS, SEALED_SECONDS = 30.0, 0.005  # for the begin of a segment, and between two looks at that
 WORK_SECONDS = 5.0  # of processor time of firm since a snapshot, after which the next is made: a start needs as long
 SHORTEST_PAUSE, LONGEST_PAUSE = 1.0, 600.0  # before something that failed is tried again
 FULL_SHARE = 2  # of what firm reads: past a half of it a fresh one is to go on
@@ -62,16 +56,6 @@ class Settings:
     firm: Sequence[str]  # the words that start it
     firm_timeout: float
     log_format: str
-
-
-class Change(NamedTuple):
-    """A fresh firm that is to go on."""
-
-    opening: Opening
-    base: Base  # what that stands for
-    # Called once all is answered, with what stands behind the base: it may refuse, and what it does can't be undone.
-    commit: Callable[[Found], None] = lambda found: None
-    on_switch: Callable[[], None] = lambda: None  # called by the loop, before the fresh firm is heard
 
 
 class Work(NamedTuple):
@@ -122,11 +106,6 @@ class Snapshots:
         self._removal: Removal | None = None  # of segments, that is under way
         self._is_to_offer = False  # the last snapshot to other replicas, where it is time for that
         self._making, self._clearing, self._changing, self._offering = Retry(), Retry(), Retry(), Retry()
-        self._wishes: SimpleQueue[Callable[[], None]] = SimpleQueue()
-
-    def wish(self, work: Callable[[], None]) -> None:
-        """Has this thread do something that raises nothing; called by any other."""
-        self._wishes.put(work)
 
     def start(self, snapshot: Snapshot | None) -> None:
         """Begins, once the replay is over that went on from this snapshot, or is of what others write."""
@@ -144,8 +123,7 @@ class Snapshots:
             for retry, look in looks:
                 if retry.may():
                     self._try(retry, look)
-            with suppress(Empty):
-                self._wishes.get(timeout=LOOK_SECONDS)()
+            time.sleep(LOOK_SECONDS)
 
     def _try(self, retry: Retry, look: Callable[[], None]) -> None:
         """Does what may fail in any way."""
@@ -174,8 +152,6 @@ class Snapshots:
 
     def _look(self) -> None:
         """Makes a snapshot if it is time, behind a segment to which nothing is added."""
-        if not self._journal.found.since:  # nothing was written since an older firmd
-            return
         sealed, status = self._journal.sealed(), self._status
         is_due = sealed.lines - self._last.lines >= self._settings.lines
         if not is_due and status.lines > self._last.lines:
@@ -217,34 +193,6 @@ class Snapshots:
         except OSError as error:
             self._sealed = None
             self._fail(self._making, f"no segment is begun for a snapshot: {error}")
-
-    @property
-    def last_base(self) -> Base:
-        """What the last snapshot stands for, or the opening."""
-        return self._last
-
-    def last(self) -> Snapshot | None:
-        """The last snapshot; None where there is none behind the opening. By this thread."""
-        return of_journal(self._state, self._last.segment) if self._last != self._state.base else None
-
-    def behind_all(self) -> Snapshot | None:
-        """The same, once all that was answered before is in it."""
-        lines = self._status.lines
-        if self._last.lines < lines:
-            self._make(self._sealed_behind(lines))
-        return self.last()
-
-    def _sealed_behind(self, lines: int) -> Base:
-        """A segment's end behind these lines, once all up to there is answered."""
-        ends = time.monotonic() + SEAL_SECONDS
-        self._stream.order(self._seal)
-        while (sealed := self._journal.sealed()).lines < lines or self._status.lines < sealed.lines:
-            if self._stream.is_stopping:
-                raise Stopping
-            if time.monotonic() > ends:
-                raise Unusable("no segment is begun for a snapshot")
-            time.sleep(SEALED_SECONDS)
-        return sealed
 
     def _make(self, sealed: Base) -> None:
         work = work_of(self._status.firm_process)
@@ -310,16 +258,9 @@ class Snapshots:
             snapshot = of_journal(self._state, self._last.segment)
             with self._shared.keeping(self._last.size):
                 if has_point(snapshot) and self._shared.has_lines(self._last.size):
-                    self._shared.offer(self._joined_of(snapshot), snapshot.state)
-                    self._shared.commit()
+                    self._shared.offer(Renewed.of(snapshot.base, snapshot.state, snapshot.books), snapshot.state)
         self._is_to_offer = False
         self._offering.done()
-
-    def _joined_of(self, snapshot: Snapshot) -> Joined:
-        """A snapshot as what a replica goes on from."""
-        text, joined = snapshot.state, self._state.joined
-        moves = joined.moves if joined is not None else ()
-        return Joined((), snapshot.base, len(text), digest(text), moves, json.loads(snapshot.books))
 
     # A fresh firm
 
@@ -334,64 +275,27 @@ class Snapshots:
     def _change(self, snapshot: Snapshot) -> None:
         base = snapshot.base
         try:
-            self._change_over(Change(opening_of(self._state, snapshot), base))
+            self._change_over(opening_of(self._state, snapshot), base)
         except Fault as error:
             raise Unusable(f"no fresh firm goes on from the snapshot {base.segment:08}: {error}") from error
         say(f"a fresh firm goes on from the snapshot {base.segment:08}", INFO)
 
-    def join(self, joined: Joined, text: bytes, change: Change) -> None:
-        """Has a fresh firm go on from a state that has a tenant more. By this thread; raises what says why it doesn't,
-        and ends the service where that can't be known but by the next start."""
-        folder, is_begun = self._state.folder, False
-
-        def commit(found: Found) -> None:
-            nonlocal is_begun
-            change.commit(found)
-            is_begun = True
-            if self._shared is not None:
-                self._shared.commit()
-            try:
-                tell(folder, joined)
-            except OSError:
-                is_begun = self._shared is not None or read(folder) == joined
-                raise
-            self._state.go_on_from(joined, text)
-
-        try:
-            require_room(folder, 2 * (len(text) + len(joined.text())) + ROOM_BYTES)
-            write_state(folder, joined, text)
-            try_opening(change.opening, change.opening.path, self._settings.firm)
-            if self._shared is not None:
-                self._shared.offer(joined, text)
-            self._change_over(change._replace(commit=commit))
-        except Exception as error:
-            if is_begun:
-                fault = Fault(Exit.STATE, f"it is not known whether a tenant has joined: {error}")
-                self._stream.tell_loop(self._stream.fail, fault)
-            else:
-                clear_texts(folder, self._state.joined)
-            raise
-        clear_texts(folder, joined)
-        self._last, self._is_to_offer = joined.base, False
-        self._stream.order(self._seal)  # whose header tells of it too
-        with suppress(OSError):  # they lack the tenant, so no start uses them
-            keep_alone(self._state.snapshots_path, ())
-
-    def _change_over(self, change: Change) -> None:
+    def _change_over(self, opening: Opening, base: Base) -> None:
+        """Replace the running firm by a fresh one with an opening that stands for a base."""
         settings = self._settings
-        firm = Firm([*settings.firm, *change.opening.words()])
-        rehearsal = Rehearsal(firm, change.base.lines, settings.firm_timeout)
+        firm = Firm([*settings.firm, *opening.words()])
+        rehearsal = Rehearsal(firm, base.lines, settings.firm_timeout)
         try:
-            self._catch_up(rehearsal, change.base)
+            self._catch_up(rehearsal, base)
             done: SimpleQueue[Exception | None] = SimpleQueue()
-            self._stream.order(lambda: done.put(self._finish(rehearsal, change)))
+            self._stream.order(lambda: done.put(self._finish(rehearsal, base)))
             error = done.get()
             if error is not None:
                 raise error
         except BaseException:
             rehearsal.drop()
             raise
-        self._given = change.base
+        self._given = base
         self._stream.tell_loop(self._status.count, "change_overs")
 
     def _catch_up(self, rehearsal: Rehearsal, base: Base) -> None:
@@ -406,17 +310,15 @@ class Snapshots:
                 if rehearsal.lines == before or is_last and found.lines - rehearsal.lines < FEW_LINES:
                     break
 
-    def _finish(self, rehearsal: Rehearsal, change: Change) -> Exception | None:
+    def _finish(self, rehearsal: Rehearsal, base: Base) -> Exception | None:
         """Gives a fresh firm the rest, and the lines that come; done by the writer, for which this may fail."""
 
         def finish() -> Successor:
-            found = found_now(self._state.folder, change.base)
+            found = found_now(self._state.folder, base)
             rehearsal.take_until(pieces_of(found), found.lines)
             if rehearsal.lines != self._journal.found.lines:
                 raise Unusable(f"{rehearsal.lines} of {self._journal.found.lines} lines were given to a fresh firm")
-            successor = Successor(rehearsal.settle(), change.base, change.on_switch)
-            change.commit(found)
-            return successor
+            return Successor(rehearsal.settle(), base)
 
         try:
             self._stream.change_firm(finish)

@@ -1,9 +1,7 @@
 """The state's folder: its lock, its id, the roster or the state of a service that it began with, and the journal.
 
-The id is kept behind the extent, and a new one behind the segment that begins with it, so it tells how far a beginning
-or a renewal came. An older firmd kept it first, so ids of today are longer, 20 characters in place of 16. A state with
-an old one alone is begun anew; one with a roster too, but without segments, has lost them: remove its id if no line of
-it was ever answered.
+The id is written after the extent, and a new one after the segment that begins with it: it shows how far a beginning or
+a renewal came. So a state with an id, but without a roster or segments, has lost them.
 """
 
 from __future__ import annotations
@@ -18,10 +16,10 @@ from zlib import crc32
 from . import roster, states
 from .faults import RESTORE, Exit, Fault, reason
 from .files import PRIVATE, replace_synced, sync_folder, write_synced
-from .joined import Joined, require_same
-from .joined import read as read_joined
 from .lock import lock_alone
 from .records import BEGINNING, Base
+from .replicated.renewed import Renewed, require_same
+from .replicated.renewed import read as read_renewed
 from .states import MOST_BYTES, Opening, digest
 
 ROSTER, JOURNAL, VIEW, ID = "roster.csv", "journal", "view", "id"
@@ -29,7 +27,8 @@ RESTORED, SNAPSHOTS = "restored", "snapshots"
 REPLICA = "replica"  # is there where the lines stand in etcd too
 OLD_JOURNAL, NEW_JOURNAL = "journal.old", "journal.new"  # the one that was rewritten, and the one that is written
 ROSTER_SECONDS = 60  # in which firm must have judged a roster
-OLD_ID_BYTES, ID_BYTES = 8, 10  # an older firmd kept the id before its journal, this one once the journal is there
+ID_BYTES = 10
+OF_MOVES = ("joined", "moving")  # files of an older firmd, by which tenants moved while it ran
 
 
 @dataclass(frozen=True, slots=True)
@@ -50,10 +49,13 @@ class StateFolder:
 
     def __init__(self, folder: Path) -> None:
         self.folder = folder
+        for name in OF_MOVES:
+            if (folder / name).exists():
+                cure = "end moves by that firmd, and begin a new state with what its `firm-journal state` writes"
+                raise Fault(Exit.JOURNAL, f"{folder / name}: it is an older firmd's: {cure}: firmd --restore")
         self.roster_path, self.journal_path, self.view_path = folder / ROSTER, folder / JOURNAL, folder / VIEW
         self.id_path, self.restored_path, self.snapshots_path = folder / ID, folder / RESTORED, folder / SNAPSHOTS
-        self.had_roster = self.first.path.exists()  # so a start came as far as the journal
-        self.joined = read_joined(folder)  # what it goes on from, if a tenant has joined it
+        self.renewed = read_renewed(folder)  # what a replica goes on from that began anew
         # Checksum of the opening, once that is read, and whether it lets tenants have a patience.
         self.roster_sum, self.is_extended = 0, False
         self.id = self._read_id()  # None before the first start is through
@@ -67,39 +69,29 @@ class StateFolder:
     @property
     def opening(self) -> Opening:
         """What a start without a snapshot goes on from."""
-        return self.first if self.joined is None else self.joined.opening(self.folder)
+        return self.first if self.renewed is None else self.renewed.opening(self.folder)
 
     @property
     def base(self) -> Base:
         """What stands before the lines that follow the opening."""
-        return BEGINNING if self.joined is None else self.joined.base
-
-    @property
-    def sums(self) -> set[int]:
-        """What the last segment's header may have as the checksum of the opening."""
-        return {self.roster_sum, *(self.joined.former if self.joined is not None else ())}
+        return BEGINNING if self.renewed is None else self.renewed.base
 
     def read_opening(self) -> bytes:
         """The text of the opening, whose checksum is known from then on."""
         text = read(self.opening)
-        if self.joined is not None:
-            require_same(self.joined, text, self.opening.path)
+        if self.renewed is not None:
+            require_same(self.renewed, text, self.opening.path)
         self._know(text)
         return text
 
-    def go_on_from(self, joined: Joined, text: bytes) -> None:
-        """Takes in that a tenant has joined it."""
-        self.joined = joined
+    def go_on_from(self, renewed: Renewed, text: bytes) -> None:
+        """Takes in that the replica has begun anew."""
+        self.renewed = renewed
         self._know(text)
 
     def _know(self, text: bytes) -> None:
         """Note the opening's checksum and heading."""
         self.roster_sum, self.is_extended = crc32(text), is_extended(self.opening, text)
-
-    @property
-    def is_of_today(self) -> bool:
-        """Whether the id is one that was kept behind a journal of today's form."""
-        return self.id is not None and len(self.id) == 2 * ID_BYTES
 
     def _read_id(self) -> str | None:
         try:
@@ -127,7 +119,7 @@ class State(StateFolder):
         Other replicas may have begun before, with what a new state takes then.
         """
         text = self._choose(given, firm) if common is None else self._take(common, given, firm)
-        if self.joined is not None:
+        if self.renewed is not None:
             return self.read_opening()
         self._know(text)
         return text
@@ -172,17 +164,11 @@ class State(StateFolder):
         return read(self.first)
 
     def _require_new(self) -> None:
-        """Asks that no start came as far as the journal; only an older firmd kept the id before a roster."""
+        """Asks that no start came as far as the journal."""
         folders = [self.folder / name for name in (JOURNAL, OLD_JOURNAL, NEW_JOURNAL)]
-        if self.is_of_today or any(path for folder in folders for path in folder.glob("*.lines")):
+        if self.id is not None or any(path for folder in folders for path in folder.glob("*.lines")):
             what = f"{self.roster_path} or {self.restored_path.name}"
             raise Fault(Exit.JOURNAL, f"{what} is missing, with which the state began; {RESTORE}")
-        try:
-            if self.id is not None:
-                self.id_path.unlink()
-                self.id = None
-        except OSError as error:
-            raise Fault(Exit.STATE, f"cannot use the state {self.folder}: {reason(error)}") from error
 
     def _keep(self, text: bytes, given: Opening, firm: Sequence[str]) -> None:
         path = self.restored_path if given.is_state else self.roster_path

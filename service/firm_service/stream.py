@@ -15,11 +15,8 @@ import os
 import time
 from collections import deque
 from collections.abc import Callable, Iterator, Sequence
-from contextlib import suppress
 from dataclasses import dataclass
-from functools import partial
 from itertools import groupby, islice
-from pathlib import Path
 from queue import SimpleQueue
 from threading import Event, Thread
 from typing import NamedTuple, Protocol
@@ -27,12 +24,11 @@ from typing import NamedTuple, Protocol
 from .budgets import Accounts
 from .faults import Exit, Fault, Faults, Reader, say
 from .firm_process import Firm
-from .journal import Shortage
 from .lanes import OPERATORS, Bounds, Lanes, Owner, Share
 from .lines import NO_MEMORY, OPERATOR_NO_MEMORY, WORN, is_memory_refused
 from .load import SYNC_SECONDS, Histogram
 from .logs import ERROR, INFO, tell
-from .observers import Observer, Status
+from .observers import Observer
 from .owed import OwedShares
 from .pieces import Piece, Place
 from .records import UNKNOWN, Answered, Base, Batch, Block
@@ -40,7 +36,6 @@ from .records import UNKNOWN, Answered, Base, Batch, Block
 BLOCK_LINES = 1_024  # at least, in a block of the journal
 GROUP_BYTES = 1_048_576  # of lines that are written and synced together, unless one share has more
 READ_BYTES = 65_536  # a piece that needs no memory of its own from the system
-SHORTAGE_SECONDS, SHORTAGE_TRIES = 0.02, 500  # until what lacked memory is tried again, and how often at most
 WATCH_SECONDS = 1.0  # between looks at how long firm, or the disk, has been silent
 LATE_SECONDS = 30.0  # of a write or a sync of the journal, after which it is told
 IDLE_SECONDS = 0.002  # between looks whether all is answered
@@ -63,9 +58,6 @@ class Journal(Protocol):
         """Since when its disk is written, where it is."""
 
     def pieces(self) -> Iterator[Piece]:
-        ...
-
-    def place_of(self, number: int) -> tuple[Path, int]:
         ...
 
     def append(self, batches: Sequence[Batch]) -> Place:
@@ -92,7 +84,6 @@ class Successor(NamedTuple):
 
     firm: Firm
     base: Base
-    on_switch: Callable[[], None] = lambda: None  # called by the loop, before it hears this firm
 
 
 class Stopping(Exception):
@@ -110,9 +101,6 @@ class Stream:
         self._observers: list[Observer] = []
         self.on_stop: Callable[[], None] = lambda: None  # called once, before the last lines are handed over
         self.on_late: Callable[[], None] = lambda: None  # called at each look at a journal that isn't written for long
-        self.on_shortage: Callable[[BaseException], None] = lambda error: None  # of memory; called by any thread
-        # Whether memory can't have been refused to a line, before it is taken in: an older firmd was mistaken then.
-        self.is_mistaken: Callable[[bytes], bool] = lambda line: False
         self._loop = asyncio.get_running_loop()
         self.replayed: asyncio.Future[None] = self._loop.create_future()
         self.ended: asyncio.Future[None] = self._loop.create_future()  # has the fault, where there is one
@@ -123,7 +111,6 @@ class Stream:
         self.status.lines = self._base.lines
         self.lanes = Lanes(accounts, self._tell_given, options.lanes)
         self._is_handing = False  # lines are about to leave the lanes
-        self._given: list[Share] = []  # that have left them, and the writer does not have yet
         # To the writer; None: no more will come.
         self._queue: SimpleQueue[list[Share] | Block | Order | None] = SimpleQueue()
         self._under_way: deque[Share] = deque()  # all that have left the lanes, in order
@@ -133,8 +120,6 @@ class Stream:
         self._silence = 0.0  # that was seen at the last look
         self._is_late = False  # the journal, as was told
         self._half = b""  # of a reply
-        self._replies: list[bytes] = []  # that are not handed out yet
-        self._tries = 0  # since memory was there
         self._answered = Answered(self._base.size)
         self._replay_is_sent = False
         self._is_stopping, self._is_replayed = Event(), Event()
@@ -198,14 +183,6 @@ class Stream:
     def is_replayed(self) -> bool:
         """Whether the replay is over; asked by any thread."""
         return self._is_replayed.is_set()
-
-    def hold(self, tenant: bytes) -> None:
-        """Gives firm no line of a tenant until it is released; those that are under way are answered."""
-        self.lanes.hold(tenant)
-
-    def release(self, tenant: bytes) -> None:
-        self.lanes.release(tenant)
-        self._hand_over_soon()
 
     def order(self, order: Order) -> None:
         """Has the writer do something between two writes; called by any thread."""
@@ -274,24 +251,20 @@ class Stream:
     def _hand_over(self) -> None:
         """Gives the writer what may leave the lanes now."""
         self._is_handing = True  # what is taken meanwhile leaves too
+        given: list[Share] = []
         try:
-            self.lanes.next(self._given, self._loop.time())
+            self.lanes.next(given, self._loop.time())
+            for name, seconds in self.lanes.late():
+                self._loop.call_later(seconds, self._wake, name)
+            if given:
+                self._queue.put(given)
+                self._under_way += given
         except Exception as error:  # lines are lost
             tell(ERROR, "an error of firmd itself", error)
             return self._give_up(Fault(Exit.INTERNAL, f"an error of firmd itself: {error!r}"))
-        for name, seconds in self.lanes.late():
-            self._loop.call_later(seconds, self._wake, name)
-        try:
-            if self._given:
-                self._queue.put(self._given)
-                self._under_way += self._given
-                self._given = []
-            self._is_handing = False
-            if self.lanes.has_ready:
-                self._hand_over_soon()
-        except MemoryError as error:
-            self.on_shortage(error)
-            self._loop.call_later(SHORTAGE_SECONDS, self._hand_over)
+        self._is_handing = False
+        if self.lanes.has_ready:
+            self._hand_over_soon()
 
     def _wake(self, lane: bytes) -> None:
         self.lanes.wake(lane)
@@ -308,10 +281,7 @@ class Stream:
 
     def _lose(self, owner: Owner, error: Exception) -> None:
         """Ends one that can't be told."""
-        if isinstance(error, MemoryError):
-            self.on_shortage(error)
-        else:
-            self._faults.note("client", error)
+        self._faults.note("client", error)
         owner.drop()
 
     # Other threads.
@@ -342,15 +312,13 @@ class Stream:
         self.tell_loop(self._end_writing)
 
     def tell_loop(self, call: Callable[..., None], *arguments: object) -> None:
-        """Has the loop call it soon; the end of the service waits for it, so a lack of memory may only delay it."""
-        for _ in range(SHORTAGE_TRIES):
-            try:
-                self._loop.call_soon_threadsafe(call, *arguments)
-                return
-            except MemoryError:
-                time.sleep(SHORTAGE_SECONDS)
-            except RuntimeError:  # the loop has ended before
-                return
+        """Has the loop call it soon."""
+        try:
+            self._loop.call_soon_threadsafe(call, *arguments)
+        except MemoryError:  # the end of the service would wait for the call
+            os._exit(Exit.INTERNAL)
+        except RuntimeError:  # the loop has ended before
+            pass
 
     def _replay(self) -> None:
         for piece in self._journal.pieces():
@@ -399,7 +367,8 @@ class Stream:
         return goes_on
 
     def _write_shares(self, shares: list[Share]) -> None:
-        batches, text = self._joined(shares)
+        batches = batches_of(shares)
+        text = b"".join([batch.text for batch in batches])
         began = time.monotonic()
         place = self._journal.append(batches)
         number, end, now = place.number, place.end - len(text), time.monotonic()
@@ -411,17 +380,6 @@ class Stream:
         self._owed.add(shares)
         self._given_to.give(text)
 
-    def _joined(self, shares: list[Share]) -> tuple[list[Batch], bytes]:
-        """The lines of all, before any is written; waits where memory is lacking."""
-        for _ in range(SHORTAGE_TRIES):
-            try:
-                batches = batches_of(shares)
-                return batches, b"".join([batch.text for batch in batches])
-            except MemoryError as error:
-                self.on_shortage(error)
-                time.sleep(SHORTAGE_SECONDS)
-        raise Fault(Exit.INTERNAL, "memory is lacking")
-
     # The loop's thread.
 
     def _expect(self, firm: Firm) -> None:
@@ -431,7 +389,6 @@ class Stream:
         """Hears the successor from now on; nothing is owed by the former firm, which ends."""
         former, self._firm = self._firm, successor.firm
         self._loop.remove_reader(former.output)
-        successor.on_switch()
         self._loop.add_reader(self._firm.output, self._reader)
         self._heard = self._loop.time()
         self.status.firm_process = self._firm.process.pid
@@ -474,8 +431,6 @@ class Stream:
             chunk = os.read(self._firm.output.fileno(), READ_BYTES)
         except BlockingIOError:
             return
-        except MemoryError as error:
-            return self._wait_for_memory(error, self._read)
         self._heard = self._loop.time()
         if chunk:
             self._take_in(chunk)
@@ -484,49 +439,19 @@ class Stream:
             self._begin_end()
 
     def _take_in(self, chunk: bytes) -> None:
+        """Hands out the replies that are there. Where that fails, who is owed what is not known any more."""
         try:
-            *replies, half = (self._half + chunk).split(b"\n")
-        except MemoryError as error:
-            return self._wait_for_memory(error, partial(self._take_in, chunk))
-        self._half, self._replies, self._tries = half, replies, 0
-        self._answer()
-
-    def _answer(self) -> None:
-        """Hands out the replies that are there."""
-        done = 0
-        try:
-            while done < len(self._replies):
-                done += self._answer_next(self._replies, done)
-            self._replies = []
+            *replies, self._half = (self._half + chunk).split(b"\n")
+            done = 0
+            while done < len(replies):
+                done += self._answer_next(replies, done)
             if self._replay_is_sent and not self.replayed.done():
                 self._tell_replayed()
-        except Shortage as shortage:
-            self._replies = self._replies[done:]
-            self._wait_for_memory(shortage, self._answer)
         except Fault as fault:
             self._give_up(fault)
-        except Exception as error:  # who is owed what is not known any more
+        except Exception as error:
             tell(ERROR, "an error of firmd itself", error)
             self._give_up(Fault(Exit.INTERNAL, f"an error of firmd itself: {error!r}"))
-
-    def _wait_for_memory(self, error: MemoryError, again: Callable[[], None]) -> None:
-        """Tries again soon, and takes in nothing else until then; a restart may find memory where this does not."""
-        self._tries += 1
-        if self._tries > SHORTAGE_TRIES:
-            return self._give_up(Fault(Exit.INTERNAL, "memory is lacking"))
-        try:
-            self._loop.call_later(SHORTAGE_SECONDS, self._go_on, again)
-            self._loop.remove_reader(self._firm.output)
-            self.on_shortage(error)
-        except MemoryError:
-            self._give_up(Fault(Exit.INTERNAL, "memory is lacking"))
-
-    def _go_on(self, again: Callable[[], None]) -> None:
-        try:
-            self._loop.add_reader(self._firm.output, self._reader)
-        except MemoryError as error:
-            return self._wait_for_memory(error, again)
-        again()
 
     def _answer_next(self, replies: list[bytes], done: int) -> int:
         """Hands out the next replies to one share; how many."""
@@ -535,8 +460,8 @@ class Stream:
             reply = replies[done].decode(errors="replace")
             raise Fault(Exit.FIRM, f"firm gave a reply that nobody asked for: {reply}")
         count = min(share.count - share.answered, len(replies) - done)
-        if share.piece is not None:
-            count = self._begin_piece(share, share.piece, count)
+        if share.piece is not None and share.piece.block is not None and share.answered == 0:
+            self._end_block()  # of lines before, whose own record was lost
         self._answer_share(share, replies[done : done + count])
         if share.answered == share.count:
             self._owed.drop_first()
@@ -554,39 +479,11 @@ class Stream:
         if self.lanes.has_ready:
             self._hand_over_soon()
 
-    def _begin_piece(self, share: Share, piece: Piece, count: int) -> int:
-        """How many of a piece's next replies may be taken in at once: a refusal that may be a mistake is one alone."""
-        if share.answered == 0 and piece.block is not None:
-            self._end_block()  # of lines before, whose own record was lost
-        if not piece.doubtful:
-            return count
-        following = min([below for below in piece.doubtful if below >= share.answered], default=share.count)
-        if following > share.answered:
-            return min(count, following - share.answered)
-        line = piece.text.split(b"\n")[following]
-        if self.is_mistaken(line):
-            raise Fault(Exit.JOURNAL, self._mistake(piece.place.number + following, line))
-        return 1
-
-    def _mistake(self, number: int, line: bytes) -> str:
-        """What is to be done about a refusal that was none."""
-        path, below = self._journal.place_of(number)
-        return (
-            f"{path}, line {below}, {line.decode(errors='replace')!r}: an older firmd took its reply, which may end "
-            "with `move no 14 memory`, for a refusal of memory. To have the line obeyed, run "
-            f"`firm-journal rewrite --obey {number} {path.parents[1]}`, and start firmd again. If firmd was restarted "
-            "since the mistake, it answered some lines on a wrong state, and the start may end with 5 for these: then "
-            "`--forget-replies` goes on with what firm makes of all lines"
-        )
-
     def _answer_share(self, share: Share, replies: list[bytes]) -> None:
         first, last = share.answered, share.answered + len(replies)
-        try:
-            text = b"\n".join(replies) + b"\n"
-            share.lines = share.lines or share.text.split(b"\n")
-            lines = share.lines[first:last]
-        except MemoryError as error:
-            raise Shortage from error
+        text = b"\n".join(replies) + b"\n"
+        share.lines = share.lines or share.text.split(b"\n")
+        lines = share.lines[first:last]
         if NO_MEMORY in text or OPERATOR_NO_MEMORY in text:
             self._keep_refused(share, replies)
         if share.piece is not None and share.piece.refused:

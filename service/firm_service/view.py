@@ -12,8 +12,7 @@ A request is one object on a line, and so is its answer:
 - {"ask": "watch", "tenant": "alpha"}: first {"state": ID, "book": ..}, the state's id and the rows, or null where it is
   not there, then {"line": .., "reply": .., "number": ..} for each line of that tenant, and of the operator that admits
   or retires it. One that is not shown is {"error": "no-tenant"}, there or not: what is gone has its runs ended.
-  Where no tenant is named, first {"tenants": [..]}, a row for each, then all lines. The first answer comes again where
-  a tenant that is watched has come by a move, as no line admits it.
+  Where no tenant is named, first {"tenants": [..]}, a row for each, then all lines.
 
 A client is shown the tenants that its user may see (`sight.py`), as if there were no others.
 
@@ -40,7 +39,7 @@ from .bounds import MEBIBYTE
 from .past_rounds import PastRounds
 from .refused import Refused
 from .shown import MOST_UNREAD_IN_ALL, Shown
-from .sight import EVERYTHING, Door, Peer, Sight
+from .sight import Door, Peer, Sight
 
 MOST_CLIENTS, MOST_OF_USER = 512, 128  # at a time
 MOST_UNREAD = 4 * MEBIBYTE  # beside the rows that it was shown, that a watcher may leave unread before it is dropped
@@ -169,7 +168,7 @@ class View:
         self.connections: set[Connection] = set()
         self.users: Counter[int] = Counter()  # how many each has
         self._refused = 0  # clients that are told why
-        shown.on_told, shown.on_joined = self.bound_unread, self.show_joined
+        shown.on_told = self.bound_unread
 
     async def serve(self, reader: asyncio.StreamReader, writer: asyncio.StreamWriter) -> None:
         """One client, until it leaves."""
@@ -197,17 +196,6 @@ class View:
             most = max(unread, key=unread.__getitem__)
             del unread[most]
             most.end()
-
-    def show_joined(self, book: Book) -> None:
-        """Shows a tenant that has come by a move to those who watch it."""
-        watching = [connection for connection in self.connections if connection.watches(book.limits.tenant)]
-        rows = watched(self.shown, EVERYTHING, book.limits.tenant) if watching else b""  # made once: they may be many
-        for connection in watching:
-            try:
-                connection.show_joined(rows)
-            except Exception as error:
-                connection.drop(error)
-        self.bound_unread()
 
     def _refusal(self, peer: Peer) -> Refused | None:
         if len(self.connections) >= MOST_CLIENTS:
@@ -268,15 +256,6 @@ class Connection:
 
     def wants(self, tenant: str | None) -> bool:
         return self._wanted in (None, tenant) and self._sight.has(tenant)
-
-    def watches(self, tenant: str) -> bool:
-        return self in self._shown.watchers and self.wants(tenant)
-
-    def show_joined(self, rows: bytes) -> None:
-        """Shows it a tenant that has come, by these rows; where it watches all, by a row for each tenant."""
-        text = watched(self._shown, self._sight, None) if self._wanted is None else rows
-        self._most_unread = MOST_UNREAD + len(text)
-        self.tell(text)
 
     def tell(self, text: bytes) -> None:
         if self.unread > self._most_unread:

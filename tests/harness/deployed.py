@@ -12,8 +12,8 @@ import firm_service.slurm.differences
 import firm_service.slurm.done
 import firm_service.slurm.refusals
 import firm_service.slurm.said
-from firm_service import agent_events, agent_machines, agent_queue, archive, books, budgets, extent, feed, feeder
-from firm_service import kept_books, lanes, past, past_rounds, records
+from firm_service import agent_events, agent_machines, agent_queue, archive, books, budgets, feed, feeder
+from firm_service import firmctl, kept_books, lanes, past, past_rounds, records
 from firm_service import roster, sizes, slurm, snapshots, states as service_states, supervisor
 from firm_service import trials, what_if, why, why_text
 from firm_service.agent_queue import NotAllowed, work_of
@@ -88,9 +88,9 @@ __all__ = [
     "client",
     "columns",
     "estimates",
-    "extent",
     "feed",
     "feeder",
+    "firmctl",
     "forms",
     "found_now",
     "gets_reply",

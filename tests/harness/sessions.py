@@ -183,8 +183,6 @@ def play_console(console: Block, path: str | None = None) -> None:
         raise Skipped("it needs nc (apt-get install netcat-openbsd)")
     if re.search(r"firmctl .*\bwhy\b", console.text) and not built("firm_explain").exists():
         raise Skipped("firm_explain is not built")
-    if "firmctl move" in console.text and not built("firm_state").exists():
-        raise Skipped("firm_state is not built")
     if re.search(r"\broot\b", console.text) and os.geteuid():
         raise Skipped("it shows what root has")
     is_installing = "pip install" in console.text

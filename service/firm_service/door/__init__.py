@@ -1,1 +1,1 @@
-"""One door to the tenants of many firmd: HAProxy's configuration, and moves of tenants between shards."""
+"""One door to the tenants of many firmd: HAProxy's configuration."""

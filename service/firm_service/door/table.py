@@ -10,8 +10,6 @@
     [shards.one]
     certificate = "/etc/firm/host.pem"    # on its hosts, for *.one.firm, with its key
     sockets = "/run/firm-{tenant}/lines"  # of firmd, on its hosts; that of `none` is for checks alone
-    operator = "/run/firm/operator"       # and its state, as `firmctl move` reaches them: for that alone; {replica} in
-    state = "/var/lib/firm/state"         # either stands for the name of each
 
     [shards.one.replicas]
     a = "10.0.0.1:7444"
@@ -31,7 +29,7 @@ from typing import Any
 from ..lines import is_name
 
 MOST_TENANTS = 64  # of a shard
-NOWHERE = "none"  # in the place of a shard while a tenant moves, and of a tenant at the socket for checks
+NOWHERE = "none"  # in the place of a tenant at the socket for checks
 TEXTS = ("bind", "certificate", "clients", "hosts", "admin", "map")
 
 
@@ -45,8 +43,6 @@ class Shard:
     certificate: str
     sockets: str
     replicas: dict[str, str]  # addresses
-    operators: tuple[Path, ...]  # of each replica in turn; empty: none is named
-    states: tuple[Path, ...]
 
     def socket(self, tenant: str) -> str:
         return self.sockets.replace("{tenant}", tenant)
@@ -83,7 +79,7 @@ class Table:
 
 
 def read_table(path: Path, found: dict[str, Any]) -> Table:
-    require_keys(found, {*TEXTS, "shards", "tenants"}, set(), "the table")
+    require_keys(found, {*TEXTS, "shards", "tenants"}, "the table")
     texts = {name: text(found[name], name) for name in TEXTS}
     shards = {name: read_shard(name, row) for name, row in rows(found["shards"], "shards").items()}
     tenants = {name: read_tenant(name, row, shards) for name, row in rows(found["tenants"], "tenants").items()}
@@ -102,7 +98,7 @@ def read_shard(name: str, row: object) -> Shard:
     if not is_name(name.encode()) or name == NOWHERE:
         raise TableError(f"{where} is not a shard's name: 1 to 16 of a-z, 0-9 and -, and not {NOWHERE}")
     found = rows(row, where)
-    require_keys(found, {"certificate", "sockets", "replicas"}, {"operator", "state"}, where)
+    require_keys(found, {"certificate", "sockets", "replicas"}, where)
     sockets = text(found["sockets"], f"{where}.sockets")
     if "{tenant}" not in sockets:
         raise TableError(f"{where}.sockets has no {{tenant}}: each tenant has a socket of its own")
@@ -110,11 +106,7 @@ def read_shard(name: str, row: object) -> Shard:
         replica: address(one, f"{where}.replicas.{replica}")
         for replica, one in rows(found["replicas"], f"{where}.replicas").items()
     }
-    operators, states = [
-        tuple(Path(found[key].replace("{replica}", replica)) for replica in replicas if key in found)
-        for key in ("operator", "state")
-    ]
-    return Shard(name, text(found["certificate"], f"{where}.certificate"), sockets, replicas, operators, states)
+    return Shard(name, text(found["certificate"], f"{where}.certificate"), sockets, replicas)
 
 
 def read_tenant(name: str, row: object, shards: dict[str, Shard]) -> list[str]:
@@ -148,8 +140,8 @@ def address(found: object, where: str) -> str:
     return value
 
 
-def require_keys(found: dict[str, Any], needed: set[str], more: set[str], where: str) -> None:
+def require_keys(found: dict[str, Any], needed: set[str], where: str) -> None:
     for name in sorted(needed - found.keys()):
         raise TableError(f"{where} lacks {name}")
-    for name in sorted(found.keys() - needed - more):
+    for name in sorted(found.keys() - needed):
         raise TableError(f"{where} has {name}, which means nothing here")

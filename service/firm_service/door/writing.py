@@ -41,7 +41,7 @@ frontend tenants
     use_backend %[ssl_c_s_dn(cn),map({map},none)]:%[ssl_c_s_dn(cn)]
     default_backend none
 
-# No such tenant, or it is on its way to another shard: the connection is closed. Names have no colon.
+# No such tenant: the connection is closed. Names have no colon.
 backend none
 """
 # firmd refuses an operator's line at a tenant's socket by itself, and only where it leads: followers don't listen. It
@@ -126,9 +126,9 @@ def read_map(path: Path) -> dict[str, str]:
 
 
 def map_text(table: Table, now: dict[str, str]) -> str:
-    """Where each tenant is: as it was, nowhere too, or where it begins."""
+    """Where each tenant is: as it was, or where it begins."""
     return "".join(
-        f"{tenant} {now[tenant] if now.get(tenant) in (*shards, NOWHERE) else shards[0]}\n"
+        f"{tenant} {now[tenant] if now.get(tenant) in shards else shards[0]}\n"
         for tenant, shards in table.tenants.items()
     )
 

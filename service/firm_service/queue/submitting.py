@@ -1,11 +1,10 @@
-"""firm-submit: submits work to a queue from a script, and prints the number of each submission alone."""
+"""Submissions of the command line or of a file, as `firmctl submit` sends them."""
 
 from __future__ import annotations
 
 import argparse
 import json
 import os
-import signal
 import sys
 from collections.abc import Callable, Iterable, Iterator, Mapping
 from dataclasses import dataclass, fields
@@ -13,22 +12,20 @@ from functools import partial
 from pathlib import Path
 from typing import Any
 
-from ..command_line import NO_SERVICE, NOT_THERE, USAGE, Failure, add_queue, in_pipe, parsed
-from ..version import add_version
+from ..command_line import NO_SERVICE, NOT_THERE, USAGE, Failure
 from . import forms
 from .client import PATIENCE, NotThere, Queue, Refused, Submission, Submitted
 
-EXITS = """\
+SUBMIT_NOTE = """\
+FILE has an object of JSON on each line, as {"label": "prepare", "command": ["./prepare.sh"], "time": "2h"} and then
+{"command": ["./train.sh"], "array": "1-500", "after": ["@prepare"]}. Its fields have the names of the options, and
+the options are what a line leaves out. All lines are taken, or none.
+
 exit statuses:
   0  it is submitted: what is printed is on the queue's disk
   1  the queue refuses it, and has taken none of it
   2  the command line, or the file
   3  no queue answers; it may have been taken: submit it with the same --key again"""
-FILE_HELP = """\
-FILE has an object of JSON on each line, as {"label": "prepare", "command": ["./prepare.sh"], "time": "2h"} and then
-{"command": ["./train.sh"], "array": "1-500", "after": ["@prepare"]}. Its fields have the names of the options, and
-the options are what a line leaves out. All lines are taken, or none.
-"""
 ABSENT: tuple[Any, ...] = (None, [], {})  # values of options that are not given
 
 
@@ -105,6 +102,11 @@ def add_options(parser: argparse.ArgumentParser) -> None:
     parser.add_argument("--dir", metavar="DIR", help="where it runs (default: the current folder)")
     told = "a text that stands for this submission alone: it is taken once, however often it is sent"
     parser.add_argument("--key", metavar="TEXT", help=told)
+    parser.add_argument("--file", metavar="FILE", help="submit what a file has; - is standard input")
+    told = "for which a queue that does not answer is tried again (default: %(default)g seconds)"
+    kind = partial(typed_text, forms.seconds_of)
+    parser.add_argument("--patience", type=kind, default=PATIENCE, metavar="TIME", help=told)
+    parser.add_argument("command", nargs="*", metavar="COMMAND", help="what is run, behind --")
 
 
 def given_of(options: argparse.Namespace) -> dict[str, Any]:
@@ -204,41 +206,5 @@ def queue_path(options: argparse.Namespace) -> str:
     return str(path)
 
 
-def parser() -> argparse.ArgumentParser:
-    found = argparse.ArgumentParser(
-        prog="firm-submit",
-        usage="firm-submit [options] -- COMMAND [WORD ..]\n       firm-submit [options] --file FILE",
-        description=(__doc__ or "").replace("firm-submit: s", "S"),
-        epilog=f"{FILE_HELP}\n{EXITS}",
-        formatter_class=argparse.RawDescriptionHelpFormatter,
-    )
-    add_version(found)
-    add_queue(found, None)
-    add_options(found)
-    found.add_argument("--file", metavar="FILE", help="submit what a file has; - is standard input")
-    told = "for which a queue that does not answer is tried again (default: %(default)g seconds)"
-    found.add_argument(
-        "--patience", type=partial(typed_text, forms.seconds_of), default=PATIENCE, metavar="TIME", help=told
-    )
-    found.add_argument("command", nargs="*", metavar="COMMAND", help="what is run, behind --")
-    return found
-
-
 def ids(found: Iterable[Submitted]) -> Iterator[str]:
     return (submitted.id for submitted in found)
-
-
-def main() -> int:
-    return in_pipe(run)
-
-
-def run() -> int:
-    options = parsed(parser())
-    try:
-        print("\n".join(ids(submit(options))))
-    except Failure as failure:
-        print(f"firm-submit: {failure}", file=sys.stderr)
-        return failure.status
-    except KeyboardInterrupt:
-        return 128 + signal.SIGINT
-    return 0

@@ -303,10 +303,8 @@ def add_verbs(verbs: Verbs) -> None:
 
 
 def add_work(verbs: Verbs) -> None:
-    command = verbs.add("submit", submit, "submit a command, and print the number of the submission")
-    submitting.add_options(command)
-    command.add_argument("command", nargs="+", metavar="COMMAND", help="what is run, behind --")
-    command.set_defaults(file=None, patience=PATIENCE)
+    told = "submit a command, or those of a file, and print the number of each submission"
+    submitting.add_options(verbs.add("submit", submit, told, submitting.SUBMIT_NOTE))
     told = "tasks that have not ended, each with its state and the reason for it"
     command = verbs.add("ps", over_queue(ps), told, START_NOTE)
     command.add_argument("task", nargs="*", metavar="TASK", help="only these")

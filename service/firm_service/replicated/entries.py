@@ -9,8 +9,7 @@
     replies         LINES DIGEST: of the leader's replies to the first LINES lines, see digests.py
     found/NAME      LINES BYTES: of the replica NAME's own journal, as long as there is no state
     kept/NAME       TOKEN BYTES TIME: how far the disk of the replica NAME has the lines, and since when
-    moving          of the tenant that is held, as it moves (moves.py); empty where none is
-    snapshot        MOVE BYTES DIGEST: from where a late replica goes on, see offers.py
+    snapshot        BYTES DIGEST: from where a late replica goes on, see offers.py
     chunks/DIGEST/N its text
 
 OFFSET is the byte of all lines at which an entry begins, CHAIN the CRC-32 of all lines before it: so a journal of
@@ -36,8 +35,8 @@ COPY = "copy the state's folder of another replica, which is stopped meanwhile"
 class Keys:
     def __init__(self, prefix: str) -> None:
         self.all = prefix.encode() + b"/"
-        self.state, self.roster, self.leader, self.digest, self.moving, self.snapshot = [
-            self.all + name for name in (b"state", b"roster", b"leader", b"replies", b"moving", b"snapshot")
+        self.state, self.roster, self.leader, self.digest, self.snapshot = [
+            self.all + name for name in (b"state", b"roster", b"leader", b"replies", b"snapshot")
         ]
         self.lines, self.kept, self.chunks = self.all + b"lines/", self.all + b"kept/", self.all + b"chunks/"
         self.restored, self.found = self.all + b"restored/", self.all + b"found/"

@@ -10,7 +10,6 @@ import os
 import time
 from collections.abc import Callable, Iterator, Sequence
 from dataclasses import dataclass
-from pathlib import Path
 from threading import Event
 from zlib import crc32
 
@@ -26,7 +25,6 @@ from .faults import Anew
 from .housekeeper import Housekeeper
 from .housekeeper import Journal as KeptJournal
 from .lease import Lease
-from .offers import offer_of
 from .point import Point, Position
 from .renewal import is_late
 from .shared import Shared
@@ -125,7 +123,6 @@ class ReplicatedJournal:
         keys, size = self._keys, self._position.size
         known = self._store.range(keys.digest)
         before = self._store.range(keys.lines, keys.entry(size) + b"\0", limit=1, is_last_first=True)
-        self._require_tenants()
         if before.found:
             yield from self._take(before.found[0])
         elif is_late(self._store, keys, self._agreed, size):
@@ -134,7 +131,6 @@ class ReplicatedJournal:
             self._require_begin()
         while True:
             rows = self._store.range(keys.entry(self._position.size), after(keys.lines), limit=ENTRIES)
-            self._require_tenants()
             for row in rows.found:
                 yield from self._take(row)
             if not rows.found:
@@ -153,12 +149,6 @@ class ReplicatedJournal:
         if own.size < begin.size:
             Entry(0, begin.size, begin.chain, 0, []).left(own)
 
-    def _require_tenants(self) -> None:
-        """Asks that no tenant has come, by the snapshot that stands in etcd, that firm lacks here."""
-        offer = offer_of(self._store, self._keys)
-        if offer is not None and offer.is_another_than(self._own.state.joined):
-            raise Anew("a tenant has come from another service")
-
     def _take(self, row: Row) -> Iterator[Piece]:
         """An entry, or what is left of it, into the own files."""
         entry = Entry.read(self._keys.offset(row.key), row.value)
@@ -167,7 +157,7 @@ class ReplicatedJournal:
             text = b"".join([batch.text for batch in batches])
             place = self._own.append(batches, copied=entry.time)
             self._position = self._position.behind(text)
-            yield Piece(text, text.count(b"\n"), place, None, frozenset(), frozenset())
+            yield Piece(text, text.count(b"\n"), place, None, frozenset())
 
     def _follow(self) -> Iterator[Piece]:
         """Entries as they come, until the leader's key goes."""
@@ -182,8 +172,6 @@ class ReplicatedJournal:
                         yield from self._take(Row(key, value, 0))
                 elif value is not None and key == keys.digest:
                     self.digests.compare(Digest.read(value))
-                elif value is not None and key == keys.snapshot:
-                    self._require_tenants()  # the change may be an old one, as above
             if self._is_stopping.is_set():
                 return
 
@@ -262,9 +250,6 @@ class ReplicatedJournal:
     def keep_refused(self, numbers: list[int]) -> None:
         """Others may have had the memory, and would answer otherwise: so nothing is answered here."""
         raise Fault(Exit.FIRM, f"memory was refused to line {numbers[0]}: another replica answers what follows")
-
-    def place_of(self, number: int) -> tuple[Path, int]:
-        return self._own.place_of(number)
 
     def close(self) -> None:
         self.leave()

@@ -1,14 +1,13 @@
-"""Snapshots in etcd: what a replica goes on from that comes late, or lacks a tenant of another service.
+"""Snapshots in etcd: what a replica that comes late goes on from.
 
-No lines make a tenant that came by a move (moves.py), so all replicas go on from one state that has it. The leader puts
-that state there with its fence: from then on the tenant has come. Each other replica, and the leader too where it ended
-meanwhile, begins anew from it, behind the lines that it stands for; so etcd keeps all lines from there on.
+The leader puts its state there with its fence. A replica that lacks lines which etcd has no more begins anew from it,
+after the lines that it stands for; so etcd keeps all lines from there on.
 
-    MOVE BYTES DIGEST
+    BYTES DIGEST
 
-is the key `snapshot`: the move by which a tenant came last, or `-`; the bytes of all lines up to there; and the digest
-of the text, which stands in chunks. The text is compressed: the file that tells of a joined state (joined.py), by its
-length in bytes as the first line, and the state. Its books have the point of a replica there (point.py).
+is the key `snapshot`: the bytes of all lines up to there, and the digest of the text, which stands in chunks. The text
+is compressed: the file that names such a state (renewed.py), by its length in bytes as the first line, and the state.
+Its books have the point of a replica there (point.py).
 """
 
 from __future__ import annotations
@@ -17,40 +16,37 @@ import zlib
 from typing import NamedTuple
 
 from ..faults import Exit, Fault
-from ..joined import Joined, parsed
 from ..states import digest
 from .chunks import read_chunks
 from .entries import Keys
+from .renewed import Renewed, parsed
 from .store import Store
 
 LEVEL = 1  # of compression: a state's text is a tenth then
-NO_MOVE = "-"
+REMOVE = "remove it by `etcdctl del`, and start the replica that has most lines first"
 TRIES = 5  # to read an offer, while others take its place
 
 
 class Offer(NamedTuple):
-    move: str
     size: int  # bytes of all lines that the state stands for
     digest: str
 
     @classmethod
-    def of(cls, joined: Joined, text: bytes) -> Offer:
-        return cls(joined.move or NO_MOVE, joined.base.size, digest(text))
+    def of(cls, renewed: Renewed, text: bytes) -> Offer:
+        return cls(renewed.base.size, digest(text))
 
     @classmethod
     def read(cls, value: bytes) -> Offer:
         try:
-            move, size, kept = value.decode().split()
-            return cls(move, int(size), kept)
+            size, kept = value.decode().split()
+            return cls(int(size), kept)
         except ValueError as error:
-            raise Fault(Exit.JOURNAL, f"the snapshot in etcd is damaged: {value[:60]!r}") from error
+            raise Fault(
+                Exit.JOURNAL, f"the key `snapshot` in etcd is damaged, or an older firmd's: {value[:60]!r}; {REMOVE}"
+            ) from error
 
     def text(self) -> bytes:
-        return f"{self.move} {self.size} {self.digest}".encode()
-
-    def is_another_than(self, joined: Joined | None) -> bool:
-        """Whether a tenant has come that a replica lacks, by what that goes on from."""
-        return self.move not in (NO_MOVE, joined.move if joined is not None else None)
+        return f"{self.size} {self.digest}".encode()
 
 
 def offer_of(store: Store, keys: Keys) -> Offer | None:
@@ -58,22 +54,22 @@ def offer_of(store: Store, keys: Keys) -> Offer | None:
     return next((Offer.read(row.value) for row in store.range(keys.snapshot).found), None)
 
 
-def packed(joined: Joined, state: bytes) -> bytes:
+def packed(renewed: Renewed, state: bytes) -> bytes:
     """The text in chunks."""
-    told = joined.text()
-    return zlib.compress(b"%d\n%b%b" % (len(told), told, state), LEVEL)
+    named = renewed.text()
+    return zlib.compress(b"%d\n%b%b" % (len(named), named, state), LEVEL)
 
 
-def unpacked(text: bytes) -> tuple[Joined, bytes]:
+def unpacked(text: bytes) -> tuple[Renewed, bytes]:
     """Raises ValueError where it is no such text."""
     length, _, rest = zlib.decompress(text).partition(b"\n")
-    joined, state = parsed(rest[: int(length)]), rest[int(length) :]
-    if joined is None or len(state) != joined.length or digest(state) != joined.digest:
+    renewed, state = parsed(rest[: int(length)]), rest[int(length) :]
+    if renewed is None or len(state) != renewed.length or digest(state) != renewed.digest:
         raise ValueError("it is not what was written")
-    return joined, state
+    return renewed, state
 
 
-def fetch(store: Store, keys: Keys) -> tuple[Joined, bytes]:
+def fetch(store: Store, keys: Keys) -> tuple[Renewed, bytes]:
     """What is offered: what the state stands for, with its text."""
     why: object = "there is none"
     for _ in range(TRIES):

@@ -7,10 +7,10 @@ from collections.abc import Sequence
 from typing import Any, NamedTuple
 from zlib import crc32
 
-from ..joined import Joined
 from ..records import Base
 from ..snapshots import Snapshot
 from .digests import Chain, Digest
+from .renewed import Renewed
 
 KEY = "replica"  # in what a snapshot has beside the state
 
@@ -48,18 +48,16 @@ class Point:
 
 def point_of(snapshot: Snapshot) -> Point | None:
     """That behind a snapshot; None where it was made of a service that was alone."""
-    return point_at(snapshot.base, json.loads(snapshot.books))
+    kept = json.loads(snapshot.books).get(KEY)
+    return point_at(snapshot.base, kept) if kept is not None else None
 
 
-def opening_point(joined: Joined | None) -> Point | None:
-    """That of what a start without a snapshot goes on from; None where a tenant joined a service that was alone."""
-    return Point() if joined is None else point_at(joined.base, joined.books)
+def opening_point(renewed: Renewed | None) -> Point:
+    """Return the point of a start without a snapshot."""
+    return Point() if renewed is None else point_at(renewed.base, renewed.books[KEY])
 
 
-def point_at(base: Base, books: dict[str, Any]) -> Point | None:
-    kept = books.get(KEY)
-    if kept is None:
-        return None
+def point_at(base: Base, kept: dict[str, Any]) -> Point:
     replies = [reply.encode("ascii") for reply in kept["replies"]]
     last = Digest(base.lines - len(replies), kept["digest"])
     return Point(Position(base.lines, base.size, kept["chain"]), last, replies)

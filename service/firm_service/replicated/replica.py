@@ -19,7 +19,7 @@ from .beginning import Length, agree, agreed_of, beginning_of, compare_lengths
 from .entries import Agreed, Keys, another_history
 from .etcd import Access, Denied, Etcd, EtcdError, Full, Unfit
 from .journal import FULL, Link, ReplicatedJournal, position_of
-from .point import Point, Position, opening_point
+from .point import Point, Position
 from .renewal import renew
 
 START_SECONDS = 10.0  # for an answer of etcd at a start
@@ -69,9 +69,6 @@ class Replica:
 
     def begin(self, state: State, firm: Sequence[str]) -> bytes:
         """What the state goes on from, which is etcd's where that has one."""
-        if opening_point(state.joined) is None:
-            told = f"a tenant has joined {state.folder} from another service, while it had no replicas"
-            raise Fault(Exit.STATE, f"{told}: begin them with its state, by `firm-journal state` and --restore")
         try:
             self._reach()
             self._agreed = agreed_of(self._etcd, self._keys)
@@ -87,7 +84,7 @@ class Replica:
                 renew(self._etcd, self._keys, state, self._agreed)
         except EtcdError as error:
             raise fault_of(error) from error
-        return text if state.joined is None else state.read_opening()
+        return text if state.renewed is None else state.read_opening()
 
     def open(self, own: Journal, begin: Point) -> ReplicatedJournal:
         """The replicated journal over the own files, which begin there; etcd goes on from these, where it has nothing

@@ -1,21 +1,21 @@
-"""What a leader has in common with who follows it, beside lines: the tenant that is held, and snapshots."""
+"""A leader's snapshots in etcd, for replicas that come late."""
 
 from __future__ import annotations
 
 import time
-from collections.abc import Callable, Sequence
+from collections.abc import Callable
 from contextlib import AbstractContextManager
 from threading import Lock
 from typing import TypeVar
 
 from ..faults import Exit, Fault
-from ..joined import Joined
 from .chunks import others_of, put_chunks
 from .entries import Keys
-from .etcd import Condition, EtcdError, Put, Span, after
+from .etcd import Condition, EtcdError, Put, after
 from .faults import NotLeading
 from .housekeeper import Housekeeper
 from .offers import Offer, offer_of, packed
+from .renewed import Renewed
 from .store import Store
 
 Result = TypeVar("Result")
@@ -29,27 +29,10 @@ class Shared:
     def __init__(self, store: Store, keys: Keys, epoch: Callable[[], int], housekeeper: Housekeeper) -> None:
         self._store, self._keys, self._epoch, self._housekeeper = store, keys, epoch, housekeeper
         self._lock = Lock()
-        self._offered: Offer | None = None  # whose chunks are there
 
     @property
     def leads(self) -> bool:
         return self._epoch() > 0
-
-    # The tenant that is held.
-
-    def read(self) -> bytes:
-        with self._lock:
-            found = self._patiently(lambda: self._store.range(self._keys.moving)).found
-        return found[0].value if found else b""
-
-    def write(self, text: bytes) -> None:
-        self._transact([Put(self._keys.moving, text)])
-
-    def require_current(self) -> None:
-        """Asks that no other one leads."""
-        self._transact([])
-
-    # Snapshots.
 
     def keeping(self, size: int) -> AbstractContextManager[None]:
         """Has etcd keep all lines behind these bytes meanwhile, as far as it has them."""
@@ -61,22 +44,18 @@ class Shared:
             first = self._patiently(lambda: self._store.range(self._keys.lines, after(self._keys.lines), limit=1)).found
         return not first or self._keys.offset(first[0].key) <= size
 
-    def offer(self, joined: Joined, state: bytes) -> None:
-        """Puts a state into etcd, of which `commit` tells."""
-        if not self.has_lines(joined.base.size):
-            raise Fault(Exit.STATE, f"the lines behind byte {joined.base.size:,} are gone from etcd")
-        text = packed(joined, state)
+    def offer(self, renewed: Renewed, state: bytes) -> None:
+        """Puts a state into etcd, from which late replicas go on. If this raises, it may be there all the same."""
+        if not self.has_lines(renewed.base.size):
+            raise Fault(Exit.STATE, f"the lines behind byte {renewed.base.size:,} are gone from etcd")
+        text = packed(renewed, state)
+        offer = Offer.of(renewed, text)
+        puts, gone = [Put(self._keys.snapshot, offer.text())], others_of(self._keys.chunks, offer.digest)
         with self._lock:
             if not self._patiently(lambda: put_chunks(self._store, self._keys.chunks, self._condition(), text)):
                 raise NotLeading
-        self._offered = Offer.of(joined, text)
-
-    def commit(self) -> None:
-        """Has all replicas that lack a tenant go on from what was offered. Where this raises, that may be done."""
-        if self._offered is None:
-            raise ValueError("nothing was offered")
-        offer, self._offered = self._offered, None
-        self._transact([Put(self._keys.snapshot, offer.text())], others_of(self._keys.chunks, offer.digest))
+            if not self._patiently(lambda: self._store.transact([self._condition()], puts, gone)).is_done:
+                raise NotLeading
 
     def is_due(self, size: int) -> bool:
         """Whether a snapshot of these bytes of lines is to take the place of the one in etcd, behind which all lines
@@ -88,11 +67,6 @@ class Shared:
 
     def _condition(self) -> Condition:
         return Condition(self._keys.leader, made=self._epoch())
-
-    def _transact(self, puts: Sequence[Put], gone: Sequence[Span] = ()) -> None:
-        with self._lock:
-            if not self._patiently(lambda: self._store.transact([self._condition()], puts, gone)).is_done:
-                raise NotLeading
 
     def _patiently(self, ask: Callable[[], Result]) -> Result:
         ends = time.monotonic() + PATIENCE
