@@ -3,8 +3,9 @@
 usage: tools/run tests/live.py [--program FILE] [--under COMMAND] [--only WORDS] [--streams N] [--first SEED]
 With 1, 2 and 8 workers: random streams get the same replies line by line as in one go. During long rounds more of
 another tenant's lines go in than a pipe holds; their replies follow in order. Meanwhile the output closes (status 5),
-the input ends (all replies, status 0), a terminal hangs up (status 4), and the program is stopped and continued. It has
-two threads more than workers, and one less if the thread that reads ahead can't be started.
+the input ends (all replies, status 0), a terminal hangs up (status 4), and the program is stopped and continued. While
+it waits it takes no processor time. It has two threads more than workers, and one less if the thread that reads ahead
+can't be started.
 
 Each check has a line, and the exit status is 1 where one failed. It needs a C compiler (cc) for refuse.c, which makes a
 round as long as a check wants it.
@@ -50,6 +51,8 @@ DELAY_SECONDS, HOLD_SECONDS = 0.3, 120
 AT_ONCE_SECONDS = 20
 # A pause in which the service has gone to sleep.
 PAUSE_SECONDS = 0.05
+# For how long a service waits that then has taken next to no processor time.
+IDLE_SECONDS = 0.4
 # More than a pipe holds, in fewer lines than answers are held.
 LINES_MEANWHILE, LINE_BYTES = 1000, 250
 
@@ -154,6 +157,22 @@ def lines_during_a_round(starter: Starter, workers: str) -> None:
         require(client.close() == (0, b"", b""), "its end")
 
 
+def idle(starter: Starter, workers: str) -> None:
+    """A service that waits for input or for a round sleeps."""
+    with program.Roster(ROSTER) as roster_path, starter.held_client(roster_path, workers) as client:
+        add_rows(client)
+        for awaited, line in (("input", b""), ("a round", b"alpha round\n")):
+            client.send(line)
+            time.sleep(PAUSE_SECONDS)
+            before = client.processor_seconds()
+            time.sleep(IDLE_SECONDS)
+            used = client.processor_seconds() - before
+            require(used < IDLE_SECONDS / 4, f"{used:.2f} processor seconds while it waits for {awaited}")
+        starter.let_go()
+        require(client.reply() == FIRST_ROUND, "the round's reply")
+        require(client.close() == (0, b"", b""), "its end")
+
+
 def closed_output(starter: Starter, workers: str, line: bytes) -> None:
     """Where nobody reads the replies any more the service ends with the next one, while its input is still open."""
     with program.Roster(ROSTER) as roster_path, starter.client(roster_path, workers) as client:
@@ -255,6 +274,7 @@ def checks(starter: Starter) -> Iterator[tuple[str, Check]]:
             "line by line": line_by_line,
             "lines during a round": lines_during_a_round,
             "threads": threads,
+            "idle": idle,
             "closed output, a line": partial(closed_output, line=b"alpha show\n"),
             "closed output, a round": partial(closed_output, line=b"alpha round\n"),
             "closed output while a round is solved": closed_meanwhile,
