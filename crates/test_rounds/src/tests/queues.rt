@@ -6,7 +6,7 @@ ghost use Rattle.std.specs.Thread.{IsSync};
 
 use super::check;
 use super::trays::{asked, look};
-use Step::{Gets, Misses, Puts};
+use Step::{Gets, HasRoom, Misses, Puts, WasFull};
 use firm_rounds::{Job, PopPass, PutPass, Queue, QueueFault, finish_all};
 use firm_rules::Ticket;
 use firm_tray::AskSide;
@@ -48,6 +48,10 @@ enum Step {
     Misses,
     // This ticket is got. Its round is back then, and not before.
     Gets(Ticket),
+    // Whether the queue has room for one more.
+    HasRoom(bool),
+    // Whether it was full until the last ticket was got.
+    WasFull(bool),
 }
 
 // Steps in turn, and the tickets that are left where the queue is closed behind them.
@@ -66,12 +70,37 @@ const A2: Ticket = Ticket {
     number: 2,
 };
 
+const A3: Ticket = Ticket {
+    place: 0,
+    number: 3,
+};
+
+const A4: Ticket = Ticket {
+    place: 0,
+    number: 4,
+};
+
+const A5: Ticket = Ticket {
+    place: 0,
+    number: 5,
+};
+
 const B1: Ticket = Ticket {
     place: 1,
     number: 1,
 };
 
-static SCRIPTS: [Script; 3] = [
+const B2: Ticket = Ticket {
+    place: 1,
+    number: 2,
+};
+
+const B3: Ticket = Ticket {
+    place: 1,
+    number: 3,
+};
+
+static SCRIPTS: [Script; 4] = [
     Script {
         steps: &[Puts(0), Puts(1), Gets(A1), Gets(B1), Misses],
         left: &[],
@@ -83,6 +112,30 @@ static SCRIPTS: [Script; 3] = [
     Script {
         steps: &[Misses, Puts(1), Puts(0), Puts(0), Gets(B1)],
         left: &[A1, A2],
+    },
+    // It has room for eight.
+    Script {
+        steps: &[
+            Puts(0),
+            Puts(0),
+            Puts(1),
+            Puts(1),
+            Puts(1),
+            Puts(0),
+            Puts(0),
+            HasRoom(true),
+            Puts(0),
+            HasRoom(false),
+            Gets(A1),
+            WasFull(true),
+            HasRoom(true),
+            Gets(A2),
+            WasFull(false),
+            Gets(B1),
+            Gets(B2),
+            Gets(B3),
+        ],
+        left: &[A3, A4, A5],
     },
 ];
 
@@ -141,6 +194,8 @@ fn take_steps<R: Alloc<A = Global> + Abort + Wait>(
             }
             Misses => check(rt, serve(rt, alloc, queue, pass).is_none(), "no ticket"),
             Gets(ticket) => expect_got(rt, queue, pass, &mut sides, *ticket),
+            HasRoom(wanted) => check(rt, queue.has_room() == *wanted, "room for one more"),
+            WasFull(wanted) => check(rt, pass.was_full() == *wanted, "a queue that was full"),
         }
     }
 }
