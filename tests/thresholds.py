@@ -264,8 +264,10 @@ def wait_until_still(asked: Callable[[], int]) -> int:
     return before
 
 
-def behind_a_held_round(starter: Starter, place: int) -> int:
-    """Return the number of memory requests of three rounds of this place while the first place's round is held."""
+def behind_a_held_round(starter: Starter, place: int, tasks: str = "abc") -> int:
+    """Return the number of memory requests of a round of this place for each task, one after the other, while the first
+    place's round is held.
+    """
     roster = HEADING + b"".join(row(f"t{other}", 9, 20, LIFE, 0, 0) for other in PLACES)
     name = f"t{place}"
     with program.Roster(roster) as path, starter.held_client(path) as (client, hold, asked):
@@ -273,12 +275,12 @@ def behind_a_held_round(starter: Starter, place: int) -> int:
         client.send(b"t0 round\n")
         wait_until_still(asked)
         before = asked()
-        rounds = [f"{name} round\n{name} done {task}\n{name} task j {after}\n" for task, after in zip("abc", "bca")]
+        rounds = [f"{name} round\n{name} done {task}\n{name} task j {after}\n" for task, after in zip(tasks, "bca")]
         client.send("".join(rounds).encode())
         behind = wait_until_still(asked) - before
         hold.unlink()
         require(client.reply() == b"t0 4 ok round cost 0 start a m", "the reply to the first")
-        for number, task in enumerate(b"abc"):
+        for number, task in enumerate(tasks.encode()):
             replies = [client.reply() for _ in range(3)]
             texts = [b"ok round cost 0 start %c m" % task, b"ok", b"ok"]
             wanted = [b"t%d %d %s" % (place, 3 * number + 4 + at, text) for at, text in enumerate(texts)]
@@ -289,8 +291,9 @@ def behind_a_held_round(starter: Starter, place: int) -> int:
 
 def all_places(starter: Starter) -> None:
     """While a round is held, the rounds and commands of each other place go on alike, up to the last."""
+    alone = behind_a_held_round(starter, 1, "a")
     second = behind_a_held_round(starter, 1)
-    require(second > 0, "nothing went on")
+    require(0 < 2 * alone < second, f"{second} memory requests of three rounds, and {alone} of one")
     for place in (31, 32, 63):
         found = behind_a_held_round(starter, place)
         require(found == second, f"{found} memory requests at place {place}, and {second} at the second")
