@@ -1,10 +1,10 @@
 """Run the built program at its limits, to find faults that small inputs miss.
 
 usage: tools/run tests/thresholds.py [--program FILE] [--under COMMAND] [--only WORDS]
-The longest roster and the longest states, rounds of 3,000 tasks on 1,000 machines, 200,000 rounds of one worker, two
-megabytes of held rounds, and rounds of the last place behind one that is held. The plain service judges, or what any
-right placement has. Each check has a line, and the exit status is 1 where one failed. It needs a C compiler (cc) for
-refuse.c, which holds a round.
+The longest roster and the longest states, rounds of 3,000 tasks on 1,000 machines, 200,000 rounds of one worker, six
+megabytes of rounds behind one that is held, and rounds of the last place behind one. The plain service judges, or what
+any right placement has. Each check has a line, and the exit status is 1 where one failed. It needs a C compiler (cc)
+for refuse.c, which holds a round.
 """
 
 from __future__ import annotations
@@ -37,8 +37,9 @@ MACHINES, TASKS = 1_000, 3_000
 ROUNDS = 200_000
 # Before each multiple of this, rounds are sent one by one to a service that sleeps.
 PAUSED_AT, PAUSED, PAUSE_SECONDS = 100_000, 8, 0.02
-# Full rounds that are held, each with some 130,000 bytes of changes.
-HELD_ROUNDS = 16
+# Full rounds that are held, each with some 120,000 bytes of changes. Once 4,000,000 are held, eight rounds more are in
+# the queue and two are being solved; no other one is asked for meanwhile.
+HELD_ROUNDS, MOST_SOLVED = 55, 45
 HOLD_SECONDS, SOON_SECONDS = 60, 30
 STARTED = re.compile(rb"full (\d+) ok round cost (\d+)((?: start \S+ \S+)+)")
 
@@ -219,7 +220,7 @@ def burst(client: program.Client, number: int, count: int) -> int:
 
 
 def held_rounds(starter: Starter) -> None:
-    """Two megabytes of full rounds behind one that is held are written, all of them, once it is let go."""
+    """Of full rounds behind one that is held as many are solved as may be held, and all once it is let go."""
     names = [f"t{place}" for place in range(HELD_ROUNDS)]
     roster = HEADING + row("first", 9, 20, LIFE, 0, 0)
     roster += b"".join(row(name, MAX_NODES, MAX_ARCS, LIFE, 0, 0) for name in names)
@@ -227,8 +228,9 @@ def held_rounds(starter: Starter) -> None:
     with program.Roster(roster) as path, starter.held_client(path) as (client, hold, asked):
         rows = [line for name in names for line in full_rows(name, slots, TASKS)]
         require(ask_all(client, [*small_rows("first"), *rows]), "a row was refused")
+        before = asked()
         client.send(b"first round\n" + b"".join(b"%s round\n" % name.encode() for name in names))
-        wait_until_still(asked)
+        solved = wait_until_still(asked) - before
         hold.unlink()
         require(client.reply() == b"first 4 ok round cost 0 start a m", "the reply to the first")
         for name in names:
@@ -237,6 +239,8 @@ def held_rounds(starter: Starter) -> None:
                 reply.startswith(b"%s %d ok round cost 0 start " % (name.encode(), len(slots) + TASKS + 2)), reply[:99]
             )
             require(reply.count(b" start ") == TASKS, f"{name}: {reply.count(b' start ')} tasks start")
+        whole = asked() - before
+        require(solved * HELD_ROUNDS < MOST_SOLVED * whole, f"{solved} of {whole} memory requests while a round is held")
         require(client.close() == (0, b"", b""), "its end")
 
 

@@ -310,9 +310,81 @@ static LATE: Scene = Scene {
     fault: None,
 };
 
+// Two rounds are held, and the queue is full: another one of the last tenant waits for room, as the last of the others
+// do, and the service does not wait with it.
+static LATE_BEHIND_A_FULL_QUEUE: Scene = Scene {
+    records: "\
+b,2,0,9,0,0
+c,2,0,9,0,0
+x01,2,0,9,0,0
+x02,2,0,9,0,0
+x03,2,0,9,0,0
+x04,2,0,9,0,0
+x05,2,0,9,0,0
+x06,2,0,9,0,0
+x07,2,0,9,0,0
+x08,2,0,9,0,0
+x09,2,0,9,0,0
+x10,2,0,9,0,0
+x11,2,0,9,0,0
+x12,2,0,9,0,0
+a,2,0,9,0,0",
+    workers: 2,
+    most: MOST_INPUT,
+    input: b"\
+b round
+a round
+a round
+c round
+x01 round
+x02 round
+x03 round
+x04 round
+x05 round
+x06 round
+x07 round
+x08 round
+x09 round
+x10 round
+x11 round
+x12 round
+",
+    more: More {
+        times: 0,
+        again: b"",
+        last: &[b"b\n"],
+        comes: Comes::Brought,
+    },
+    held: 2,
+    until: &[Until::Come(3), Until::Waits, Until::Read(2)],
+    lines: 17,
+    text: b"\
+b 1 ok round cost 0
+a 1 ok round cost 0
+a 2 ok round cost 0
+c 1 ok round cost 0
+x01 1 ok round cost 0
+x02 1 ok round cost 0
+x03 1 ok round cost 0
+x04 1 ok round cost 0
+x05 1 ok round cost 0
+x06 1 ok round cost 0
+x07 1 ok round cost 0
+x08 1 ok round cost 0
+x09 1 ok round cost 0
+x10 1 ok round cost 0
+x11 1 ok round cost 0
+x12 1 ok round cost 0
+b 2 no 2 bad-command
+",
+    rounds: 16,
+    fault: None,
+};
+
 #[test]
 fn input_that_comes_while_a_round_is_held_is_read(rt: HostRuntime) {
     play(&rt, &LATE);
+    play(&rt, &LATE_BEHIND_A_FULL_QUEUE);
 }
 
 /// How many lines come one at a time.

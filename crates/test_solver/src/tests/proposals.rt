@@ -243,6 +243,29 @@ fn expect_no_search(rt: &impl Abort, proposer: &mut Proposer, case: &Case) {
     check(rt, work.looks() > 3 * 44, "each task is looked at");
 }
 
+// Work of which this much is allowed.
+fn allowed(searches: u64, looks: u64) -> Work {
+    Work::new(Allowance { searches, looks })
+}
+
+/// All that is allowed is made and counted. What is not is refused, and the work is then short.
+#[test]
+fn work_is_counted_up_to_what_is_allowed(rt: HostRuntime) {
+    let mut work = allowed(2, 7);
+    check(&rt, work.begin_search() && work.begin_search(), "two searches");
+    expect(&rt, work.pass(4), 4);
+    check(&rt, work.look() && !work.is_short(), "the last look");
+    expect(&rt, work.searches(), 2);
+    expect(&rt, work.looks(), 7);
+    let mut work = allowed(1, 1);
+    expect(&rt, work.pass(2), 0);
+    check(&rt, work.is_short() && work.look(), "a pass is refused");
+    let mut work = allowed(1, 0);
+    check(&rt, !work.look() && work.is_short(), "a look is refused");
+    let mut work = allowed(0, 1);
+    check(&rt, !work.begin_search() && work.is_short(), "a search is refused");
+}
+
 /// Heavier tasks that come to full machines take the places of the lightest, without a search for each.
 #[test]
 fn a_crowd_is_placed_by_few_searches(rt: HostRuntime) {
