@@ -172,13 +172,14 @@ fn expect_got<R: Alloc<A = Global> + Abort + Wait>(
     check(rt, look(side).ok() == Some(true), "the round is back");
 }
 
+// Takes the steps; returns the sides of the tickets that were put and not got.
 fn take_steps<R: Alloc<A = Global> + Abort + Wait>(
     rt: &R,
     queue: &Queue,
     puts: &mut Vec<PutPass>,
     pass: &mut PopPass,
     steps: &[Step],
-)
+) -> Vec<AskSide>
     requires puts { All (λ p. p.queue ≡ queue.now.id) puts.old.items }
     requires pass { pass.old.queue ≡ queue.now.id }
     ensures puts { All (λ p. p.queue ≡ queue.now.id) puts.new.items }
@@ -198,6 +199,7 @@ fn take_steps<R: Alloc<A = Global> + Abort + Wait>(
             WasFull(wanted) => check(rt, pass.was_full() == *wanted, "a queue that was full"),
         }
     }
+    sides
 }
 
 // The tickets of these jobs, which are finished.
@@ -252,9 +254,12 @@ fn left_of<R: Alloc<A = Global> + Abort + Wait>(
 fn play<R: Alloc<A = Global> + Abort + Wait>(rt: &R, script: &Script) {
     let (queue, mut puts, mut pops) = Queue::open(rt.alloc(), 2, 1).expect(rt, "memory");
     let pass = &mut pops[0];
-    take_steps(rt, &queue, &mut puts, pass, script.steps);
+    let sides = take_steps(rt, &queue, &mut puts, pass, script.steps);
     let left = left_of(rt, queue, puts, pops);
     check(rt, left.as_slice() == script.left, "the tickets left");
+    for side in sides {
+        check(rt, look(side).ok() == Some(true), "a round that was left is back");
+    }
 }
 
 #[test]
