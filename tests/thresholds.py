@@ -38,8 +38,8 @@ ROUNDS = 200_000
 # Before each multiple of this, rounds are sent one by one to a service that sleeps.
 PAUSED_AT, PAUSED, PAUSE_SECONDS = 100_000, 8, 0.02
 # Full rounds that are held, each with some 120,000 bytes of changes. Once 4,000,000 are held, eight rounds more are in
-# the queue and two are being solved; no other one is asked for meanwhile.
-HELD_ROUNDS, MOST_SOLVED = 55, 45
+# the queue and two are being solved; no further one is requested meanwhile.
+HELD_ROUNDS, MAX_SOLVED = 55, 45
 HOLD_SECONDS, SOON_SECONDS = 60, 30
 STARTED = re.compile(rb"full (\d+) ok round cost (\d+)((?: start \S+ \S+)+)")
 
@@ -240,7 +240,7 @@ def held_rounds(starter: Starter) -> None:
             )
             require(reply.count(b" start ") == TASKS, f"{name}: {reply.count(b' start ')} tasks start")
         whole = asked() - before
-        require(solved * HELD_ROUNDS < MOST_SOLVED * whole, f"{solved} of {whole} memory requests while a round is held")
+        require(solved * HELD_ROUNDS < MAX_SOLVED * whole, f"{solved} of {whole} memory requests behind a held round")
         require(client.close() == (0, b"", b""), "its end")
 
 

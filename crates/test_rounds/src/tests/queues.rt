@@ -258,7 +258,11 @@ fn play<R: Alloc<A = Global> + Abort + Wait>(rt: &R, script: &Script) {
     let left = left_of(rt, queue, puts, pops);
     check(rt, left.as_slice() == script.left, "the tickets left");
     for side in sides {
-        check(rt, look(side).ok() == Some(true), "a round that was left is back");
+        check(
+            rt,
+            look(side).ok() == Some(true),
+            "a round that was left is back",
+        );
     }
 }
 

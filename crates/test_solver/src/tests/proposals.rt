@@ -252,7 +252,11 @@ fn allowed(searches: u64, looks: u64) -> Work {
 #[test]
 fn work_is_counted_up_to_what_is_allowed(rt: HostRuntime) {
     let mut work = allowed(2, 7);
-    check(&rt, work.begin_search() && work.begin_search(), "two searches");
+    check(
+        &rt,
+        work.begin_search() && work.begin_search(),
+        "two searches",
+    );
     expect(&rt, work.pass(4), 4);
     check(&rt, work.look() && !work.is_short(), "the last look");
     expect(&rt, work.searches(), 2);
@@ -263,7 +267,11 @@ fn work_is_counted_up_to_what_is_allowed(rt: HostRuntime) {
     let mut work = allowed(1, 0);
     check(&rt, !work.look() && work.is_short(), "a look is refused");
     let mut work = allowed(0, 1);
-    check(&rt, !work.begin_search() && work.is_short(), "a search is refused");
+    check(
+        &rt,
+        !work.begin_search() && work.is_short(),
+        "a search is refused",
+    );
 }
 
 /// Heavier tasks that come to full machines take the places of the lightest, without a search for each.
