@@ -172,8 +172,11 @@ def full_rounds(starter: Starter) -> None:
     draw = random.Random(1)
     slots = [draw.randint(1, 64) for _ in range(MACHINES)]
     lines = [*full_rows("full", slots, TASKS), "full round\n", "full round\n", "full costs\n"]
+    text = "".join(lines).encode()
     with program.Roster(HEADING + row("full", MAX_NODES, MAX_ARCS, LIFE, 3, 7)) as path:
-        found = starter.answers(["--roster", path], "".join(lines).encode())
+        found = starter.answers(["--roster", path], text)
+        if built("firm_explain").exists():
+            require_explained(path, text, found)
     *grown, first, second, costs = found
     require(all(line.endswith(b" ok") for line in grown), "a row was refused")
     started = STARTED.fullmatch(first)
@@ -191,6 +194,14 @@ def full_rounds(starter: Starter) -> None:
     require(sum(3 * slot for load in loads for slot in range(load)) == least, "another cost than the placement has")
     require(second == b"full %d ok round cost %d" % (len(grown) + 2, least), second[:100])
     require(costs == b"full %d ok costs %d %d" % (len(grown) + 3, least, least), costs)
+
+
+def require_explained(path: str, text: bytes, replies: list[bytes]) -> None:
+    """Require that firm_explain gives these replies, and reasons after each of the two rounds."""
+    shown = program.run_words([str(built("firm_explain")), "--roster", path], text).output.splitlines()
+    require([line for line in shown if not line.startswith(b"#")] == replies, "other replies with reasons")
+    reasons = sum(line.startswith(b"# least: ") for line in shown)
+    require(reasons == 2, f"{reasons} of two rounds have reasons")
 
 
 def many_rounds(starter: Starter) -> None:
