@@ -1,10 +1,10 @@
 """Run the built program at its limits, to find faults that small inputs miss.
 
 usage: tools/run tests/thresholds.py [--program FILE] [--under COMMAND] [--only WORDS]
-The longest roster and the longest states, rounds of 3,000 tasks on 1,000 machines, 200,000 rounds of one worker, six
-megabytes of rounds behind one that is held, and rounds of the last place behind one. The plain service judges, or what
-any right placement has. Each check has a line, and the exit status is 1 where one failed. It needs a C compiler (cc)
-for refuse.c, which holds a round.
+The longest roster and the longest states, rounds of 3,000 tasks on 1,000 machines and their reasons, 200,000 rounds of
+one worker, six megabytes of rounds behind one that is held, and rounds of the last place behind one. The plain service
+judges, or what any right placement has. Each check has a line, and the exit status is 1 where one failed. It needs a C
+compiler (cc) for refuse.c, which holds a round.
 """
 
 from __future__ import annotations
