@@ -233,6 +233,7 @@ def refusals(firm: str) -> None:
             (["--reservation=r"], "reserved nodes"),
             (["--comment=a\nb"], "control characters"),
             (["-A", "a|b"], "control characters"),
+            (["--licenses=a|b"], "control characters"),
         ):
             done = place.cluster.try_run("sbatch", *words, str(script), user=USER)
             require(done.returncode != 0 and said in done.stderr, f"{words}: {done}")

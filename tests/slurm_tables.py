@@ -420,6 +420,23 @@ def sized() -> None:
         slurm.check.names_of = named
 
 
+def launched() -> None:
+    """A job is steady some seconds after it was last seen starting, however long ago Slurm allocated its node."""
+    launches, job = reading.Launches(), running("1", "m1")._replace(started=NOW - 60)
+    for seconds, state, is_steady in (
+        (0.0, STARTING, False),
+        (1.0, STARTING, False),
+        (1.5, RUNNING, False),
+        (3.9, RUNNING, False),
+        (4.0, RUNNING, True),
+        (5.0, LEAVING, False),
+        (6.0, RUNNING, True),
+    ):
+        found = launches.corrected(by_name([job._replace(state=state), running("2", "m1")]), NOW + seconds)
+        require(found["1"].is_steady(NOW + seconds) is is_steady, f"{seconds}: {found}")
+        require(found["2"] == running("2", "m1"), f"{seconds}: {found}")
+
+
 def by_name(rows: list[Any]) -> dict[str, Any]:
     return {row.name: row for row in rows}
 
@@ -690,6 +707,7 @@ CHECKS: dict[str, Check] = {
     "faulty tables": tables,
     "what check tells": checked,
     "what the hook bounds": sized,
+    "jobs that were launched late": launched,
 }
 
 

@@ -14,7 +14,7 @@ SOURCE = Path(__file__).with_name("job_submit.lua")
 
 @dataclass(frozen=True, slots=True)
 class Sizes:
-    """What slurm.conf says of partitions, by their names."""
+    """Limits that slurm.conf sets, by partition."""
 
     memory: dict[str, int] = field(default_factory=dict)  # MB of a slot, where a job's memory is limited
     cores: dict[str, int] = field(default_factory=dict)  # CPUs of a core, where Slurm gives a job whole cores

@@ -30,6 +30,11 @@ local function is_plain(text)
   return text == nil or not text:find("[%c|]")
 end
 
+-- Whether firm-slurm can read what squeue prints of a job's words.
+local function are_plain(job)
+  return is_plain(job.comment) and is_plain(job.account) and is_plain(job.qos) and is_plain(job.licenses)
+end
+
 -- Whether a request like gres:gpu:a100:2 is for more than one.
 local function is_many(request)
   for part in (request or ""):gmatch("[^,]+") do
@@ -128,8 +133,8 @@ local function why_not(job, name)
   if (job.reservation or "") ~= "" then
     return string.format("partition %s takes no jobs of a reservation: firm places none on reserved nodes", name)
   end
-  if not (is_plain(job.comment) and is_plain(job.account) and is_plain(job.qos)) then
-    return "comment, account and QOS must have no | and no control characters"
+  if not are_plain(job) then
+    return "comment, account, QOS and licences must have no | and no control characters"
   end
   return nil
 end
@@ -199,8 +204,8 @@ local function why_unchanged(job, name)
   if job.requeue == 0 then
     return "a job that firm preempts is requeued"
   end
-  if not (is_plain(job.comment) and is_plain(job.account) and is_plain(job.qos)) then
-    return "comment, account and QOS must have no | and no control characters"
+  if not are_plain(job) then
+    return "comment, account, QOS and licences must have no | and no control characters"
   end
   return nil
 end

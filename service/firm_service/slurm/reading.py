@@ -168,6 +168,21 @@ class Job(NamedTuple):
         return now + self.limit <= node.reserved
 
 
+class Launches:
+    """When jobs were last seen starting. Slurm's own time is that of the allocation, before PrologSlurmctld."""
+
+    def __init__(self) -> None:
+        self._seen: dict[str, float] = {}
+
+    def corrected(self, jobs: dict[str, Job], now: float) -> dict[str, Job]:
+        """Return the jobs, those that run with the later of the two times."""
+        running = {name for name in self._seen if name in jobs and jobs[name].state is State.RUNNING}
+        self._seen = {name: self._seen[name] for name in running}
+        found = jobs | {name: jobs[name]._replace(started=at) for name, at in self._seen.items()}
+        self._seen |= {name: now for name, job in jobs.items() if job.state is State.STARTING}
+        return found
+
+
 class Picture(NamedTuple):
     """What Slurm said at a moment."""
 
