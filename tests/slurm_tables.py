@@ -385,6 +385,15 @@ OPTIONS: dict[str, list[str]] = {
     "AuthInfo=cred_expire=600": ["AuthInfo=.. without cred_expire, or with cred_expire=120"],
     "AllowSpecResourcesUsage=NO": [],
     "AllowSpecResourcesUsage=YES": ["AllowSpecResourcesUsage=no"],
+    "SchedulerType=sched/backfill": [],
+    "SchedulerType=sched/builtin": ["SchedulerType=sched/backfill"],
+    "CompleteWait=0": [],
+    "CompleteWait=32": ["CompleteWait=0"],
+    "SchedulerParameters=partition_job_depth=0,sched_max_job_start=10000": [],
+    "SchedulerParameters=partition_job_depth=9,sched_max_job_start=9": [
+        "SchedulerParameters=.. without partition_job_depth",
+        "SchedulerParameters=.. without sched_max_job_start",
+    ],
 }
 # Lines of slurm.conf, the words of its node m1, CPUs of a slot, its MB and the CPUs of a core; 0: the hook has none.
 SIZES: list[tuple[str, str, int, int, int]] = [

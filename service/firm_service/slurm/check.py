@@ -18,6 +18,7 @@ from .table import Partition, Table, Weigh
 DEPTH = 10_000  # jobs that a cycle of Slurm's scheduler looks at: with its own 100, pinned jobs start late
 SCHEDULER = {"batch_sched_delay": (0, 0), "sched_min_interval": (1, 50_000), "sched_interval": (1, 5)}
 SCHEDULER |= {"default_queue_depth": (DEPTH, 10**9)}
+CYCLE_LIMITS = ("partition_job_depth", "sched_max_job_start")  # of jobs in a cycle; 0, Slurm's own, is no limit
 LINE = re.compile(r"\s*([A-Za-z]+)\s*=\s*(.*)", re.DOTALL)
 WORD = re.compile(r'([A-Za-z]+)=("[^"]*"|\S+)')
 MOST_INCLUDED = 100  # files
@@ -173,6 +174,17 @@ def of_options(conf: Conf) -> Iterator[Advice]:
         yield Advice(told, f"AuthInfo=.. without cred_expire, or with cred_expire={CRED_EXPIRE}")
     if conf.values.get("allowspecresourcesusage", "").lower() in YES:
         yield Advice("a job with --core-spec would take a whole node", "AllowSpecResourcesUsage=no")
+    if conf.values.get("schedulertype", "").lower() == "sched/builtin":
+        yield Advice(
+            "sched/builtin: a job that can't start keeps all later ones waiting", "SchedulerType=sched/backfill"
+        )
+    if number_of(conf.values.get("completewait", "")):
+        yield Advice("CompleteWait: no job would start while another's epilog runs", "CompleteWait=0")
+    options = conf.options("schedulerparameters")
+    for name in CYCLE_LIMITS:
+        if 0 < number_of(options.get(name, "")) < DEPTH:
+            told = f"{name}={options[name]}: decided jobs would start late"
+            yield Advice(told, f"SchedulerParameters=.. without {name}")
 
 
 def is_within(text: str | None, low: int, high: int) -> bool:
