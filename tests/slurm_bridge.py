@@ -199,7 +199,7 @@ def orders(firm: str) -> None:
         begins = place.submit(1, 1, "light", "--begin=now+12")
         wait(lambda: place.places().get(near) == "node2", "a preferred node")
         most = 0
-        while state_of(place, near) == "RUNNING" or few in str(place.cluster.squeue()):
+        while state_of(place, near) == "RUNNING" or count_of(place, few):
             running = [job for job, (state, _) in place.cluster.squeue().items() if state == "RUNNING"]
             most = max(most, sum(job.startswith(f"{few}-") for job in running))
             require(later not in running or near not in running, "a job before the one that it needs")
