@@ -148,7 +148,7 @@ def require_shown(stream: Stream, output: bytes, *words: str) -> None:
     """Asks that the checker takes each round and each word of its reasons, where there are rows by these alone too."""
     count = rounds_in(output)
     said = [judge(stream, output, *words)]
-    said += [judge_alone(output, *words)] if "--rows" in words else []
+    said += [judge_alone(output, *words)] if count and "--rows" in words else []
     require(set(said) == {f"shown first: {count} of {count} rounds"}, said)
 
 

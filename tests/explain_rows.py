@@ -206,6 +206,7 @@ def rows_of_no_state(options: Options) -> None:
             require(said.startswith("NOT SHOWN" if forged else "shown first: 1 of 1"), (forged, said))
 
 
+MARK = b"\xef\xbb\xbf"  # a byte order mark, which a roster may have and a state may not
 # Texts in a state, each with one that no state has in its place.
 FORGED_STATES: list[tuple[bytes, bytes]] = [
     (b"admissions 1", b"admissions 0"),
@@ -228,6 +229,10 @@ def states_that_are_none(options: Options) -> None:
     for old, new in FORGED_STATES:
         require(old in state, (old, state))
         require_refused(Stream(state.replace(old, new), b"alpha round\n"), found, new, "--rows")
+    with redirect_stderr(io.StringIO()):
+        for opening in (MARK + state, MARK + state.replace(b"admissions 1", b"admissions 77777")):
+            require(judge(Stream(opening, b"alpha round\n"), found, "--rows") == "2", opening)
+    require_refused(Stream(b"firm state 1\nmachine m 1\nrows 1\n", b"alpha round\n"), found, "no tenant", "--rows")
 
 
 def other_statuses(options: Options) -> None:
@@ -240,6 +245,18 @@ def other_statuses(options: Options) -> None:
         require(judge(stream, output, "--row") == "2", "part of an option's name")
         require(said_of(["--rows", "/nonexistent"]) == "2", "a missing file")
         require(judge(stream._replace(roster=b"tenant\n"), output, "--rows") == "2", "a faulty roster")
+
+
+def nothing_is_shown(options: Options) -> None:
+    """A part of an output without a round with reasons shows nothing; firm numbers commands from 1."""
+    round_alone = rounds_of(explained(options, rows_stream(), "--rows"))[-1]
+    reply, *_ = round_alone.splitlines(keepends=True)
+    require_refused_alone(b"", "an empty file")
+    require_refused_alone(b"alpha 1 ok\n", "no round")
+    require_refused_alone(reply, "a round of another tenant", "--tenant", "beta")
+    require_refused_alone(b"alpha 0 ok\n" + round_alone, "a command's number is 0")
+    require(judge_alone(b"alpha 1 ok\n" + round_alone) == "shown first: 1 of 1 rounds", "a reply and a round")
+    require(judge(rows_stream()._replace(text=b""), b"", "--rows") == "shown first: 0 of 0 rounds", "no commands")
 
 
 def one_tenant(options: Options) -> None:
@@ -264,6 +281,7 @@ def checks(options: Options) -> dict[str, Check]:
         "rows of no state": partial(rows_of_no_state, options),
         "states that are none": partial(states_that_are_none, options),
         "other statuses": partial(other_statuses, options),
+        "parts that show nothing": partial(nothing_is_shown, options),
         "one tenant's rows": partial(one_tenant, options),
     }
 

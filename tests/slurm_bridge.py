@@ -28,7 +28,20 @@ from harness.checks import Check, Missed, Suite, require, run_script, run_suites
 from harness.deployed import SERVICE
 from harness.guard import guard
 from slurmdbd_kit import OTHERS, Slurmdbd
-from slurm_kit import BRIDGE, LIMITS, Cluster, Judge, Site, free_ports, require_packages, site, slowness, wait
+from slurm_kit import (
+    BRIDGE,
+    LIMITS,
+    Cluster,
+    Events,
+    Judge,
+    Site,
+    free_ports,
+    require_packages,
+    set_node,
+    site,
+    slowness,
+)
+from slurm_kit import wait
 
 EQUAL_SECONDS, START_SECONDS = 2.0, 5.0  # in which squeue has what firm decided, and 160 jobs run, on an idle host
 RETRY_SECONDS = 2.0  # at most, until firmd is found again
@@ -41,6 +54,7 @@ LIGHT, ROUNDS = 32, 6  # jobs that are preempted again and again, and how often
 LAUNCHED, PAUSE_SECONDS = 16, 160.0  # jobs that are requeued as they start, and until all run again
 STEADY_SECONDS = 4.0  # for which they ran before their owner requeues some, so that no launch is disturbed
 REQUEUE_SECONDS = 25.0  # in which these run again on an idle host; Slurm by itself takes 121
+PREPARED_SECONDS = 12  # that PrologSlurmctld takes: longer than a preemption
 DOWN_SECONDS = 120.0  # for Slurm to give a node up
 PAGE_SECONDS = 900.0  # from the first command of the page to the end of a job, once the packages are there
 
@@ -62,11 +76,6 @@ def drained(place: Site, node: str) -> bool:
 
 def places_of(place: Site) -> set[str | None]:
     return set(place.places().values())
-
-
-def set_node(place: Site, node: str, state: str) -> None:
-    reason = ["Reason=test"] if state == "DRAIN" else []
-    place.cluster.run("scontrol", "update", f"NodeName={node}", f"State={state}", *reason)
 
 
 def decided(firm: str) -> None:
@@ -185,11 +194,12 @@ def orders(firm: str) -> None:
         place.start_bridge()
         near = place.submit(1, 8, "light", "--comment=near=node2")
         few = place.submit(4, 3, "light", "--array=1-4%1")
+        place.submit(2, 1, "light", "--array=1-2%0")  # without a limit
         later = place.submit(1, 1, "light", f"--dependency=afterok:{near}")
         begins = place.submit(1, 1, "light", "--begin=now+12")
         wait(lambda: place.places().get(near) == "node2", "a preferred node")
         most = 0
-        while state_of(place, near) == "RUNNING" or few in str(place.cluster.squeue()):
+        while state_of(place, near) == "RUNNING" or count_of(place, few):
             running = [job for job, (state, _) in place.cluster.squeue().items() if state == "RUNNING"]
             most = max(most, sum(job.startswith(f"{few}-") for job in running))
             require(later not in running or near not in running, "a job before the one that it needs")
@@ -197,7 +207,7 @@ def orders(firm: str) -> None:
             time.sleep(0.3)
         require(most == 1, f"{most} elements of an array at a time")
         wait(place.is_empty, "the end of all jobs")
-        judge(place, 7, 2)
+        judge(place, 9, 2)
 
 
 def refusals(firm: str) -> None:
@@ -209,6 +219,7 @@ def refusals(firm: str) -> None:
         place.cluster.run("scontrol", "create", "reservation", *reserve)
         for words, said in (
             (["-N2"], "one slot"),
+            (["-N1-2"], "one slot"),
             (["-n2"], "one slot"),
             (["-c2"], "one slot"),
             (["--exclusive"], "one slot"),
@@ -222,6 +233,7 @@ def refusals(firm: str) -> None:
             (["--reservation=r"], "reserved nodes"),
             (["--comment=a\nb"], "control characters"),
             (["-A", "a|b"], "control characters"),
+            (["--licenses=a|b"], "control characters"),
         ):
             done = place.cluster.try_run("sbatch", *words, str(script), user=USER)
             require(done.returncode != 0 and said in done.stderr, f"{words}: {done}")
@@ -230,9 +242,40 @@ def refusals(firm: str) -> None:
         require(not place.cluster.squeue(), "a refused job is there")
 
 
+def bounded(firm: str) -> None:
+    """Jobs of several CPUs have one slot too: whole cores of one node, and no CPUs for more memory."""
+    more = "SelectTypeParameters=CR_Core\nMaxMemPerCPU=500\nDefMemPerCPU=400"
+    hardware = "CoresPerSocket=4 ThreadsPerCore=2"
+    with site(firm, 2, 8, more=more, hardware=hardware, partition_options="cpus = 2") as place:
+        for words in (
+            ["-n2", "--ntasks-per-node=1"],
+            ["-c2", "--hint=nomultithread"],
+            ["-n2", "--hint=memory_bound"],
+            ["-n2", "--ntasks-per-core=1"],
+            ["--mem=1001"],
+            ["--mem-per-cpu=501"],
+        ):
+            done = place.cluster.try_run("sbatch", *words, "--wrap=true", user=USER)
+            require(done.returncode != 0 and "one slot" in done.stderr, f"{words}: {done}")
+        wholes: list[list[str]] = [
+            [],
+            ["-n2"],
+            ["-c2"],
+            ["--hint=nomultithread"],
+            ["--mem=1000"],
+            ["-n2", "--ntasks-per-node=2"],
+        ]
+        for words in wholes:
+            place.submit(1, 60, "light", *words, user=USER)
+        place.start_bridge()
+        wait(lambda: count_running(place) == len(wholes), "jobs of one slot")
+        rows = place.cluster.run("squeue", "-h", "-O", "NumNodes:9,NumCPUs:9").splitlines()
+        require([row.split() for row in rows] == [["1", "2"]] * len(wholes), f"nodes and CPUs: {rows}")
+
+
 # Changes of a job that its user may not make: of its size, its node, when it runs, and whether firm may preempt it.
 CHANGES = ["NumCPUs=4", "NumNodes=2", "NumTasks=3", "CPUsPerTask=3", "MinCPUsNode=2", "Requeue=0"]
-CHANGES += ["MinMemoryNode=501", "MinMemoryNode=0", "MinMemoryCPU=501"]
+CHANGES += ["MinMemoryNode=501", "MinMemoryNode=0", "MinMemoryCPU=501", "ReqThreads=1", "Nice=1"]
 CHANGES += [
     "ReqNodeList=node1",
     "ExcNodeList=node1",
@@ -256,7 +299,7 @@ def changes(firm: str) -> None:
                 require(done.returncode != 0, f"a user changes {change} of {job}: {done}")
         require(update(f"JobId={array}", "Priority=77").returncode != 0, "a user releases an array")
         for job in (held, array):
-            for words in ("mine", "firm:most=9", "near=node1 \u2028 \x85"):
+            for words in ("firm:most=9", "mine", "near=node1 \u2028 \x85"):
                 require(update(f"JobId={job}", f"Comment={words}").returncode == 0, f"a comment: {words!r}")
         place.start_bridge()
         wait(lambda: count_running(place) == 1, "an element of the array")
@@ -268,6 +311,9 @@ def changes(firm: str) -> None:
         for verb, is_there in (("hold", False), ("release", True)):
             place.cluster.run("scontrol", verb, array, user=USER)
             wait(lambda: is_there == any(name.startswith(array) for name in place.places()), f"{verb} of an array")
+        for most, count in ((2, 2), (0, 4)):
+            require(update(f"JobId={array}", f"ArrayTaskThrottle={most}").returncode == 0, "elements at a time")
+            wait(lambda: sum(name.startswith(array) for name in place.places()) == count, f"{count} elements")
         place.cluster.run("scontrol", "release", held, user=USER)
         wait(lambda: is_in_firm(place, held), "it is released")
         place.cluster.run("scancel", array, held, user=USER)
@@ -344,6 +390,23 @@ def launched(firm: str) -> None:
         place.cluster.run("scancel", array)
         wait(place.is_empty, "the end of all jobs")
         Judge(place).require_single()
+
+
+def prepared(firm: str) -> None:
+    """A job is not requeued while PrologSlurmctld runs: Slurm would hold it as an administrator does."""
+    with tempfile.TemporaryDirectory(prefix="firm-slurm-") as name:
+        prolog = Path(name) / "prolog"
+        prolog.write_text(f"#!/bin/sh\nsleep {PREPARED_SECONDS}\n")
+        for path in (prolog.parent, prolog):
+            path.chmod(0o755)
+        with site(firm, 1, 2, more=f"PrologSlurmctld={prolog}") as place:
+            place.start_bridge()
+            light = place.submit(2, 5, "light", user=USER)
+            wait(lambda: "CONFIGURING" in state_of(place, f"{light}-2"), "two jobs whose prolog runs")
+            place.submit(2, 1, "heavy")
+            wait(lambda: place.count_said("preempt"), "a preemption")
+            wait(place.is_empty, "the end of all jobs")
+            judge(place, 4, 2)
 
 
 def all_run(place: Site, array: str, count: int = LIGHT) -> bool:
@@ -488,10 +551,12 @@ def several(firm: str) -> None:
     two = "PartitionName=a Nodes=node1 Default=YES State=UP\nPartitionName=b Nodes=node2 State=UP"
     with site(firm, 2, 2, partitions=two, tenants=("a", "b")) as place:
         place.start_bridge()
-        first, second = place.submit(2, 5, "light"), place.submit(2, 5, "light", "-p", "b")
+        # They run until they are cancelled: on a busy host the first may end before the last one starts.
+        first, second = place.submit(2, 3600, "light"), place.submit(2, 3600, "light", "-p", "b")
         wait(lambda: count_running(place) == 4, "four jobs that run")
         nodes = {job: node for job, (_, node) in place.cluster.squeue().items()}
         require(nodes == {f"{first}-{k}": "node1" for k in (1, 2)} | {f"{second}-{k}": "node2" for k in (1, 2)}, nodes)
+        place.cluster.run("scancel", first, second)
         wait(lambda: not place.cluster.squeue(), "the end of all jobs")
 
 
@@ -609,68 +674,6 @@ def chaos(seed: int, firm: str, seconds: float = 60.0) -> None:
         judge(place, events.submitted, 4)
 
 
-class Events:
-    def __init__(self, place: Site, chance: random.Random) -> None:
-        self.place, self.chance = place, chance
-        self.counts: Counter[str] = Counter()
-        self.submitted = 0
-        self._drained: set[str] = set()
-
-    def next(self) -> None:
-        kinds: dict[Callable[[], None], float] = {self.submit: 5, self.drain: 1, self.resume: 2, self.cancel: 1}
-        kinds |= {self.bridge: 1, self.firmd: 1, self.slurmctld: 1, self.power: 0.3}
-        event = self.chance.choices(list(kinds), list(kinds.values()))[0]
-        self.counts[event.__name__] += 1
-        event()
-
-    def submit(self) -> None:
-        count, seconds = self.chance.randint(1, 8), self.chance.choice([0.2, 2, 6, 12])
-        near = f"--comment=near=node{self.chance.randint(1, 5)}"
-        self.place.submit(count, seconds, self.chance.choice(["a", "b", "c", "heavy"]), near)
-        self.submitted += count
-
-    def drain(self) -> None:
-        if len(self._drained) < 3:
-            node = f"node{self.chance.randint(1, 5)}"
-            self._drained.add(node)
-            set_node(self.place, node, "DRAIN")
-
-    def resume(self) -> None:
-        if self._drained:
-            self.place.cluster.try_run("scontrol", "update", f"NodeName={self._drained.pop()}", "State=RESUME")
-
-    def resume_all(self) -> None:
-        while self._drained:
-            self.resume()
-
-    def cancel(self) -> None:
-        jobs = sorted(self.place.cluster.squeue())
-        if jobs:
-            self.place.cluster.try_run("scancel", self.chance.choice(jobs).replace("-", "_"))
-
-    def bridge(self) -> None:
-        name = self.chance.choice(["bridge", "second"])
-        self.place.kill_bridge(name)
-        time.sleep(self.chance.uniform(0, 1.5))
-        self.place.start_bridge(name)
-
-    def firmd(self) -> None:
-        self.place.daemon.kill()
-        time.sleep(self.chance.uniform(0, 1))
-        self.place.daemon.start()
-
-    def slurmctld(self) -> None:
-        self.place.cluster.kill("slurmctld")
-        time.sleep(self.chance.uniform(0, 1))
-        self.place.cluster.start_controller()
-
-    def power(self) -> None:
-        node = f"node{self.chance.randint(1, 5)}"
-        self.place.cluster.cut_power(node)
-        time.sleep(self.chance.uniform(0, 3))
-        self.place.cluster.start_node(node)
-
-
 # The page
 
 
@@ -732,6 +735,7 @@ CHECKS: dict[str, Callable[[str], None]] = {
     "moved": moved,
     "preempted": preempted,
     "launched": launched,
+    "prepared": prepared,
     "put off": put_off,
     "blocked": blocked,
     "asleep": asleep,
@@ -743,6 +747,7 @@ CHECKS: dict[str, Callable[[str], None]] = {
     "several": several,
     "shown": shown,
     "refusals": refusals,
+    "bounded": bounded,
     "changes": changes,
     "page": page,
 }

@@ -73,7 +73,7 @@ KillWait=5
 SlurmctldTimeout=30
 SlurmdTimeout=15
 NodeName=node[1-{nodes}] NodeHostname=host[1-{nodes}] NodeAddr=127.0.0.1 Port=[{first}-{last}] \
-CPUs={cpus} RealMemory=1000
+CPUs={cpus} RealMemory=1000 {hardware}
 {partitions}
 {more}
 """
@@ -145,6 +145,7 @@ class Cluster:
     partitions: str = "PartitionName=firm Nodes=ALL Default=YES MaxTime=INFINITE State=UP"
     accounts: Accounts | None = None
     more: str = ""  # lines of slurm.conf
+    hardware: str = ""  # further words of the nodes
 
     def __post_init__(self) -> None:
         names = [f"node{node}" for node in range(1, self.nodes + 1)]
@@ -163,6 +164,7 @@ class Cluster:
                 folder=self.folder,
                 nodes=self.nodes,
                 cpus=self.cpus,
+                hardware=self.hardware,
                 accounting=self.accounts.conf(self.folder) if self.accounts else NO_ACCOUNTS,
                 first=port + 1,
                 last=port + self.nodes,
@@ -418,7 +420,7 @@ class Site:
 def site(firm: str, nodes: int, cpus: int, **words: Any) -> Iterator[Site]:
     """A site that runs, without a bridge."""
     require_packages()
-    of_cluster = {name: words.pop(name) for name in ("partitions", "accounts", "more") if name in words}
+    of_cluster = {name: words.pop(name) for name in ("partitions", "accounts", "more", "hardware") if name in words}
     with tempfile.TemporaryDirectory(prefix="firm-slurm-") as name:
         folder = Path(name)
         folder.chmod(0o755)
@@ -443,6 +445,76 @@ def keep(folder: Path) -> None:
     if kept is not None:
         ignored = shutil.ignore_patterns("socket*", "any", "view", "operator", "spool", "database", "*.new")
         shutil.copytree(folder, Path(kept) / folder.name, ignore=ignored)
+
+
+# Random events
+
+
+def set_node(place: Site, node: str, state: str) -> None:
+    reason = ["Reason=test"] if state == "DRAIN" else []
+    place.cluster.run("scontrol", "update", f"NodeName={node}", f"State={state}", *reason)
+
+
+class Events:
+    def __init__(self, place: Site, chance: random.Random) -> None:
+        self.place, self.chance = place, chance
+        self.counts: Counter[str] = Counter()
+        self.submitted = 0
+        self._drained: set[str] = set()
+
+    def next(self) -> None:
+        kinds: dict[Callable[[], None], float] = {self.submit: 5, self.drain: 1, self.resume: 2, self.cancel: 1}
+        kinds |= {self.bridge: 1, self.firmd: 1, self.slurmctld: 1, self.power: 0.3}
+        event = self.chance.choices(list(kinds), list(kinds.values()))[0]
+        self.counts[event.__name__] += 1
+        event()
+
+    def submit(self) -> None:
+        count, seconds = self.chance.randint(1, 8), self.chance.choice([0.2, 2, 6, 12])
+        near = f"--comment=near=node{self.chance.randint(1, 5)}"
+        self.place.submit(count, seconds, self.chance.choice(["a", "b", "c", "heavy"]), near)
+        self.submitted += count
+
+    def drain(self) -> None:
+        if len(self._drained) < 3:
+            node = f"node{self.chance.randint(1, 5)}"
+            self._drained.add(node)
+            set_node(self.place, node, "DRAIN")
+
+    def resume(self) -> None:
+        if self._drained:
+            self.place.cluster.try_run("scontrol", "update", f"NodeName={self._drained.pop()}", "State=RESUME")
+
+    def resume_all(self) -> None:
+        while self._drained:
+            self.resume()
+
+    def cancel(self) -> None:
+        jobs = sorted(self.place.cluster.squeue())
+        if jobs:
+            self.place.cluster.try_run("scancel", self.chance.choice(jobs).replace("-", "_"))
+
+    def bridge(self) -> None:
+        name = self.chance.choice(["bridge", "second"])
+        self.place.kill_bridge(name)
+        time.sleep(self.chance.uniform(0, 1.5))
+        self.place.start_bridge(name)
+
+    def firmd(self) -> None:
+        self.place.daemon.kill()
+        time.sleep(self.chance.uniform(0, 1))
+        self.place.daemon.start()
+
+    def slurmctld(self) -> None:
+        self.place.cluster.kill("slurmctld")
+        time.sleep(self.chance.uniform(0, 1))
+        self.place.cluster.start_controller()
+
+    def power(self) -> None:
+        node = f"node{self.chance.randint(1, 5)}"
+        self.place.cluster.cut_power(node)
+        time.sleep(self.chance.uniform(0, 3))
+        self.place.cluster.start_node(node)
 
 
 # The judge

@@ -20,7 +20,7 @@ reading = slurm.reading
 NOW = 1_000_000.0
 Use, State, Hold = reading.Use, reading.State, reading.Hold
 OPEN, UNCLEAR, CLOSED, BOOKED, GONE = Use.OPEN, Use.UNCLEAR, Use.CLOSED, Use.BOOKED, Use.GONE
-PENDING, RUNNING, LEAVING = State.PENDING, State.RUNNING, State.LEAVING
+PENDING, STARTING, RUNNING, LEAVING = State.PENDING, State.STARTING, State.RUNNING, State.LEAVING
 RELEASED, HELD, OTHER, MISSED = Hold.NONE, Hold.FIRM, Hold.OTHER, Hold.MISSED
 
 # The state of a node, as sinfo prints it, and its use.
@@ -59,6 +59,7 @@ JOBS: list[tuple[str, dict[str, Any]]] = [
     (HELD_ROW[:-6] + "near=a firm:held", {"hold": OTHER, "near": ("a",)}),
     (HELD_ROW[:-6] + "firm:held-not near=a,b,a,c,d,e", {"near": ("a", "b", "c", "d")}),
     (HELD_ROW[:-6] + "firm:most=3", {"most": 3}),
+    (HELD_ROW[:-6] + "firm:most=0", {}),
     (HELD_ROW[:-6] + "bear=a", {}),
     (HELD_ROW[:-6] + "a\u2028b\x85c\x0bd\re near=m1", {"near": ("m1",)}),
     (HELD_ROW[:-6] + "a|b| near=m1", {"near": ("m1",)}),
@@ -79,6 +80,13 @@ JOBS: list[tuple[str, dict[str, Any]]] = [
         "7|RUNNING|42|None|light|(null)|(null)|(null)|m1|m1|500|501|501|0|400|UNLIMITED|(null)",
         {
             **{"priority": 42, "reason": "None", "hold": RELEASED, "state": RUNNING, "node": "m1", "pinned": "m1"},
+            **{"eligible": 500.0, "evaluated": 501.0, "started": 501.0},
+        },
+    ),
+    (
+        "7|CONFIGURING|42|None|light|(null)|(null)|(null)|m1|m1|500|501|501|0|400|UNLIMITED|(null)",
+        {
+            **{"priority": 42, "reason": "None", "hold": RELEASED, "state": STARTING, "node": "m1", "pinned": "m1"},
             **{"eligible": 500.0, "evaluated": 501.0, "started": 501.0},
         },
     ),
@@ -183,6 +191,12 @@ NEWS: list[tuple[str, Book, list[reading.Node], list[reading.Job], dict[str, Any
      {"drain": "move"}, ["done 1", "drain m1"]),
     ("a node that is down", book_of("m1", "1:m1"), [node("m1", GONE)], [job("1")], {}, ["drain m1"]),
     ("a node that is no more", book_of("m1", "1:m1"), [], [job("1")], {}, ["drain m1"]),
+    ("a node that has left the partition, finish", book_of("m1", "1:m1"), [], [running("1", "m1")], {},
+     ["done 1", "drain m1"]),
+    ("a node that has left the partition, move", book_of("m1", "1:m1"), [], [running("1", "m1")], {"drain": "move"},
+     ["drain m1"]),
+    ("a drain while a job starts", book_of("m1", "1:m1"), [node("m1", CLOSED)],
+     [running("1", "m1")._replace(state=STARTING)], {}, ["done 1", "drain m1"]),
     ("a new job", book_of(), [], [job()], {}, ["job light 10", "task light 1"]),
     ("a job of a known account", book_of("", "2:-"), [], [job("1"), job("2")], {}, ["task light 1"]),
     ("a weight", book_of(), [], [job(account="heavy")], {}, ["job heavy 1000", "task heavy 1"]),
@@ -262,6 +276,8 @@ DEEDS: list[tuple[str, str, list[reading.Job], list[list[str]]]] = [
     ("waits in firm, was just launched", "1:-", [running("1", "m1")._replace(started=NOW - 2)], []),
     ("runs in both", "1:m1", [running("1", "m1")], []),
     ("runs elsewhere", "1:m1", [running("1", "m2")], [["requeuehold Incomplete 1"]]),
+    ("starts elsewhere", "1:m1", [running("1", "m2")._replace(state=STARTING)], []),
+    ("waits in firm, starts", "1:-", [running("1", "m1")._replace(state=STARTING)], []),
     ("leaves a node", "1:m1", [job("1", state=LEAVING, node="m2")], []),
     ("waits in firm, runs", "1:-", [running("1", "m1")], [["requeuehold Incomplete 1"]]),
     ("waits in firm, released", "1:-", [pinned("1", "m1")], [["uhold 1"]]),
@@ -331,6 +347,14 @@ CHECKED: list[tuple[str, str, str, dict[str, Any], list[str]]] = [
     ("threads, and a CPU is what Slurm counts", "SelectTypeParameters=CR_CPU", THREADS, {}, []),
     ("whole sockets", "SelectTypeParameters=CR_Socket", "Sockets=2 CoresPerSocket=4", {},
      ["cpus = 4 in [partitions.batch] of the table, or SelectTypeParameters=CR_CPU"]),
+    ("a limit of memory, and no default", "SelectTypeParameters=CR_CPU\nMaxMemPerCPU=500", "CPUs=8", {},
+     ["DefMemPerCPU=500"]),
+    ("a limit of memory, and a default", "SelectTypeParameters=CR_CPU\nMaxMemPerCPU=500\nDefMemPerCPU=400", "CPUs=8",
+     {}, []),
+    ("few CPUs of a node", "SelectTypeParameters=CR_CPU\nPartitionName=DEFAULT MaxCPUsPerNode=6", "CPUs=8",
+     {"cpus": 2}, ["slots = 3 in [partitions.batch] of the table, or no MaxCPUsPerNode"]),
+    ("the same, as many slots", "SelectTypeParameters=CR_CPU\nPartitionName=DEFAULT MaxCPUsPerNode=6", "CPUs=8",
+     {"cpus": 2, "slots": 3}, []),
     ("many slots", "SelectTypeParameters=CR_CPU", "CPUs=130", {},
      ["cpus = 3 in [partitions.batch] of the table, or slots = 64"]),
     ("many CPUs, slots of a table", "SelectTypeParameters=CR_CPU", "CPUs=128", {"slots": 64}, []),
@@ -352,6 +376,74 @@ def checked() -> None:
                 require([advice.write for advice in found] == wanted, f"{what}: {found} instead of {wanted}")
     finally:
         slurm.check.names_of = named
+
+
+# Lines of slurm.conf that hold for all partitions, and what is to be written instead.
+OPTIONS: dict[str, list[str]] = {
+    "AuthType=auth/munge": [],
+    "AuthInfo=socket=/s,cred_expire=120": [],
+    "AuthInfo=cred_expire=600": ["AuthInfo=.. without cred_expire, or with cred_expire=120"],
+    "AllowSpecResourcesUsage=NO": [],
+    "AllowSpecResourcesUsage=YES": ["AllowSpecResourcesUsage=no"],
+    "SchedulerType=sched/backfill": [],
+    "SchedulerType=sched/builtin": ["SchedulerType=sched/backfill"],
+    "CompleteWait=0": [],
+    "CompleteWait=32": ["CompleteWait=0"],
+    "SchedulerParameters=partition_job_depth=0,sched_max_job_start=10000": [],
+    "SchedulerParameters=partition_job_depth=9,sched_max_job_start=9": [
+        "SchedulerParameters=.. without partition_job_depth",
+        "SchedulerParameters=.. without sched_max_job_start",
+    ],
+}
+# Lines of slurm.conf, the words of its node m1, CPUs of a slot, its MB and the CPUs of a core; 0: the hook has none.
+SIZES: list[tuple[str, str, int, int, int]] = [
+    ("SelectTypeParameters=CR_CPU", THREADS, 2, 0, 0),
+    ("SelectTypeParameters=CR_CPU\nMaxMemPerCPU=500\nDefMemPerCPU=400", THREADS, 2, 1000, 0),
+    ("SelectTypeParameters=CR_CPU_Memory\nMaxMemPerCPU=500\nDefMemPerCPU=400", THREADS, 2, 800, 0),
+    ("SelectTypeParameters=CR_CPU_Memory\nMaxMemPerCPU=500", THREADS, 2, 1000, 0),
+    ("SelectTypeParameters=CR_Core", THREADS, 2, 0, 2),
+    ("SelectTypeParameters=CR_Core", "CPUs=8", 2, 0, 0),
+    ("SelectTypeParameters=CR_Socket", THREADS, 8, 0, 8),
+]
+
+
+def sized() -> None:
+    """The hook has the memory of a slot and the CPUs of a core, and `check` names options that void its bounds."""
+    named, slurm.check.names_of = slurm.check.names_of, lambda listed: listed.split(",")
+    try:
+        with tempfile.TemporaryDirectory() as name:
+            path, text = Path(name) / "slurm.conf", "view = 'v'\n[partitions.batch]\nsocket = 's'\ncpus = {}\n"
+            for lines, node, cpus, memory, core in SIZES:
+                path.write_text(f"{lines}\nNodeName=m1 {node}\nPartitionName=batch Nodes=ALL\n")
+                (path.parent / "table").write_text(text.format(cpus))
+                table = slurm.table.Table.read(path.parent / "table")
+                found = slurm.hook.hook(table, slurm.check.sizes_of(table, slurm.check.Conf.read(path)))
+                for key, number in (("CPUS", cpus), ("MEMORY", memory), ("CORES", core)):
+                    wanted = f'local {key} = {{ ["batch"] = {number} }}' if number else f"local {key} = {{  }}"
+                    require(wanted in found, f"{lines}, {node}: no {wanted} in {found[:900]}")
+            for line, remedies in OPTIONS.items():
+                path.write_text(f"{line}\n")
+                told = [advice.write for advice in slurm.check.of_options(slurm.check.Conf.read(path))]
+                require(told == remedies, f"{line}: {told} instead of {remedies}")
+    finally:
+        slurm.check.names_of = named
+
+
+def launched() -> None:
+    """A job is steady some seconds after it was last seen starting, however long ago Slurm allocated its node."""
+    launches, job = reading.Launches(), running("1", "m1")._replace(started=NOW - 60)
+    for seconds, state, is_steady in (
+        (0.0, STARTING, False),
+        (1.0, STARTING, False),
+        (1.5, RUNNING, False),
+        (3.9, RUNNING, False),
+        (4.0, RUNNING, True),
+        (5.0, LEAVING, False),
+        (6.0, RUNNING, True),
+    ):
+        found = launches.corrected(by_name([job._replace(state=state), running("2", "m1")]), NOW + seconds)
+        require(found["1"].is_steady(NOW + seconds) is is_steady, f"{seconds}: {found}")
+        require(found["2"] == running("2", "m1"), f"{seconds}: {found}")
 
 
 def by_name(rows: list[Any]) -> dict[str, Any]:
@@ -623,6 +715,8 @@ CHECKS: dict[str, Check] = {
     "what differs": differences,
     "faulty tables": tables,
     "what check tells": checked,
+    "what the hook bounds": sized,
+    "jobs that were launched late": launched,
 }
 
 

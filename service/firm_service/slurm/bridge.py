@@ -21,7 +21,7 @@ from . import commands
 from .commands import NoSlurm
 from .differences import Standing, standing
 from .done import deeds
-from .reading import Picture, Use
+from .reading import Launches, Picture, Use
 from .refusals import Refusals
 from .said import News, Seen, news, strays
 from .table import Partition, Table
@@ -60,7 +60,7 @@ class Side:
         self._last_round = self._full_until = -1e9
         self._foreign = 0  # lines that were obeyed, without those of this bridge
         self._warnings: dict[str, float] = {}  # when they were told last
-        self._refusals = Refusals()
+        self._refusals, self._launches = Refusals(), Launches()
 
     async def book(self) -> Book:
         """The tenant's rows, with all that was answered; raises `Away`."""
@@ -100,6 +100,7 @@ class Side:
         """Says what firm doesn't know, and has Slurm do what firm decided."""
         name = self.partition.name
         nodes, jobs = picture.nodes.get(name, {}), picture.jobs.get(name, {})
+        jobs = self._launches.corrected(jobs, picture.at)
         book = await self.book()
         put_off = self._refusals.find(book, nodes, jobs, picture.at)
         tasks = self._tasks & book.tasks.keys()

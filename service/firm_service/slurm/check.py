@@ -12,15 +12,18 @@ from typing import NamedTuple
 from ..lines import is_name
 from ..queue.backlog import RESERVED_PART
 from ..sizes import HUBS, MOST_NODES, MOST_SLOTS
-from .hook import hook
+from .hook import Sizes, hook
 from .table import Partition, Table, Weigh
 
 DEPTH = 10_000  # jobs that a cycle of Slurm's scheduler looks at: with its own 100, pinned jobs start late
 SCHEDULER = {"batch_sched_delay": (0, 0), "sched_min_interval": (1, 50_000), "sched_interval": (1, 5)}
 SCHEDULER |= {"default_queue_depth": (DEPTH, 10**9)}
+CYCLE_LIMITS = ("partition_job_depth", "sched_max_job_start")  # of jobs in a cycle; 0, Slurm's own, is no limit
 LINE = re.compile(r"\s*([A-Za-z]+)\s*=\s*(.*)", re.DOTALL)
 WORD = re.compile(r'([A-Za-z]+)=("[^"]*"|\S+)')
 MOST_INCLUDED = 100  # files
+CRED_EXPIRE = "120"  # Slurm's own, in seconds: what it requeues waits a second longer (PAUSE_SECONDS)
+YES = ("yes", "up", "true", "1")
 SLURMDBD = "accounting_storage/slurmdbd"
 DEFAULTS = {"selecttype": "select/linear", "preempttype": "preempt/none"}  # Slurm's own
 # What AccountingStorageEnforce has where slurmdbd says which accounts, or which QOS, are a user's.
@@ -129,6 +132,7 @@ def names_of(listed: str) -> list[str]:
 def advice(table: Table, conf: Conf) -> Iterator[Advice]:
     """All that is to be changed."""
     yield from of_scheduler(conf)
+    yield from of_options(conf)
     yield from of_hook(table, conf)
     for key, wanted, bad in (
         ("selecttype", "SelectType=select/cons_tres", "select/linear"),
@@ -163,6 +167,26 @@ def of_scheduler(conf: Conf) -> Iterator[Advice]:
         yield Advice(told, f"SchedulerParameters={text}")
 
 
+def of_options(conf: Conf) -> Iterator[Advice]:
+    expire = conf.options("authinfo").get("cred_expire", CRED_EXPIRE)
+    if expire != CRED_EXPIRE:
+        told = f"cred_expire={expire}: the pause after a requeue, which firm-slurm ends, would be taken for its user's"
+        yield Advice(told, f"AuthInfo=.. without cred_expire, or with cred_expire={CRED_EXPIRE}")
+    if conf.values.get("allowspecresourcesusage", "").lower() in YES:
+        yield Advice("a job with --core-spec would take a whole node", "AllowSpecResourcesUsage=no")
+    if conf.values.get("schedulertype", "").lower() == "sched/builtin":
+        yield Advice(
+            "sched/builtin: a job that can't start keeps all later ones waiting", "SchedulerType=sched/backfill"
+        )
+    if number_of(conf.values.get("completewait", "")):
+        yield Advice("CompleteWait: no job would start while another's epilog runs", "CompleteWait=0")
+    options = conf.options("schedulerparameters")
+    for name in CYCLE_LIMITS:
+        if 0 < number_of(options.get(name, "")) < DEPTH:
+            told = f"{name}={options[name]}: decided jobs would start late"
+            yield Advice(told, f"SchedulerParameters=.. without {name}")
+
+
 def is_within(text: str | None, low: int, high: int) -> bool:
     return text is not None and text.isdigit() and low <= int(text) <= high
 
@@ -174,7 +198,7 @@ def of_hook(table: Table, conf: Conf) -> Iterator[Advice]:
     path = conf.path.parent / "job_submit.lua"
     if not path.exists():
         yield Advice(f"{path} is not there", f"firm-slurm hook --table TABLE > {path}")
-    elif hook(table, slot_memory(table, conf)).strip() not in path.read_text():
+    elif hook(table, sizes_of(table, conf)).strip() not in path.read_text():
         told = f"{path} has not the hook of this table, or one of an older firm-slurm"
         yield Advice(told, f"firm-slurm hook --table TABLE > {path}, or into a site's own file")
 
@@ -203,15 +227,19 @@ def of_partition(partition: Partition, conf: Conf, owners: dict[str, str]) -> It
 
 def of_nodes(partition: Partition, conf: Conf) -> Iterator[Advice]:
     """Yield each cause of unused slots of a partition once, for the first node that has it."""
-    name, hardware, memory = partition.name, conf.hardware(), memory_of(partition, conf)
-    nodes = {node: hardware[node] for node in conf.names_in(name) if node in hardware}
-    parameters = conf.value(name, "selecttypeparameters").lower()
+    name, memory = partition.name, memory_of(partition, conf)
+    nodes = hardware_of(partition, conf)
+    most, by_cpu = (number_of(conf.value(name, key)) for key in ("maxcpuspernode", "maxmempercpu"))
     slots = {node: partition.slots or max(1, one.cpus // partition.cpus) for node, one in nodes.items()}
     causes: dict[str, Advice] = {}
     for node, one in nodes.items():
-        found = [of_cores(partition, node, one, parameters), of_slots(partition, node, slots[node])]
+        found = [of_cores(partition, node, core_of(partition, conf, one)), of_slots(partition, node, slots[node])]
+        found.append(of_most(partition, node, slots[node], most))
         if memory is not None:
             found.append(of_memory(partition, memory, node, one))
+        elif by_cpu and not default_memory(partition, conf):
+            told = f"{name}: a job without --mem asks for all memory of a node, and gets a CPU for each {by_cpu:,} MB"
+            found.append(Advice(told, f"DefMemPerCPU={by_cpu}"))
         for advice in filter(None, found):
             causes.setdefault(advice.write.partition("=")[0], advice)
     yield from causes.values()
@@ -223,18 +251,43 @@ def of_nodes(partition: Partition, conf: Conf) -> Iterator[Advice]:
         yield Advice(told, "several partitions")
 
 
-def of_cores(partition: Partition, node: str, one: Hardware, parameters: str) -> Advice | None:
-    """Slurm gives a job whole cores, or sockets, unless a CPU is what it counts."""
-    whole, what = (one.socket, "sockets") if "cr_socket" in parameters else (one.core, "cores")
-    if "cr_cpu" in parameters or partition.slots is not None or partition.cpus % whole == 0:
+def hardware_of(partition: Partition, conf: Conf) -> dict[str, Hardware]:
+    """Return the nodes of a partition for which slurm.conf says what they have."""
+    if partition.name not in conf.partitions:
+        return {}
+    hardware = conf.hardware()
+    return {node: hardware[node] for node in conf.names_in(partition.name) if node in hardware}
+
+
+def core_of(partition: Partition, conf: Conf, one: Hardware) -> int:
+    """Return the CPUs that Slurm gives together: of a core, or a socket, unless a CPU is what it counts."""
+    parameters = conf.value(partition.name, "selecttypeparameters").lower()
+    if "cr_cpu" in parameters:
+        return 1
+    return one.socket if "cr_socket" in parameters else one.core
+
+
+def of_cores(partition: Partition, node: str, whole: int) -> Advice | None:
+    """Name slots that are not of whole cores, or sockets."""
+    if partition.slots is not None or partition.cpus % whole == 0:
         return None
     wanted = -(-partition.cpus // whole) * whole
     told = (
-        f"{partition.name}: Slurm gives a job whole {what}, of {whole} CPUs on node {node}; a slot has {partition.cpus}"
+        f"{partition.name}: Slurm gives a job {whole} CPUs of node {node} together, as of a core; a slot has"
+        f" {partition.cpus}"
     )
     return Advice(
         told, f"cpus = {wanted} in [partitions.{partition.name}] of the table, or SelectTypeParameters=CR_CPU"
     )
+
+
+def of_most(partition: Partition, node: str, slots: int, most: int) -> Advice | None:
+    """Name slots for which a partition may not use enough CPUs of a node; `most` is 0 without a limit."""
+    if most == 0 or slots * partition.cpus <= most:
+        return None
+    told = f"{partition.name}: MaxCPUsPerNode={most} leaves some of the {slots} slots of node {node} idle"
+    wanted = max(1, most // partition.cpus)
+    return Advice(told, f"slots = {wanted} in [partitions.{partition.name}] of the table, or no MaxCPUsPerNode")
 
 
 def of_slots(partition: Partition, node: str, slots: int) -> Advice | None:
@@ -247,16 +300,28 @@ def of_slots(partition: Partition, node: str, slots: int) -> Advice | None:
     return Advice(told, f"cpus = {wanted} in [partitions.{partition.name}] of the table, or slots = {MOST_SLOTS}")
 
 
-def slot_memory(table: Table, conf: Conf) -> dict[str, int]:
-    """Return the MB of a slot of each partition for which slurm.conf says it."""
-    found = {partition.name: memory_of(partition, conf) for partition in table.partitions}
-    return {name: memory for name, memory in found.items() if memory}
+def sizes_of(table: Table, conf: Conf) -> Sizes:
+    """Return the MB of a slot and the CPUs of a core of each partition for which slurm.conf says them.
+
+    Under MaxMemPerCPU a job of more memory gets more CPUs, whether Slurm counts memory or not.
+    """
+    sizes = Sizes()
+    for partition in table.partitions:
+        name, most = partition.name, number_of(conf.value(partition.name, "maxmempercpu")) * partition.cpus
+        sizes.memory.update({name: memory} if (memory := memory_of(partition, conf) or most) else {})
+        cores = [core_of(partition, conf, one) for one in hardware_of(partition, conf).values()]
+        sizes.cores.update({name: max(cores)} if max(cores, default=1) > 1 else {})
+    return sizes
 
 
 def memory_of(partition: Partition, conf: Conf) -> int | None:
     """Return the MB that a job takes by default, 0 for all of a node, None if Slurm counts no memory."""
     if "memory" not in conf.value(partition.name, "selecttypeparameters").lower():
         return None
+    return default_memory(partition, conf)
+
+
+def default_memory(partition: Partition, conf: Conf) -> int:
     by_cpu, by_node = (number_of(conf.value(partition.name, key)) for key in ("defmempercpu", "defmempernode"))
     return by_node or by_cpu * partition.cpus
 

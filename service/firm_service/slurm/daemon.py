@@ -20,7 +20,7 @@ from ..daemons import notify
 from ..version import add_version
 from . import status
 from .bridge import Bridge, lock_alone
-from .check import Conf, advice, remarks, slot_memory
+from .check import Conf, advice, remarks, sizes_of
 from .hook import hook
 from .table import Table
 
@@ -111,7 +111,7 @@ def reported(options: argparse.Namespace, table: Table) -> Iterator[None]:
 def print_hook(options: argparse.Namespace) -> None:
     table = table_of(options)
     with reported(options, table):
-        sys.stdout.write(hook(table, slot_memory(table, Conf.read(conf_of(options)))))
+        sys.stdout.write(hook(table, sizes_of(table, Conf.read(conf_of(options)))))
 
 
 def print_status(options: argparse.Namespace) -> None:

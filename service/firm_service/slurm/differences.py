@@ -31,7 +31,7 @@ class Standing(NamedTuple):
 def difference(name: str, task: Task, job: Job | None) -> Difference | None:
     if job is None:
         return Difference(name, task.machine or "waits", "ended", None)
-    if job.state is State.RUNNING and job.node != task.machine:
+    if job.has_started and job.node != task.machine:
         return Difference(name, task.machine or "waits", f"runs on {job.node}", latest(task.since, job.started))
     if job.state is State.LEAVING and (task.machine is None or job.node != task.machine):
         return Difference(name, task.machine or "waits", f"leaves {job.node}", task.since)

@@ -6,7 +6,7 @@ from collections import Counter
 from collections.abc import Iterator
 from dataclasses import dataclass, field
 
-from .reading import Hold, Job, State
+from .reading import Hold, Job
 from .said import Seen
 from .table import Partition
 
@@ -63,7 +63,7 @@ def deeds(seen: Seen, partition: Partition) -> Deeds:
                 found.holds.append(job)
             if job.is_pending and name in seen.put_off:
                 found.set_time(job, f"now+{seen.put_off[name]:.0f}")
-        elif job.state is State.RUNNING and job.node != task.machine:
+        elif job.has_started and job.node != task.machine:
             if job.is_steady(seen.now):
                 found.requeues.append(job)
         elif job.is_firms(seen.now):

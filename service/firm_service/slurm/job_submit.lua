@@ -1,8 +1,9 @@
 -- Holds the jobs of the partitions that firm decides, and refuses those that take more than one slot.
 --
--- `firm-slurm hook` writes the three tables. slurmctld reads this file as job_submit.lua beside slurm.conf; a site with
+-- `firm-slurm hook` writes the four tables. slurmctld reads this file as job_submit.lua beside slurm.conf; a site with
 -- rules of its own calls firm_submit and firm_modify from them.
 local CPUS = {}   -- of a slot, by partition
+local CORES = {}  -- CPUs of a core, by partition, where Slurm gives a job whole cores
 local MEMORY = {} -- MB of a slot, by partition, where Slurm counts memory
 local BRIDGE = {} -- users that may release a job: root, and the one that firm-slurm runs as
 
@@ -10,7 +11,10 @@ local BRIDGE = {} -- users that may release a job: root, and the one that firm-s
 local HELD, MOST = "firm:held", "firm:most="
 local RELEASED = "firm:released" -- by its user: a comment must have a word, since Slurm doesn't change one to nothing
 -- What a change may not say: a job keeps the size that was looked at.
-local SIZES = { "min_nodes", "max_nodes", "num_tasks", "cpus_per_task", "min_cpus", "pn_min_cpus", "shared" }
+local SIZES = {
+  "min_nodes", "max_nodes", "num_tasks", "cpus_per_task", "min_cpus", "pn_min_cpus", "shared",
+  "threads_per_core", "ntasks_per_core", "ntasks_per_node",
+}
 local REQUESTS = { "tres_per_job", "tres_per_node", "tres_per_socket", "tres_per_task" }
 
 -- What a job asks for; Slurm has large numbers for what it doesn't ask for.
@@ -24,6 +28,11 @@ end
 
 local function is_plain(text)
   return text == nil or not text:find("[%c|]")
+end
+
+-- Whether firm-slurm can read what squeue prints of a job's words.
+local function are_plain(job)
+  return is_plain(job.comment) and is_plain(job.account) and is_plain(job.qos) and is_plain(job.licenses)
 end
 
 -- Whether a request like gres:gpu:a100:2 is for more than one.
@@ -72,6 +81,30 @@ local function partition_of(job, partitions)
   return found, found ~= nil and count > 1
 end
 
+-- CPUs that Slurm takes for a job; with options like --hint=nomultithread some of its cores' CPUs stay unused.
+local function cpus_of(job, name)
+  local tasks, by_task = number_of(job.num_tasks), number_of(job.cpus_per_task)
+  local core, cpus = CORES[name] or 1, tasks * by_task
+  local threads, by_core = core, tasks
+  if is_asked(job.threads_per_core) and job.threads_per_core > 0 then
+    threads = math.min(core, job.threads_per_core)
+  end
+  if is_asked(job.ntasks_per_core) and job.ntasks_per_core > 0 then
+    by_core = job.ntasks_per_core
+  end
+  local cores = math.max(math.ceil(cpus / threads), math.ceil(tasks / by_core))
+  return math.max(cpus, cores > 1 and cores * core or 0)
+end
+
+-- Nodes that a job asks for, or needs for its tasks. Without a word about them Slurm may take several for two tasks.
+local function nodes_of(job)
+  local nodes, by_node = math.max(number_of(job.min_nodes), number_of(job.max_nodes)), job.ntasks_per_node
+  if is_asked(by_node) and by_node > 0 then
+    return math.max(nodes, math.ceil(number_of(job.num_tasks) / by_node))
+  end
+  return nodes
+end
+
 -- Why a job has more than one slot, or asks for what firm decides.
 local function why_not(job, name)
   local cpus = CPUS[name]
@@ -81,7 +114,7 @@ local function why_not(job, name)
   if job.script == nil then
     return string.format("partition %s takes batch jobs alone: use sbatch", name)
   end
-  if number_of(job.min_nodes) > 1 or number_of(job.num_tasks) * number_of(job.cpus_per_task) > cpus
+  if nodes_of(job) > 1 or cpus_of(job, name) > cpus
     or number_of(job.min_cpus) > cpus or number_of(job.pn_min_cpus) > cpus
     or is_asked(job.shared) and job.shared ~= 1 then -- a node for itself, its user or his group
     return string.format("a job of partition %s has one slot: one node, CPUs %d at most, not exclusive", name, cpus)
@@ -100,8 +133,8 @@ local function why_not(job, name)
   if (job.reservation or "") ~= "" then
     return string.format("partition %s takes no jobs of a reservation: firm places none on reserved nodes", name)
   end
-  if not (is_plain(job.comment) and is_plain(job.account) and is_plain(job.qos)) then
-    return "comment, account and QOS must have no | and no control characters"
+  if not are_plain(job) then
+    return "comment, account, QOS and licences must have no | and no control characters"
   end
   return nil
 end
@@ -122,6 +155,11 @@ end
 
 local function has(comment, word)
   return (" " .. (comment or "") .. " "):find(" " .. word .. " ", 1, true) ~= nil
+end
+
+-- The comment with the number of elements of an array that may run at a time; 0 is no limit, as in Slurm.
+local function with_most(comment, most)
+  return most ~= nil and with(without(comment, MOST), MOST .. most) or without(comment, MOST)
 end
 
 -- The comment with what firm has there, whatever its user writes. Slurm has the same `job` for each element of an
@@ -147,6 +185,9 @@ local function why_unchanged(job, name)
   if (job.reservation or "") ~= "" then
     return "firm places no job on reserved nodes"
   end
+  if job.nice ~= nil and job.nice ~= slurm.NO_VAL then -- Slurm computes a priority, which releases a held job
+    return "firm decides when a job is released: a change of nice would release it"
+  end
   for _, size in ipairs(SIZES) do
     if is_asked(job[size]) then
       return "a job keeps its size"
@@ -163,8 +204,8 @@ local function why_unchanged(job, name)
   if job.requeue == 0 then
     return "a job that firm preempts is requeued"
   end
-  if not (is_plain(job.comment) and is_plain(job.account) and is_plain(job.qos)) then
-    return "comment, account and QOS must have no | and no control characters"
+  if not are_plain(job) then
+    return "comment, account, QOS and licences must have no | and no control characters"
   end
   return nil
 end
@@ -181,11 +222,9 @@ function firm_submit(job, partitions, uid)
   if why ~= nil then
     return refuse("%s", why)
   end
+  job.min_nodes, job.max_nodes = 1, 1
   local most = (job.array_inx or ""):match("%%(%d+)$") -- sbatch --array=1-100%5
-  job.comment = without(without(without(job.comment, HELD), MOST), RELEASED)
-  if most ~= nil then
-    job.comment = with(job.comment, MOST .. most)
-  end
+  job.comment = with_most(without(without(job.comment, HELD), RELEASED), most)
   if job.priority == 0 then -- sbatch --hold
     job.comment = with(job.comment, HELD)
   end
@@ -210,6 +249,9 @@ function firm_modify(job, record, partitions, uid)
     return deny(why)
   end
   local comment = kept_comment(job, record)
+  if job.array_inx ~= nil then -- scontrol update ArrayTaskThrottle=5
+    comment = with_most(comment, job.array_inx:match("^%%?(%d+)$"))
+  end
   if job.priority == 0 then -- scontrol hold
     comment = with(without(without(comment, HELD), RELEASED), HELD)
   elseif job.priority ~= nil and job.priority ~= slurm.NO_VAL then
@@ -219,7 +261,7 @@ function firm_modify(job, record, partitions, uid)
     -- It stays held, and firm may place it again.
     comment, job.priority = with(without(without(comment, HELD), RELEASED), RELEASED), slurm.NO_VAL
   end
-  if comment ~= record.comment then
+  if job.comment ~= nil or comment ~= record.comment then
     job.comment = comment
   end
   return slurm.SUCCESS

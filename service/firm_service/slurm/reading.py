@@ -70,6 +70,7 @@ class Node(NamedTuple):
 
 class State(Enum):
     PENDING = "pending"
+    STARTING = "starting"  # PrologSlurmctld has not ended, or its node is not up yet
     RUNNING = "running"
     LEAVING = "leaving"  # it has ended or is to start anew, and has not left its node
 
@@ -120,12 +121,17 @@ class Job(NamedTuple):
     def is_released(self) -> bool:
         return self.is_pending and self.hold in (Hold.NONE, Hold.MISSED)
 
-    def is_steady(self, now: float) -> bool:
-        """Return whether slurmd has surely launched a running job, so that it may be requeued.
+    @property
+    def has_started(self) -> bool:
+        return self.state in (State.STARTING, State.RUNNING)
 
-        A termination that overtakes the launch finds no process: Slurm takes the job for ended, and it runs on.
+    def is_steady(self, now: float) -> bool:
+        """Return whether slurmd has surely launched a job, so that it may be requeued.
+
+        A termination that overtakes the launch finds no process: Slurm takes the job for ended, and it runs on. One
+        during PrologSlurmctld has Slurm hold the job as an administrator does, for ever.
         """
-        return self.started is None or now - self.started >= STEADY_SECONDS
+        return self.state is State.RUNNING and (self.started is None or now - self.started >= STEADY_SECONDS)
 
     def may_start(self, now: float) -> bool:
         """Return whether a pending job may start: at its user's time, and after its last run.
@@ -160,6 +166,21 @@ class Job(NamedTuple):
     def fits(self, node: Node, now: float) -> bool:
         """Return whether it would end before the next reservation of a node."""
         return now + self.limit <= node.reserved
+
+
+class Launches:
+    """When jobs were last seen starting. Slurm's own time is that of the allocation, before PrologSlurmctld."""
+
+    def __init__(self) -> None:
+        self._seen: dict[str, float] = {}
+
+    def corrected(self, jobs: dict[str, Job], now: float) -> dict[str, Job]:
+        """Return the jobs, those that run with the later of the two times."""
+        running = {name for name in self._seen if name in jobs and jobs[name].state is State.RUNNING}
+        self._seen = {name: self._seen[name] for name in running}
+        found = jobs | {name: jobs[name]._replace(started=at) for name, at in self._seen.items()}
+        self._seen |= {name: now for name, job in jobs.items() if job.state is State.STARTING}
+        return found
 
 
 class Picture(NamedTuple):
@@ -302,7 +323,7 @@ def job_of(row: Sequence[str]) -> Job:
         account=word(account) or "",
         qos=word(qos) or "",
         near=tuple(dict.fromkeys(near[1].split(",")))[:MOST_NEAR] if near else (),
-        most=int(most[1]) if most else None,
+        most=int(most[1]) or None if most else None,
         state=State.PENDING if is_pending else state_of(state),
         hold=hold,
         has_needs=word(needs) is not None,
@@ -319,4 +340,6 @@ def job_of(row: Sequence[str]) -> Job:
 
 def state_of(text: str) -> State:
     """Of a job that is on a node, or leaves one."""
-    return State.RUNNING if text in ("RUNNING", "CONFIGURING", "SUSPENDED", "STOPPED", "RESIZING") else State.LEAVING
+    if text == "CONFIGURING":
+        return State.STARTING
+    return State.RUNNING if text in ("RUNNING", "SUSPENDED", "STOPPED", "RESIZING") else State.LEAVING

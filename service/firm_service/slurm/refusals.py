@@ -112,7 +112,7 @@ def is_leaving(book: Book, name: str, job: Job) -> bool:
     """Whether a job frees its slot soon."""
     if job.state is State.LEAVING:
         return True
-    return job.state is State.RUNNING and name in book.tasks and book.tasks[name].machine != job.node
+    return job.has_started and name in book.tasks and book.tasks[name].machine != job.node
 
 
 def is_refused(book: Book, job: Job) -> bool:

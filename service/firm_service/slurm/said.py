@@ -71,12 +71,12 @@ def is_over(node: Node | None) -> bool:
 
 
 def finishing(seen: Seen, drain: Drain) -> Iterator[str]:
-    """Tasks that run to their end on nodes that take no more."""
+    """Tasks that run to their end on nodes that take no more, as after a node has left the partition."""
     uses = (Use.BOOKED, Use.CLOSED) if drain is Drain.FINISH else (Use.BOOKED,)
     for task, row in seen.book.tasks.items():
         job, node = seen.jobs.get(task), seen.nodes.get(row.machine or "")
-        if job is not None and node is not None and node.use in uses:
-            if job.state is State.RUNNING and job.node == row.machine:
+        if job is not None and job.has_started and job.node == row.machine:
+            if (Use.CLOSED if node is None else node.use) in uses:
                 yield task
 
 
