@@ -21,9 +21,9 @@ from firm_service import agent_state, agent_sweep, view
 from firm_service.agent_state import Key, State, StateError
 from firm_service.queue import retention, sums
 from firm_service.queue.agents import Agents, Terms
+from firm_service.queue.backlog import Machines
 from firm_service.queue.core import Core
 from firm_service.queue.firm import Heard
-from firm_service.queue.giving import Machines
 from firm_service.queue.listing import Lists
 from firm_service.queue.rows import Task
 from firm_service.queue.seals import columns, seal
@@ -34,6 +34,7 @@ from queue_kit import FAST
 from queue_tables import book_of
 
 ROOT = User(0, True)
+NO_MACHINES = Machines({}, set())
 DAY = 86_400.0
 STEPS = 400  # of changes in the check of counters
 
@@ -157,14 +158,14 @@ def kept_ages(folder: Path) -> None:
         def hear(book: Book) -> None:
             know(core, book)
             core.hear(Heard([], ""))
-            core.sort()
+            core.sort(NO_MACHINES)
 
         hear(first)
         task = submit(core, ANN, weight=10)
-        core.sort()
+        core.sort(NO_MACHINES)
         first.rounds = 130
         heavy = submit(core, ROOT, job="heavy", weight=39)
-        core.sort()
+        core.sort(NO_MACHINES)
         ages = [(first.rounds - (one.since or 0), core.backlog.first()) for one in (task, heavy)]
         hear(other)
         ages += [(other.rounds - (one.since or 0), core.backlog.first()) for one in (task, heavy)]
@@ -173,7 +174,7 @@ def kept_ages(folder: Path) -> None:
         other.tasks["1"] = books.Task("u1001", 1, (), 0, None, "m1")
         attempt(core, task, None, 1)
         core.look_at([task.name])
-        core.sort()
+        core.sort(NO_MACHINES)
         require(task.since is None and task not in core.backlog, "it has begun")
         await parts.store.close()
 
@@ -284,7 +285,7 @@ def late_agents(folder: Path) -> None:
         found.append(agents.machines())
         agents.agents["a1"].answered -= 31.0
         found.append(agents.machines())
-        both, busy = Machines({"m1": 4, "m2": 8}, set()), Machines({"m1": 4}, {"m2"})
+        both, busy = Machines({"m1": 4, "m2": 8}, set()), Machines({"m1": 4}, {"m2"}, {"m1"})
         require(found == [both, both, busy, both, busy], found)
         await parts.store.close()
         again = Parts(folder)
@@ -293,7 +294,7 @@ def late_agents(folder: Path) -> None:
         found = [agents.machines()]
         agents.agents["a1"].left -= 6.0
         found.append(agents.machines())
-        require(found == [Machines({}, set()), Machines({}, {"m2"})], f"behind a restart: {found}")
+        require(found == [Machines({}, set()), Machines({}, {"m2"}, {"m1"})], f"behind a restart: {found}")
         await again.store.close()
 
     asyncio.run(play())

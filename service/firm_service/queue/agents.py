@@ -12,12 +12,12 @@ from typing import Protocol
 
 from ..logs import INFO, WARNING, tell
 from ..sight import ROOT
+from .backlog import Machines
 from .core import Core, boot_time
 from .fields import Fields, Json, Refused, bad
-from .giving import Machines
 from .queries import Kept
 from .reports import Claim, Told, claim_of, machines_of, runs_of, told_of, tokens_of, work_of
-from .rows import Attempt, Name, Task
+from .rows import Attempt, Task
 from .states import End
 from .store import NotWritten
 from .users import User
@@ -139,7 +139,7 @@ class Agents:
 
     def machines(self) -> Machines:
         """What firm should have of machines."""
-        wanted: dict[str, int] = {}
+        wanted, closed = dict[str, int](), set[str]()
         unwanted = {machine for machine, mark in self.core.marks.items() if mark in (DRAINED, GONE)}
         unwanted |= {machine for agent in self.agents.values() if agent.is_lost for machine in agent.machines}
         loads = Counter(attempt.machine for attempt in self.core.rows.open.values() if not attempt.is_kept)
@@ -149,6 +149,8 @@ class Agents:
             is_late = self.is_late(agent)
             for machine, slots in agent.machines.items() if (agent.is_known or is_late) and not agent.is_lost else ():
                 mark = self.core.marks.get(machine)
+                if is_late and (loads[machine] or kept[machine]):
+                    closed.add(machine)
                 if mark is None and is_late and not loads[machine] and not kept[machine]:
                     unwanted.add(machine)  # no task could begin there; draining a busy one would end its tasks
                 elif not agent.is_known:
@@ -157,9 +159,12 @@ class Agents:
                     wanted[machine] = slots
                 elif not loads[machine]:  # cordoned, or with runs that were kept only after the cordon was taken back
                     unwanted.add(machine)
+                else:
+                    closed.add(machine)
         book = self.core.firm.book  # other slots than there would drain a machine: they wait until nothing runs on it
         busy = {name: slots for name, slots in book.machines.items() if loads[name]} if book is not None else {}
-        return Machines({name: busy.get(name, slots) for name, slots in wanted.items()}, unwanted - wanted.keys())
+        wanted = {name: busy.get(name, slots) for name, slots in wanted.items()}
+        return Machines(wanted, unwanted - wanted.keys(), closed - unwanted)
 
     # Registrations and leases
 
@@ -391,7 +396,10 @@ class Agents:
 
     def _hindrance(self, task: Task, claim: Claim) -> Json | None:
         """Why a task that is placed can't begin yet."""
-        wait = ASK_AGAIN_SECONDS
+        wait, rows = ASK_AGAIN_SECONDS, self.core.rows_in_firm(task)
+        there = [firm for firm, row in rows.items() if row.machine == claim.machine]
+        if claim.task != task.firm or len(there) > 1:  # behind a restart it must be clear which row the attempt has
+            return {"wait": "it has another row in firm", "seconds": wait}
         mark, other = self.core.marks.get(claim.machine), task.open_attempt
         if other is not None:
             task.told = f"attempt {other.number} on {other.machine} has not ended"
@@ -574,8 +582,6 @@ class Agents:
                 if attempt.claimed < late and attempt.token not in (agent.runs or ()):
                     told = f"{attempt.name}: attempt {attempt.number} on {attempt.machine} is open"
                     found.append(f"{told}, and the agent {agent.name} does not have it")
-        rows = self.core.firm.rows
-        foreign = [row for row in rows.tasks if self.core.rows.task(Name.of_firm(row)) is None] if rows else []
-        if foreign:
-            found.append(f"{len(foreign)} tasks in firm are not the queue's, as {foreign[0]}")
+        if foreign := self.core.foreign():
+            found.append(f"{len(foreign)} tasks in firm are not the queue's, as {next(iter(foreign))}")
         return found
