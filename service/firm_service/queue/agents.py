@@ -12,6 +12,7 @@ from typing import Protocol
 
 from ..logs import INFO, WARNING, tell
 from ..sight import ROOT
+from . import queries
 from .backlog import Machines
 from .core import Core, boot_time
 from .fields import Fields, Json, Refused, bad
@@ -359,6 +360,9 @@ class Agents:
     async def claim(self, session: Session, given: Json) -> Json:
         """Whether a run may begin: once no other attempt of its task is open."""
         claim, loop = claim_of(given), asyncio.get_running_loop()
+        if await self._has_ended(claim.token):  # while its agent was away: the claim's answer was lost
+            session.tell({"tell": "end", "tokens": [claim.token], "why": "its attempt has ended"})
+            return {"wait": "the attempt of this token has ended", "seconds": ASK_AGAIN_SECONDS}
         ends = loop.time() + LAG_SECONDS
         while True:
             agent, news = self.of_session(session), self.core.news
@@ -375,6 +379,14 @@ class Agents:
         agent.is_waiting |= "wait" in found
         await self.core.store.settled()
         return found
+
+    async def _has_ended(self, token: str) -> bool:
+        """Return whether a token is that of an attempt that has ended, which no further one may have."""
+        if token in self.core.rows.open:
+            return False
+        await self.core.store.settled_soon()  # what memory has just forgotten has ended on the disk too then
+        is_known = await self.core.store.read(lambda connection: queries.has_token(connection, token))
+        return is_known and token not in self.core.rows.open
 
     def _try_claim(self, agent: Agent, claim: Claim) -> Json | None:
         """What is answered to a claim; None where the queue and the agent see firm's rows differently."""

@@ -22,7 +22,7 @@ from .fields import Json, Refused, Submit
 from .firm import Firm, Heard
 from .placeholders import Placeholders
 from .rows import IDLE, MOST_NUMBER, SINGLE, WORD_BYTES, Attempt, Job, Name, Need, Rows, Submission, Task, idle_state
-from .spending import ATTEMPT_BYTES, NEED_BYTES, Spending, rows_bytes
+from .spending import ATTEMPT_BYTES, HOLD_BYTES, NEED_BYTES, Spending, rows_bytes
 from .states import Change, End, Facts, Judgement, Needed, Past, State
 from .store import Store, text_of
 from .users import User, job_of, owner_of
@@ -306,16 +306,20 @@ class Core:
 
     # Changes
 
-    def change(self, change: Change, tasks: Iterable[Task]) -> tuple[list[Task], dict[Name, str]]:
+    def change(self, user: User, change: Change, tasks: Iterable[Task]) -> tuple[list[Task], dict[Name, str]]:
         """Cancels, holds or releases tasks; those that it changed, and why the others were left."""
         self.store.require_good()
-        changed, unchanged = [], {}
+        changed, unchanged = list[Task](), dict[Name, str]()
         for task in tasks:
             why = states.refusal(change, self.facts(task))
-            if why is not None:
+            if why is None:
+                changed.append(task)
+            else:
                 unchanged[task.name] = why
-                continue
-            changed.append(task)
+        if changed and change != Change.CANCEL and not user.is_operator:
+            self.spending.require(user.number, HOLD_BYTES * len(changed))
+            self._spend(user.number, HOLD_BYTES * len(changed))
+        for task in changed:
             if change != Change.CANCEL:
                 self.rows.hold(task, change == Change.HOLD)
             elif task.open_attempt is None:

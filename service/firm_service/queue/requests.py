@@ -84,7 +84,7 @@ why: {"ask": "why", "task": "12_4"} -> {"why": {"task": "12_4", "state": "waitin
 
 cancel, hold, release: {"ask": "cancel", "tasks": ["12", "12_4"], "jobs": ["web"]}
   -> {"changed": ["12_4"], "unchanged": {"12_1": "has ended: done"}}. Names that are missing are among `unchanged`;
-  errors `no-such-task`, `no-such-job`, if all are. hold: only what has no process yet.
+  errors `no-such-task`, `no-such-job`, if all are, and of hold and release `budget`. hold: only what has no process yet.
 
 wait: {"ask": "wait", "tasks": ["12", "13_1"], "seconds": null}
   -> {"wait": {"12_1": {"state": "done", "status": 0}, ..}} once all have ended, or the seconds are over.
@@ -160,7 +160,8 @@ beat, every "beat" seconds: {"ask": "beat", "runs": [T, ..]} (all open ones; may
 
 claim: {"ask": "claim", "token": T, "task": firm's name, "line": the row's, "state": firmd's id, "machine": "m1", "run":
   7} before a process is started, with a token that no other run has (8 to 64 of 0-9a-f); the run is recorded before.
-  -> {"claim": {"work": WORK}}: start it. The same token again gives the same answer.
+  -> {"claim": {"work": WORK}}: start it. The same token again gives the same answer, until its attempt has ended: then
+     it is told to end.
    | {"claim": {"wait": WORDS, "seconds": s}}: ask again with the same or another token after `seconds` (at most;
      earlier once told "again"), as long as firm's row says so.
    | {"claim": {"void": WORDS}}: never to be run (ended, cancelled, foreign, or not placed there): wait for firm's row
@@ -334,7 +335,7 @@ class Requests:
     # Submissions
 
     async def _submit(self, caller: Caller, given: Json) -> Json:
-        one = submit_of(given, "ask", "key")
+        one = submit_of(given, "ask", "key", most=self._core.bounds.array)
         made = await self._made(caller.user, [one], Fields(given, list(given)).text("key", MOST_KEY))
         return {**made[0], "again": True} if made.is_again else made[0]
 
@@ -343,12 +344,16 @@ class Requests:
         entries = fields.get("submissions")
         if not isinstance(entries, list) or not 1 <= len(entries) <= MOST_SUBMISSIONS:
             raise bad("submissions", f"a list of 1 to {MOST_SUBMISSIONS:,} submissions")
-        asked = []
+        asked, count, bounds = list[Submit](), 0, self._core.bounds
+        name, most = ("queue-full", bounds.in_all) if caller.user.is_operator else ("quota", bounds.of_user)
         for at, entry in enumerate(entries):
             try:
                 if not isinstance(entry, dict):
                     raise bad("submissions", "each is an object")
-                asked.append(submit_of(entry, "label"))
+                asked.append(submit_of(entry, "label", most=bounds.array))
+                count += asked[-1].count
+                if count > most and asked[-1].count <= bounds.array:  # a larger array is refused as that
+                    raise Refused(name, f"the list has {count:,} tasks or more; there may be {most:,}")
             except Refused as refusal:
                 refusal.more["at"] = at
                 raise
@@ -599,7 +604,7 @@ class Requests:
         if missing and not tasks:
             name, why = next(iter(missing.items()))
             raise Refused("no-such-job" if name in jobs else "no-such-task", f"{name}: {why}")
-        changed, unchanged = self._core.change(Change(given["ask"]), tasks.values())
+        changed, unchanged = self._core.change(caller.user, Change(given["ask"]), tasks.values())
         await self._core.store.settled()
         self._agents.end_kept(changed)
         return {
