@@ -12,7 +12,7 @@ import threading
 import time
 from collections.abc import Callable, Iterator
 from concurrent.futures import ThreadPoolExecutor
-from contextlib import contextmanager
+from contextlib import ExitStack, contextmanager
 from functools import partial
 from pathlib import Path
 from typing import Any
@@ -124,6 +124,24 @@ def waiting_requests(setup: Setup) -> None:
         case.until(lambda: memory(case) - before > 10_000, "they are there")
         grown = memory(case) - before
         require(grown < 160_000, f"the queue has grown by {grown:,} kB")
+
+
+def long_waits(setup: Setup) -> None:
+    """Who waits for many tasks takes as much memory as their numbers, not what JSON makes of the request."""
+    with setup.case().start() as case, case.client() as client, ExitStack() as stack:
+        for _ in range(10):
+            client.submit(*FOREVER, hold=True)
+        text = b'{"ask": "wait", "tasks": [' + b'"10",' * 99_999 + b'"10"]}\n'
+        before = memory(case)
+        waiting = [stack.enter_context(case.client()) for _ in range(40)]
+        for one in waiting:
+            one.send_text(text)
+            client.ask("status")
+        grown = memory(case) - before
+        require(grown < 100_000, f"the queue has grown by {grown:,} kB")
+        client.ask("cancel", tasks=["10"])
+        for one in waiting:
+            require(one.answer()["wait"] == {"10": {"state": "cancelled", "status": None}}, "it waits")
 
 
 def long_requests(setup: Setup) -> None:
@@ -573,6 +591,7 @@ CHECKS: tuple[Callable[[Setup], None], ...] = (
         needs,
         words,
         budget,
+        long_waits,
         long_requests,
         repeated_command,
         answers_alone,

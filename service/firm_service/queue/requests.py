@@ -199,9 +199,10 @@ from __future__ import annotations
 import asyncio
 import json
 import time
+from array import array
 from base64 import b64encode
 from collections import defaultdict
-from collections.abc import AsyncIterator, Awaitable, Callable, Iterable, Mapping, Sequence
+from collections.abc import AsyncIterator, Awaitable, Callable, Iterable, Iterator, Mapping, Sequence
 from contextlib import suppress
 from dataclasses import dataclass, replace
 from functools import partial
@@ -225,6 +226,7 @@ from .store import NotWritten
 from .threads import Threads
 from .users import User, is_known, look_up, name_of, number_of, presume
 
+INDEX_BITS = 24  # that an index takes, and one more for no index
 MOST_SUBMISSIONS, MOST_ASKED, MOST_ROWS, DEFAULT_ROWS = 10_000, 100_000, 100_000, 10_000
 # Of what has ended long ago, for one request: tasks, and bytes that the words take, where they are read.
 MOST_READ, MOST_READ_BYTES = 200_000, 2**26
@@ -623,34 +625,36 @@ class Requests:
 
     async def _wait(self, caller: Caller, given: Json) -> Json:
         fields = Fields(given, ["ask", "tasks", "seconds"])
-        texts, seconds = fields.texts("tasks", MOST_ASKED, 32), fields.number("seconds", 1e9)
+        names, seconds = packed(fields.texts("tasks", MOST_ASKED, 32)), fields.number("seconds", 1e9)
+        given.clear()  # as texts they take twenty times as much, perhaps for days
         loop = asyncio.get_running_loop()
         ends = loop.time() + (1e10 if seconds is None else seconds)
         while True:
             try:
-                return await self._waited(caller, texts, ends)
+                return await self._waited(caller, names, ends)
             except NotWritten:  # what has ended in memory alone has not ended: the rows are read anew
                 if loop.time() >= ends or caller.is_gone():
                     raise
             await asyncio.sleep(ANEW_SECONDS)
 
-    async def _waited(self, caller: Caller, texts: Sequence[str], ends: float) -> Json:
+    async def _waited(self, caller: Caller, names: array[int], ends: float) -> Json:
         """What has become of tasks once they have ended, or the time is over; raises `NotWritten`."""
-        await self._submissions_of(caller.user, texts, are_whole=False)
-        await self._wait_for(caller, [name_from(text) for text in dict.fromkeys(texts)], ends)
-        tasks = (await self._named(caller.user, texts)).items()
+        await self._submissions_of(caller.user, list(map(str, unpacked(names))), are_whole=False)
+        await self._wait_for(caller, names[:], ends)
+        tasks = (await self._named(caller.user, list(map(str, unpacked(names))))).items()
         found = {str(name): {"state": self._lists.state_of(task), "status": task.status} for name, task in tasks}
         await self._core.store.settled()
         return found
 
-    async def _wait_for(self, caller: Caller, left: list[Name], ends: float) -> None:
+    async def _wait_for(self, caller: Caller, left: array[int], ends: float) -> None:
         """Returns once tasks, or all of submissions, have ended, or the time is over."""
-        event, numbers, loop = asyncio.Event(), {name.number for name in left}, asyncio.get_running_loop()
+        event, loop = asyncio.Event(), asyncio.get_running_loop()
+        numbers = {name.number for name in unpacked(left)}
         self._core.ends.add(numbers, event)
         try:
             while True:
                 event.clear()
-                while left and self._core.has_ended(left[-1]):
+                while left and self._core.has_ended(next(unpacked(left[-1:]))):
                     left.pop()
                 if not left or loop.time() >= ends or caller.is_gone():
                     return
@@ -790,6 +794,16 @@ class Requests:
         if submission is None:
             raise Refused("no-such-task", f"{name}: no such task")
         return submission.tasks[name.index]
+
+
+def packed(texts: Iterable[str]) -> array[int]:
+    """Return names, each once, as numbers: many may be waited for, and for long."""
+    names = (name_from(text) for text in dict.fromkeys(texts))
+    return array("q", [name.number << INDEX_BITS | name.index - SINGLE for name in names])
+
+
+def unpacked(names: Iterable[int]) -> Iterator[Name]:
+    return (Name(name >> INDEX_BITS, (name & (1 << INDEX_BITS) - 1) + SINGLE) for name in names)
 
 
 def name_from(text: str) -> Name:
