@@ -18,7 +18,7 @@ from queue_kit import FOREVER, LIMIT_SECONDS, Case, Client, Setup, Size, StandIn
 from queue_tables import book_of
 
 AWAY_SECONDS = 5.0  # after which an agent is away
-SOON_SECONDS = 3.0  # in which a task runs
+SOON_SECONDS = 30.0  # in which a task runs: within 3 on an idle host, and after 300 in vain
 FEW = 10  # absences, in which perhaps no task is placed where it can't begin
 QUIET_SECONDS = 1.0  # in which firm's rows would change again, if they did
 HASTY = """\
@@ -60,10 +60,9 @@ def busy_away(setup: Setup) -> None:
     with setup.case("--lease=300").start() as case:
         with case.client() as client:
             agent = begun(case, client)
-            began = time.monotonic()
             client.submit(*FOREVER)
             case.until(lambda: "2" in case.world.running(), "it runs", SOON_SECONDS)
-            require(time.monotonic() - began < SOON_SECONDS and machines_of(case)["2"] == "m2", case.world.processes)
+            require(machines_of(case)["2"] == "m2", case.world.processes)
             require(in_firm(case) == {"1": "m1", "2": "m1", "2a": "m1", "2b": "m1", "2c": "m2"}, in_firm(case))
             row = client.ask("task", task="2")
             require((row["state"], row["machine"], row["firm"]) == ("running", "m2", "2c"), row)
@@ -126,7 +125,7 @@ def alone_away(setup: Setup) -> None:
 
 def ended_elsewhere(setup: Setup) -> None:
     """Placeholders outlive their tasks, keep no job's weight, and go with a machine whose agent is lost."""
-    with setup.case("--lease=9", "--margin=0.1").start() as case, case.client() as client:
+    with setup.case("--lease=20", "--margin=0.1").start() as case, case.client() as client:
         agent = case.agent("a1", m1=3)
         client.submit(*FOREVER, job="first", grace=0)
         case.until(lambda: len(case.world.running()) == 1, "a task runs")
@@ -139,10 +138,30 @@ def ended_elsewhere(setup: Setup) -> None:
         require(list(in_firm(case).values()).count("m1") == 3, in_firm(case))
         client.submit("0.01", job="short", weight=6)
         client.ask("wait", tasks=["3"], seconds=SOON_SECONDS)
-        require(client.state("3") == "done", "another weight")
+        agent_row = client.ask("agents")[0]
+        require(client.state("3") == "done" and agent_row["state"] != "lost", f"another weight: {agent_row}")
         case.until(lambda: client.ask("agents")[0]["state"] == "lost", "it is lost")
         case.until(lambda: set(in_firm(case)) == {"1"}, "the placeholders are gone")
         case.until(lambda: machines_of(case)["1"] == "m2", "the first task runs again")
+        case.world.require_single()
+
+
+def long_grace(setup: Setup) -> None:
+    """A task with a long grace does not hold up others that its agent ran, once that is silent."""
+    with setup.case("--lease=1", "--margin=0.1").start() as case, case.client() as client:
+        agent = case.agent("a1", m1=3)
+        client.submit(*FOREVER, grace=3_600)
+        client.submit(*FOREVER, grace=0)
+        case.until(lambda: len(case.world.running()) == 2, "they run")
+        case.agent("a2", m2=2)
+        case.until(lambda: len(asked_of_firm(case, "machines")) == 2, "both are there")
+        agent.kill()
+        case.until(lambda: machines_of(case)["2"] == "m2", "it runs elsewhere")
+        require(client.ask("task", task="2")["attempts"][0]["outcome"] == "lost", "its first attempt")
+        row = client.ask("task", task="1")
+        require((row["attempt"], row["attempts"][0]["outcome"]) == (1, None), row)
+        case.agent("a1", agent.disk, m1=3)
+        case.until(lambda: len(case.world.running()) == 2, "so does the other one, once its agent is back")
         case.world.require_single()
 
 
@@ -242,5 +261,12 @@ def longest_names() -> None:
         require(is_given == (line < 26) and len(task.firm) == 16, task.firm)
 
 
-CHECKS: tuple[Callable[[Setup], None], ...] = (busy_away, full_elsewhere, alone_away, ended_elsewhere, new_state)
+CHECKS: tuple[Callable[[Setup], None], ...] = (
+    busy_away,
+    full_elsewhere,
+    alone_away,
+    ended_elsewhere,
+    long_grace,
+    new_state,
+)
 TABLES: dict[str, Callable[[], None]] = {"table of rows": table_of_rows, "longest names": longest_names}

@@ -305,8 +305,12 @@ class Agents:
 
     def over_at(self, agent: Agent) -> float:
         """When nothing of what it has begun runs any more, if it stays silent; by CLOCK_BOOTTIME."""
-        tasks = [self.core.rows.task(attempt.name) for attempt in self.attempts_of(agent)]
-        grace = max((task.submission.spec.grace for task in tasks if task is not None), default=0.0)
+        return max((self._over_at(agent, attempt) for attempt in self.attempts_of(agent)), default=self._over_at(agent))
+
+    def _over_at(self, agent: Agent, attempt: Attempt | None = None) -> float:
+        """When an attempt of it surely has ended, or its lease is over."""
+        task = self.core.rows.task(attempt.name) if attempt is not None else None
+        grace = task.submission.spec.grace if task is not None else 0.0
         return max(agent.answered + self.terms.lease, self._former_over) + grace + self.terms.margin
 
     async def expire_for_ever(self) -> None:
@@ -319,9 +323,13 @@ class Agents:
                 if agent.is_late != (is_late := self.is_late(agent)):
                     agent.is_late = is_late
                     self.core.firm.changed.set()
-                is_over = boot_time() > self.over_at(agent) and not self.core.store.why_bad
-                if is_over and (not agent.is_lost or self.attempts_of(agent)):
-                    with suppress(NotWritten):  # the rows are read anew then, and it is found again
+                now = boot_time()
+                if self.core.store.why_bad or now <= self._over_at(agent):
+                    continue
+                with suppress(NotWritten):  # the rows are read anew then, and it is found again
+                    if now <= self.over_at(agent):  # the graces of its other runs do not hold up these
+                        self._lose_over(agent, now)
+                    elif not agent.is_lost or self.attempts_of(agent):
                         self._lose(agent)
 
     def _forget_lease(self) -> None:
@@ -342,6 +350,14 @@ class Agents:
                 tell(WARNING, f"{attempt.name}: attempt {attempt.number} is unknown to its agent {attempt.agent}: lost")
                 self.core.end_attempt(attempt, End("lost"))
             del self._unknown[token]
+
+    def _lose_over(self, agent: Agent, now: float) -> None:
+        """Takes for lost what has surely ended of a silent agent's runs, while others may be in their graces."""
+        for attempt in self.attempts_of(agent):
+            if now > self._over_at(agent, attempt):
+                told = f"{attempt.name}: attempt {attempt.number} on {attempt.machine} is taken for lost"
+                tell(WARNING, f"{told}: {agent.name} is silent for {agent.silence:.0f} s", agent=agent.name)
+                self.core.end_attempt(attempt, End("lost"))
 
     def _lose(self, agent: Agent) -> None:
         attempts = self.attempts_of(agent)

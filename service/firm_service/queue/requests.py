@@ -155,8 +155,8 @@ beat, every "beat" seconds: {"ask": "beat", "runs": [T, ..]} (all open ones; may
   -> {"beat": {"lease": 60}}; `not-registered`: register again. The tell "lease" says the same at once: beats are sent
   though those before have no answer, so that a disk of the queue's that hangs ends no lease.
   **The lease runs from the moment before the request was sent** (register or beat), not from its answer. Once it is
-  over each supervisor ends its run by itself. lease + the longest grace of its runs + `--margin` (10 s) after the queue
-  answered last, by CLOCK_BOOTTIME, it takes the runs for lost, drains the machines and lets the tasks start elsewhere.
+  over each supervisor ends its run by itself. lease + a run's grace + `--margin` (10 s) after the queue answered last,
+  by CLOCK_BOOTTIME, it takes the run for lost and lets the task start elsewhere; after the last it drains the machines.
 
 claim: {"ask": "claim", "token": T, "task": firm's name, "line": the row's, "state": firmd's id, "machine": "m1", "run":
   7} before a process is started, with a token that no other run has (8 to 64 of 0-9a-f); the run is recorded before.
