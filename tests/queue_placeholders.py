@@ -90,22 +90,40 @@ def busy_away(setup: Setup) -> None:
 
 
 def full_elsewhere(setup: Setup) -> None:
-    """Without room elsewhere a task waits beside its placeholder, with few rounds; it runs where there is room first:
-    here on the machine itself, as its agent is back."""
+    """Without room elsewhere a task stays, with few further rounds, until there is room: first on the other machine, then
+    on its own, as the agent is back."""
     with setup.case("--lease=300").start() as case, case.client() as client:
         agent = begun(case, client, m2=1)
         client.submit(*FOREVER)
-        case.until(lambda: "2" in case.world.running(), "the other machine is full", SOON_SECONDS)
-        client.submit(*FOREVER)
-        case.until(lambda: client.state("3") == "waiting", "it waits for both", SOON_SECONDS)
+        case.until(lambda: "2" in case.world.running(), "the other machine has room", SOON_SECONDS)
+        for _ in range(2):
+            client.submit(*FOREVER)
+        case.until(lambda: client.state("4") in ("starting", "waiting"), "it is full", SOON_SECONDS)
+        time.sleep(QUIET_SECONDS)
         before = commands_of(case)
         time.sleep(QUIET_SECONDS)
-        require(commands_of(case) - before <= 2, f"{commands_of(case) - before} commands")
+        require(commands_of(case) - before <= 1, f"{commands_of(case) - before} commands")
+        client.ask("cancel", tasks=["2"])
+        case.until(lambda: len(case.world.running()) == 2, "one of them runs", SOON_SECONDS)
         case.agent("a1", agent.disk, m1=4)
-        case.until(lambda: "3" in case.world.running(), "it runs", SOON_SECONDS)
+        case.until(lambda: len(case.world.running()) == 3, "so does the other one", SOON_SECONDS)
         case.until(lambda: len(in_firm(case)) == 3, "the placeholders go")
-        require(machines_of(case) == {"1": "m1", "2": "m2", "3": "m1"}, case.world.processes)
+        require(sorted(machines_of(case).values()) == ["m1", "m1", "m2", "m2"], case.world.processes)
         case.world.require_single()
+
+
+def turns(setup: Setup) -> None:
+    """Where to preempt costs nothing, tasks given again take no slots in turn from those that run."""
+    with setup.case("--lease=300", size=Size(churn=0, spread=2)).start() as case, case.client() as client:
+        begun(case, client)
+        for _ in range(8):
+            client.submit(*FOREVER)
+        case.until(lambda: len(case.world.running()) == 5, "the other machine is full", SOON_SECONDS)
+        time.sleep(QUIET_SECONDS)
+        before, processes = commands_of(case), len(case.world.processes)
+        time.sleep(5 * QUIET_SECONDS)
+        require(commands_of(case) - before <= 4, f"{commands_of(case) - before} commands")
+        require(len(case.world.processes) <= processes + 1, case.world.processes)
 
 
 def alone_away(setup: Setup) -> None:
@@ -264,6 +282,7 @@ def longest_names() -> None:
 CHECKS: tuple[Callable[[Setup], None], ...] = (
     busy_away,
     full_elsewhere,
+    turns,
     alone_away,
     ended_elsewhere,
     long_grace,

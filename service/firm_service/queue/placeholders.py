@@ -9,12 +9,15 @@ None of this is written: firm's rows, their machines and the open attempts show 
 
 from __future__ import annotations
 
+from bisect import bisect_right
+from collections import Counter
 from collections.abc import Iterator, Mapping
 from itertools import product
 from string import ascii_lowercase
 
 from ..books import Book
 from ..books import Task as Row
+from ..roster import slot_cost
 from .backlog import Machines
 from .rows import LONGEST_FIRM_NAME, Job, Name, Task
 
@@ -26,7 +29,8 @@ class Placeholders:
         self.standing: set[str] = set()  # names in firm
         self._lettered: dict[Name, set[str]] = {}  # names with letters in firm, by task
         self._machines = Machines({}, set())
-        self._has_open = False  # there is a machine on which tasks can begin
+        self._open: list[int] = []  # costs of free slots where tasks can begin, in order
+        self._given = 0  # of these, to tasks that wait in firm or were given again
         self._looked: object = None  # what the rows on closed machines were last looked at with
 
     def clear(self) -> None:
@@ -59,12 +63,12 @@ class Placeholders:
     def look(self, machines: Machines, book: Book, jobs: Mapping[str, Job]) -> Iterator[str]:
         """Take in the machines' states. Yield the rows that may have become placeholders, or are none any more."""
         self._machines = machines
-        self._has_open = any(machine in book.machines for machine in machines.wanted.keys() - machines.closed)
         yield from [firm for firm in self.standing if not self.may_stand(book.tasks.get(firm), book, jobs)]
-        state = (book.rounds, machines.closed, self._has_open)
-        if state != self._looked:
-            self._looked = state
+        state = (book.rounds, book.running, book.waiting, machines, book.machines.copy()) if machines.closed else None
+        if state is not None and state != self._looked:
+            self._open, self._given = sorted(open_costs(machines, book)), book.waiting
             yield from [firm for firm, row in book.tasks.items() if row.machine in machines.closed]
+        self._looked = state
 
     def may_stand(self, row: Row | None, book: Book, jobs: Mapping[str, Job]) -> bool:
         """Return whether a row holds a closed slot, and does not keep its job from a new weight."""
@@ -96,12 +100,23 @@ class Placeholders:
         return rows[first]
 
     def replace(self, task: Task, row: Row, book: Book) -> bool:
-        """Give a task another name in firm if it can't begin where its row is, and may elsewhere."""
-        if row.machine not in self._machines.closed or task.open_attempt is not None or not self._has_open:
+        """Give a task another name in firm if it can't begin where its row is, and there is room elsewhere. Without
+        room it would wait, each round would make waits dearer, and placeholders and others would lose their slots."""
+        if row.machine not in self._machines.closed or task.open_attempt is not None:
+            return False
+        if bisect_right(self._open, book.jobs[row.job]) <= self._given:
             return False
         for letters in LETTERS:
             firm = task.name.in_firm(letters)
             if firm not in book.tasks and len(firm) <= LONGEST_FIRM_NAME:
                 task.letters = letters
+                self._given += 1
                 return True
         return False
+
+
+def open_costs(machines: Machines, book: Book) -> Iterator[int]:
+    """Yield the costs of free slots where tasks can begin."""
+    loads = Counter(row.machine for row in book.tasks.values())
+    for name in book.machines.keys() & machines.wanted.keys() - machines.closed:
+        yield from (slot_cost(book.limits.spread, slot) for slot in range(loads[name], book.machines[name]))

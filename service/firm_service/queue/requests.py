@@ -15,8 +15,8 @@ that may be null may be left out. What is acknowledged is on the disk.
 
 Names. A *submission* has a number: 1, 2, .. One without an array is the task `12`, of an array of 1 to 3 the tasks
 `12_1`, `12_2`, `12_3`; `12` then names all of them. firm's names are `12` and `12-1`. A task that firm places on a busy
-machine whose agent is away is given again as `12a` or `12a1`, with `b` the next time, ..; the row there stays until the
-agent is back. Times are seconds of the Unix clock for people; nothing is decided by them.
+machine whose agent is away is given again, if others have room, as `12a` or `12a1`, with `b` the next time, ..; the row
+there stays until the agent is back. Times are seconds of the Unix clock for people; nothing is decided by them.
 
 The *user* is the peer's, as the system knows it. *Operators* are root, the queue's own user, and the members of
 `--operators GROUP`. Others see and change only their own tasks: those of others are `no-such-task`.
