@@ -57,9 +57,9 @@ def lower_lease(setup: Setup) -> None:
 
 
 def claimed_again(setup: Setup) -> None:
-    """A claim whose answer was lost, repeated once its attempt has ended as lost, is told to end: another attempt with
-    its token would take the first one's row."""
-    with setup.case("--lease=4", "--margin=0.1").start() as case, case.client() as client:
+    """A claim whose answer was lost, repeated once its attempt has ended as lost, begins no attempt with the same
+    token: it would take the first one's row. The agent ends the run and claims with another token."""
+    with setup.case("--lease=15", "--margin=0.1").start() as case, case.client() as client:
         claim: Json = {"token": "aaaaaaaa", "run": 1}
         registration: Json = {"agent": "a1", "id": "x", "machines": {"m1": 1}}
         with case.client() as agent:

@@ -127,7 +127,7 @@ def waiting_requests(setup: Setup) -> None:
 
 
 def long_waits(setup: Setup) -> None:
-    """Who waits for many tasks takes as much memory as their numbers, not what JSON makes of the request."""
+    """A wait for many tasks takes as much memory as their numbers, not what JSON makes of the request."""
     with setup.case().start() as case, case.client() as client, ExitStack() as stack:
         for _ in range(10):
             client.submit(*FOREVER, hold=True)
@@ -433,8 +433,8 @@ def listed_arrays(setup: Setup) -> None:
 
 
 def holds(setup: Setup) -> None:
-    """Who holds and releases tasks again and again, which are lines of firmd's journal, comes to the end of a budget;
-    operators and cancellations do not."""
+    """Holds and releases, which are lines of firmd's journal, exhaust a user's budget; cancellations and operators'
+    changes do not."""
     with setup.case("--budget=100K", "--socket-mode=666").start() as case, case.client() as client:
         case.folder.chmod(0o755)
         submit = {**HELD, "array": [1, 50]}

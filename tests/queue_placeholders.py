@@ -90,8 +90,8 @@ def busy_away(setup: Setup) -> None:
 
 
 def full_elsewhere(setup: Setup) -> None:
-    """Without room elsewhere a task stays, with few further rounds, until there is room: first on the other machine, then
-    on its own, as the agent is back."""
+    """Without room elsewhere a task stays, with few further rounds, until there is room: first on the other machine,
+    then on its own, as the agent is back."""
     with setup.case("--lease=300").start() as case, case.client() as client:
         agent = begun(case, client, m2=1)
         client.submit(*FOREVER)
@@ -113,7 +113,7 @@ def full_elsewhere(setup: Setup) -> None:
 
 
 def turns(setup: Setup) -> None:
-    """Where to preempt costs nothing, tasks given again take no slots in turn from those that run."""
+    """Tasks given again take no slots in turn from running ones, even if a preemption costs nothing."""
     with setup.case("--lease=300", size=Size(churn=0, spread=2)).start() as case, case.client() as client:
         begun(case, client)
         for _ in range(8):
@@ -166,7 +166,7 @@ def ended_elsewhere(setup: Setup) -> None:
 
 def long_grace(setup: Setup) -> None:
     """A task with a long grace does not hold up others that its agent ran, once that is silent."""
-    with setup.case("--lease=1", "--margin=0.1").start() as case, case.client() as client:
+    with setup.case("--lease=10", "--margin=0.1").start() as case, case.client() as client:
         agent = case.agent("a1", m1=3)
         client.submit(*FOREVER, grace=3_600)
         client.submit(*FOREVER, grace=0)
@@ -232,7 +232,7 @@ def commands_of(case: Case) -> int:
 
 
 def table_of_rows() -> None:
-    """Which of its rows is a task's own."""
+    """A task's own row among several."""
     cases: list[tuple[str, dict[str, str | None], str | None, str, backlog.Machines]] = [
         ("", {}, None, "1", CLOSED),
         ("a", {}, None, "1", CLOSED),

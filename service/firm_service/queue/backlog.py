@@ -133,11 +133,11 @@ class Line:
 
 @dataclass(frozen=True, slots=True)
 class Machines:
-    """What the agents want of firm: machines with their slots, and those that should not be there."""
+    """The machines that firm should have, with their slots, and those that it should not have."""
 
     wanted: dict[str, int]
     unwanted: set[str]
-    closed: set[str] = field(default_factory=set)  # that stay for what runs there; nothing can begin on them
+    closed: set[str] = field(default_factory=set)  # that stay for their running tasks; no task can begin there
 
 
 @dataclass

@@ -19,7 +19,7 @@ from ..books import Book
 from ..books import Task as Row
 from ..roster import slot_cost
 from .backlog import Machines
-from .rows import LONGEST_FIRM_NAME, Job, Name, Task
+from .rows import MAX_FIRM_NAME, Job, Name, Task
 
 LETTERS = ("", *ascii_lowercase, *map("".join, product(ascii_lowercase, repeat=2)))
 
@@ -108,7 +108,7 @@ class Placeholders:
             return False
         for letters in LETTERS:
             firm = task.name.in_firm(letters)
-            if firm not in book.tasks and len(firm) <= LONGEST_FIRM_NAME:
+            if firm not in book.tasks and len(firm) <= MAX_FIRM_NAME:
                 task.letters = letters
                 self._given += 1
                 return True

@@ -84,7 +84,7 @@ why: {"ask": "why", "task": "12_4"} -> {"why": {"task": "12_4", "state": "waitin
 
 cancel, hold, release: {"ask": "cancel", "tasks": ["12", "12_4"], "jobs": ["web"]}
   -> {"changed": ["12_4"], "unchanged": {"12_1": "has ended: done"}}. Names that are missing are among `unchanged`;
-  errors `no-such-task`, `no-such-job`, if all are, and of hold and release `budget`. hold: only what has no process yet.
+  errors `no-such-task`, `no-such-job`, if all are; `budget` of hold and release. hold: only what has no process yet.
 
 wait: {"ask": "wait", "tasks": ["12", "13_1"], "seconds": null}
   -> {"wait": {"12_1": {"state": "done", "status": 0}, ..}} once all have ended, or the seconds are over.
@@ -161,7 +161,7 @@ beat, every "beat" seconds: {"ask": "beat", "runs": [T, ..]} (all open ones; may
 claim: {"ask": "claim", "token": T, "task": firm's name, "line": the row's, "state": firmd's id, "machine": "m1", "run":
   7} before a process is started, with a token that no other run has (8 to 64 of 0-9a-f); the run is recorded before.
   -> {"claim": {"work": WORK}}: start it. The same token again gives the same answer, until its attempt has ended: then
-     it is told to end.
+     a tell "end" names it.
    | {"claim": {"wait": WORDS, "seconds": s}}: ask again with the same or another token after `seconds` (at most;
      earlier once told "again"), as long as firm's row says so.
    | {"claim": {"void": WORDS}}: never to be run (ended, cancelled, foreign, or not placed there): wait for firm's row
@@ -202,7 +202,7 @@ import time
 from array import array
 from base64 import b64encode
 from collections import defaultdict
-from collections.abc import AsyncIterator, Awaitable, Callable, Iterable, Iterator, Mapping, Sequence
+from collections.abc import AsyncIterator, Awaitable, Callable, Iterable, Mapping, Sequence
 from contextlib import suppress
 from dataclasses import dataclass, replace
 from functools import partial
@@ -218,15 +218,14 @@ from .estimates import Estimates
 from .explaining import Explainer
 from .fields import MOST_KEY, Fields, Json, Refused, Submit, bad, require_acyclic, submit_of
 from .listing import VERSION, Lists
-from .output import output_of, pieces, tail_of
+from .output import LOOK_SECONDS, output_of, pieces, tail_of
 from .queries import Asked
-from .rows import SINGLE, Attempt, Name, Submission, Task
+from .rows import SINGLE, Attempt, Name, Submission, Task, packed, unpacked
 from .states import ENDED, Change, State
 from .store import NotWritten
 from .threads import Threads
 from .users import User, is_known, look_up, name_of, number_of, presume
 
-INDEX_BITS = 24  # that an index takes, and one more for no index
 MOST_SUBMISSIONS, MOST_ASKED, MOST_ROWS, DEFAULT_ROWS = 10_000, 100_000, 100_000, 10_000
 # Of what has ended long ago, for one request: tasks, and bytes that the words take, where they are read.
 MOST_READ, MOST_READ_BYTES = 200_000, 2**26
@@ -625,7 +624,8 @@ class Requests:
 
     async def _wait(self, caller: Caller, given: Json) -> Json:
         fields = Fields(given, ["ask", "tasks", "seconds"])
-        names, seconds = packed(fields.texts("tasks", MOST_ASKED, 32)), fields.number("seconds", 1e9)
+        names = packed(map(name_from, dict.fromkeys(fields.texts("tasks", MOST_ASKED, 32))))
+        seconds = fields.number("seconds", 1e9)
         given.clear()  # as texts they take twenty times as much, perhaps for days
         loop = asyncio.get_running_loop()
         ends = loop.time() + (1e10 if seconds is None else seconds)
@@ -680,7 +680,7 @@ class Requests:
         while attempt is None or attempt.began is None and (attempt.is_open or is_next and task.outcome is None):
             if not follows or caller.is_gone() or task.outcome is not None:
                 raise Refused("no-output", f"{task.name} has not begun")
-            await self._wait_a_moment()
+            await asyncio.sleep(LOOK_SECONDS)
             task = await self._current(task.name)
             attempt = await self._attempt(task, wanted)
         at, name, output = start, task.name, output_of(task, attempt)
@@ -702,9 +702,6 @@ class Requests:
             return await self._threads.do(task.submission.user, partial(tail_of, output, most))
         except OSError as error:
             raise output.refusal(error) from error
-
-    async def _wait_a_moment(self) -> None:
-        await asyncio.sleep(0.1)
 
     async def _attempt(self, task: Task, wanted: int | None) -> Attempt | None:
         if wanted is None:
@@ -794,16 +791,6 @@ class Requests:
         if submission is None:
             raise Refused("no-such-task", f"{name}: no such task")
         return submission.tasks[name.index]
-
-
-def packed(texts: Iterable[str]) -> array[int]:
-    """Return names, each once, as numbers: many may be waited for, and for long."""
-    names = (name_from(text) for text in dict.fromkeys(texts))
-    return array("q", [name.number << INDEX_BITS | name.index - SINGLE for name in names])
-
-
-def unpacked(names: Iterable[int]) -> Iterator[Name]:
-    return (Name(name >> INDEX_BITS, (name & (1 << INDEX_BITS) - 1) + SINGLE) for name in names)
 
 
 def name_from(text: str) -> Name:

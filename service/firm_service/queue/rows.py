@@ -3,6 +3,7 @@
 from __future__ import annotations
 
 import re
+from array import array
 from bisect import bisect_left, insort
 from collections.abc import Iterable, Iterator, Sequence
 from dataclasses import dataclass, field
@@ -12,12 +13,13 @@ from .forms import indexes_of
 
 SINGLE = -1  # the index of a task that is a submission's only one, without an array
 MOST_NUMBER, MOST_INDEX = 99_999_999, 9_999_999  # together, a name of a task in firm has no more letters
+INDEX_BITS = 24  # of an index, or none, in a packed name
 DEFAULT_GRACE = 5.0  # seconds
 WORD_BYTES = 128  # of memory, that a word or a need takes beside its letters
 _TASK = re.compile(r"([1-9][0-9]{0,7})(?:_(0|[1-9][0-9]{0,6}))?")
 # With letters after its number: a further row of the task, as `placeholders` gives it.
 _FIRM_NAME = re.compile(r"([1-9][0-9]{0,7})(?:-(0|[1-9][0-9]{0,6})|([a-z]{1,2})(0|[1-9][0-9]{0,6})?)?")
-LONGEST_FIRM_NAME = 16
+MAX_FIRM_NAME = 16
 
 
 @dataclass(slots=True, order=True, unsafe_hash=True)  # a frozen one takes three times as long to make
@@ -59,6 +61,15 @@ class Name:
     def letters_in(self, text: str) -> str:
         """The letters in a name of this task's in firm."""
         return text.removeprefix(str(self.number)).rstrip("0123456789").removesuffix("-")
+
+
+def packed(names: Iterable[Name]) -> array[int]:
+    """Return names as numbers, which take a twentieth of their memory."""
+    return array("q", [name.number << INDEX_BITS | name.index - SINGLE for name in names])
+
+
+def unpacked(names: Iterable[int]) -> Iterator[Name]:
+    return (Name(name >> INDEX_BITS, (name & (1 << INDEX_BITS) - 1) + SINGLE) for name in names)
 
 
 @dataclass(frozen=True, slots=True)
