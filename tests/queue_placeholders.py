@@ -197,6 +197,15 @@ def new_state(setup: Setup) -> None:
         case.world.require_single()
 
 
+class Steady(Submitter):
+    """A client whose tasks take about half of the slots: machines are busy, and others have room."""
+
+    pause = 0.3
+
+    def command(self) -> list[str]:
+        return [str(self.draw.choice([0.3, 1, 3])), str(self.draw.choice([0, 0, 0, 7]))]
+
+
 def absences(case_of: Callable[..., Case], plan: Plan) -> None:
     """Agents are away for a while again and again, and queue and firmd are killed meanwhile: each task ends once."""
     draw = random.Random(plan.seed)
@@ -204,7 +213,7 @@ def absences(case_of: Callable[..., Case], plan: Plan) -> None:
         case.words = [sys.executable, "-c", HASTY, "run"]
         case.start()
         agents = [case.agent("a1", m1=4, m2=3), case.agent("a2", m3=4, m4=1), case.agent("a3", m5=2)]
-        submitter = Submitter(case, plan.seed)
+        submitter = Steady(case, plan.seed)
         thread = threading.Thread(target=submitter.serve)
         thread.start()
         found = 0
@@ -212,8 +221,9 @@ def absences(case_of: Callable[..., Case], plan: Plan) -> None:
             for _ in range(plan.kills):
                 agent = agents.pop(draw.randrange(len(agents)))
                 agent.kill()
-                time.sleep(draw.choice([0.1, 0.5, 1.0]))
-                found += any(set(name) & {*ascii_lowercase} for name in in_firm(case))
+                ends = time.monotonic() + draw.choice([0.1, 0.5, 1.0])
+                while time.monotonic() < ends:
+                    found += any(set(name) & {*ascii_lowercase} for name in in_firm(case))
                 kill_one(case, agents, draw)
                 agents.append(case.agent(agent.name, agent.disk, **agent.machines))
                 time.sleep(draw.choice([0, 0.2]))
