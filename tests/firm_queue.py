@@ -32,6 +32,7 @@ import queue_gaps
 import queue_hostile
 import queue_kills
 import queue_parts
+import queue_placeholders
 import queue_tables
 from harness import program
 from harness.checks import Check, Skipped, Suite, require, run_script, run_suites
@@ -734,17 +735,21 @@ CHECKS: tuple[Callable[[Setup], None], ...] = (
     *queue_hostile.CHECKS,
     *queue_bounds.CHECKS,
     *queue_gaps.CHECKS,
+    *queue_placeholders.CHECKS,
     *queue_damage.CHECKS,
 )
 
 
 def checks(setup: Setup) -> dict[str, Check]:
-    found: dict[str, Check] = {**queue_tables.CHECKS, **queue_gaps.TABLES, **queue_parts.CHECKS}
+    found: dict[str, Check] = {**queue_tables.CHECKS, **queue_gaps.TABLES, **queue_placeholders.TABLES}
+    found |= queue_parts.CHECKS
     for check in CHECKS:
         found[check.__name__.replace("_", " ")] = partial(check, setup)
     found["kills"] = partial(
         queue_kills.kills, setup.case_alone, queue_kills.Plan(setup.seed, 3 if setup.is_quick else 60)
     )
+    absences = queue_kills.Plan(setup.seed, 4 if setup.is_quick else 40)
+    found["absences"] = partial(queue_placeholders.absences, setup.case_alone, absences)
     failures = queue_kills.Plan(setup.seed, 3 if setup.is_quick else 30)
     found["disk failures"] = partial(queue_kills.disk_failures, setup.case, failures)
     if not setup.is_quick:

@@ -56,8 +56,40 @@ def lower_lease(setup: Setup) -> None:
         require(case.rows(KEPT_LEASE) == [("7.0",)], "the longer one is kept before it is given")
 
 
+def claimed_again(setup: Setup) -> None:
+    """A claim whose answer was lost, repeated once its attempt has ended as lost, begins no attempt with the same
+    token: it would take the first one's row. The agent ends the run and claims with another token."""
+    with setup.case("--lease=15", "--margin=0.1").start() as case, case.client() as client:
+        claim: Json = {"token": "aaaaaaaa", "run": 1}
+        registration: Json = {"agent": "a1", "id": "x", "machines": {"m1": 1}}
+        with case.client() as agent:
+            agent.ask("register", **registration, runs=[])
+            client.submit(*FOREVER, grace=0)
+            place = claim_place(case)
+            require("work" in agent.ask("claim", **claim, **place), "it may begin")
+        case.until(lambda: client.ask("task", task="1")["attempts"][0]["outcome"] == "lost", "it is lost")
+        with case.client() as agent:
+            run = {"token": "aaaaaaaa", "task": "1", "run": 1, "machine": "m1", "state": "claiming"}
+            agent.ask("register", **registration, runs=[run])
+            place = claim_place(case)
+            agent.send({"ask": "claim", **claim, **place})
+            told, answer = agent.line(), agent.line()
+            require(told == {"tell": "end", "tokens": ["aaaaaaaa"], "why": "its attempt has ended"}, told)
+            require("wait" in answer["claim"], answer)
+            further: Json = {"token": "bbbbbbbb", "run": 2}
+
+            def may_begin() -> bool:
+                agent.ask("register", **registration, runs=[])
+                return "work" in agent.ask("claim", **further, **claim_place(case))
+
+            case.until(may_begin, "another may begin")
+            tokens = case.rows("SELECT attempt, token FROM attempt ORDER BY attempt")
+            require(tokens == [(1, "aaaaaaaa"), (2, "bbbbbbbb")], tokens)
+            require(len(client.ask("task", task="1")["attempts"]) == 2, "both are there")
+
+
 def machine(client: Client, name: str) -> Json:
     return next(row for row in client.ask("machines") if row["machine"] == name)
 
 
-CHECKS = (other_slots, lower_lease)
+CHECKS = (other_slots, lower_lease, claimed_again)

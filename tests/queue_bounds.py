@@ -12,7 +12,7 @@ import threading
 import time
 from collections.abc import Callable, Iterator
 from concurrent.futures import ThreadPoolExecutor
-from contextlib import contextmanager
+from contextlib import ExitStack, contextmanager
 from functools import partial
 from pathlib import Path
 from typing import Any
@@ -124,6 +124,24 @@ def waiting_requests(setup: Setup) -> None:
         case.until(lambda: memory(case) - before > 10_000, "they are there")
         grown = memory(case) - before
         require(grown < 160_000, f"the queue has grown by {grown:,} kB")
+
+
+def long_waits(setup: Setup) -> None:
+    """A wait for many tasks takes as much memory as their numbers, not what JSON makes of the request."""
+    with setup.case().start() as case, case.client() as client, ExitStack() as stack:
+        for _ in range(10):
+            client.submit(*FOREVER, hold=True)
+        text = b'{"ask": "wait", "tasks": [' + b'"10",' * 99_999 + b'"10"]}\n'
+        before = memory(case)
+        waiting = [stack.enter_context(case.client()) for _ in range(40)]
+        for one in waiting:
+            one.send_text(text)
+            client.ask("status")
+        grown = memory(case) - before
+        require(grown < 100_000, f"the queue has grown by {grown:,} kB")
+        client.ask("cancel", tasks=["10"])
+        for one in waiting:
+            require(one.answer()["wait"] == {"10": {"state": "cancelled", "status": None}}, "it waits")
 
 
 def long_requests(setup: Setup) -> None:
@@ -395,6 +413,43 @@ def unknown_runs(setup: Setup) -> None:
         require(time.monotonic() - began > 10, "its lease was not over")
 
 
+def listed_arrays(setup: Setup) -> None:
+    """Arrays that are written as lists cost no more than the tasks that their user may have, however many a request
+    has; the same again by its key is answered as before."""
+    with setup.case("--most-of-user=1000", "--socket-mode=666").start() as case:
+        large = [{"command": FOREVER, "dir": "/tmp", "array": "1-999998,3"}] * 10_000
+        many = [{"command": FOREVER, "dir": "/tmp", "array": "1-600,3"}] * 10_000
+        some = {"ask": "submit-all", "submissions": many[:1], "key": "k"}
+        before, held = processor_seconds(case), memory(case)
+        asked = [{"ask": "submit-all", "submissions": one} for one in (large, many)]
+        case.folder.chmod(0o755)
+        found = as_user(ANN, case.socket, [*asked, some, some])
+        require([answer.get("error") for answer in found[:2]] == ["array-too-large", "quota"], found[:2])
+        require(found[2] == {**found[3], "submit-all": [found[2]["submit-all"][0]]}, found[2:])
+        require(found[3]["submit-all"] == [{**found[2]["submit-all"][0], "again": True}], found[3])
+        took = processor_seconds(case) - before
+        require(took < BUSY_SECONDS / 2, f"{took:.1f} s of a processor")
+        require(memory(case) - held < 50_000, f"{memory(case) - held:,} KB")
+
+
+def holds(setup: Setup) -> None:
+    """Holds and releases, which are lines of firmd's journal, exhaust a user's budget; cancellations and operators'
+    changes do not."""
+    with setup.case("--budget=100K", "--socket-mode=666").start() as case, case.client() as client:
+        case.folder.chmod(0o755)
+        submit = {**HELD, "array": [1, 50]}
+        turns = [{"ask": ask, "tasks": ["1"]} for _ in range(3) for ask in ("release", "hold")]
+        found = as_user(ANN, case.socket, [submit, *turns, {"ask": "cancel", "tasks": ["1"]}])
+        refused = [answer["error"] for answer in found if "error" in answer]
+        require(refused and set(refused) == {"budget"}, found)
+        require(all(answer["seconds"] > 0 for answer in found if "error" in answer), found)
+        changed = [len(found[1]["release"]["changed"]), len(found[-1]["cancel"]["changed"])]
+        require(changed == [50, 50], found)
+        client.submit(*FOREVER, hold=True, array=[1, 500])
+        for turn in ("release", "hold"):
+            require(len(client.ask(turn, tasks=["2"])["changed"]) == 500, "an operator")
+
+
 def tokens_of_others(setup: Setup) -> None:
     """A claim with the token of another open run is refused, and takes nothing from that."""
     with setup.case("--lease=300").start() as case, case.client() as client, case.client() as agent:
@@ -536,6 +591,7 @@ CHECKS: tuple[Callable[[Setup], None], ...] = (
         needs,
         words,
         budget,
+        long_waits,
         long_requests,
         repeated_command,
         answers_alone,
@@ -546,6 +602,8 @@ CHECKS: tuple[Callable[[Setup], None], ...] = (
         terminals,
         twins,
         unknown_runs,
+        listed_arrays,
+        holds,
         tokens_of_others,
         told_again,
         meanwhile,

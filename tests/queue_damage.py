@@ -90,7 +90,7 @@ async def fill(folder: Path, rounds: int, keep: Callable[[int], None] = lambda a
         attempt(core, first, 0 if at % 2 else 3, 10 * at + 1)
         attempt(core, array, at % 4 or None, 10 * at + 2)
         if at % 5 == 0:
-            core.change(Change.CANCEL, [task for task in array.submission.tasks.values() if task.index == 4])
+            core.change(BOB, Change.CANCEL, [task for task in array.submission.tasks.values() if task.index == 4])
         if at == rounds // 2:
             submit(core, ANN, command=["x" * 20_000, "y" * 30_000], job="long")
         await store.settled()

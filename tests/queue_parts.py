@@ -14,26 +14,29 @@ from contextlib import closing, suppress
 from pathlib import Path
 from types import SimpleNamespace
 from typing import Any
+from unittest.mock import patch
 
 from harness.checks import Missed, require
 from harness.deployed import Book, Doors, Firm, agent_events, books, supervisor
 from firm_service import agent_state, agent_sweep, view
 from firm_service.agent_state import Key, State, StateError
-from firm_service.queue import retention, sums
+from firm_service.queue import retention, sums, users
 from firm_service.queue.agents import Agents, Terms
+from firm_service.queue.backlog import Machines
 from firm_service.queue.core import Core
 from firm_service.queue.firm import Heard
-from firm_service.queue.giving import Machines
 from firm_service.queue.listing import Lists
 from firm_service.queue.rows import Task
 from firm_service.queue.seals import columns, seal
 from firm_service.queue.states import Change, Facts, state_of
+from firm_service.queue.store import NotWritten
 from firm_service.queue.users import User
 from queue_damage import ANN, BOB, Parts, attempt, submit
 from queue_kit import FAST
 from queue_tables import book_of
 
 ROOT = User(0, True)
+NO_MACHINES = Machines({}, set())
 DAY = 86_400.0
 STEPS = 400  # of changes in the check of counters
 
@@ -101,7 +104,7 @@ def counters(folder: Path) -> None:
                     owner = ANN if task.submission.user == ANN.number else BOB
                     submit(core, owner, after_any=[str(task.name)], array=[1, 3])
                 case "hold" | "release" | "cancel" as change if task is not None:
-                    core.change(Change(change), [task])
+                    core.change(ROOT, Change(change), [task])
                 case "give" if task is not None:
                     book.tasks[task.firm] = books.Task(task.submission.job, 1, (), 0, None, None)
                 case "place" if task is not None and task.firm in book.tasks:
@@ -157,14 +160,14 @@ def kept_ages(folder: Path) -> None:
         def hear(book: Book) -> None:
             know(core, book)
             core.hear(Heard([], ""))
-            core.sort()
+            core.sort(NO_MACHINES)
 
         hear(first)
         task = submit(core, ANN, weight=10)
-        core.sort()
+        core.sort(NO_MACHINES)
         first.rounds = 130
         heavy = submit(core, ROOT, job="heavy", weight=39)
-        core.sort()
+        core.sort(NO_MACHINES)
         ages = [(first.rounds - (one.since or 0), core.backlog.first()) for one in (task, heavy)]
         hear(other)
         ages += [(other.rounds - (one.since or 0), core.backlog.first()) for one in (task, heavy)]
@@ -173,7 +176,7 @@ def kept_ages(folder: Path) -> None:
         other.tasks["1"] = books.Task("u1001", 1, (), 0, None, "m1")
         attempt(core, task, None, 1)
         core.look_at([task.name])
-        core.sort()
+        core.sort(NO_MACHINES)
         require(task.since is None and task not in core.backlog, "it has begun")
         await parts.store.close()
 
@@ -191,12 +194,12 @@ def old_history(folder: Path) -> None:
         done = submit(core, ANN, "key-1")
         attempt(core, done, 0, 1)
         large = submit(core, ANN, array=[1, 1_200])
-        core.change(Change.CANCEL, large.submission.tasks.values())
+        core.change(ROOT, Change.CANCEL, large.submission.tasks.values())
         half = submit(core, BOB, array="1,3,5")
         attempt(core, half, 0, 2)
         waiter = submit(core, BOB, after_any=["3"])
         gaps = submit(core, ANN, array="2,4-6")
-        core.change(Change.CANCEL, gaps.submission.tasks.values())
+        core.change(ROOT, Change.CANCEL, gaps.submission.tasks.values())
         await parts.store.settled()
         commit, step = parts.store._commit, retention.STEP_SECONDS
 
@@ -284,7 +287,7 @@ def late_agents(folder: Path) -> None:
         found.append(agents.machines())
         agents.agents["a1"].answered -= 31.0
         found.append(agents.machines())
-        both, busy = Machines({"m1": 4, "m2": 8}, set()), Machines({"m1": 4}, {"m2"})
+        both, busy = Machines({"m1": 4, "m2": 8}, set()), Machines({"m1": 4}, {"m2"}, {"m1"})
         require(found == [both, both, busy, both, busy], found)
         await parts.store.close()
         again = Parts(folder)
@@ -293,10 +296,42 @@ def late_agents(folder: Path) -> None:
         found = [agents.machines()]
         agents.agents["a1"].left -= 6.0
         found.append(agents.machines())
-        require(found == [Machines({}, set()), Machines({}, {"m2"})], f"behind a restart: {found}")
+        require(found == [Machines({}, set()), Machines({}, {"m2"}, {"m1"})], f"behind a restart: {found}")
         await again.store.close()
 
     asyncio.run(play())
+
+
+def token_twice(folder: Path) -> None:
+    """An attempt with the token of another one is not written, and takes nothing from that."""
+
+    async def play() -> None:
+        parts = Parts(folder)
+        await parts.begin()
+        first, second = submit(parts.core, ANN), submit(parts.core, BOB)
+        attempt(parts.core, first, 0, 1)
+        await parts.store.settled()
+        attempt(parts.core, second, None, 1)
+        try:
+            await parts.store.settled()
+        except NotWritten as error:
+            require("UNIQUE" in str(error) and not parts.damage, f"{error} {parts.damage}")
+        else:
+            raise Missed("it is written")
+        require(await parts.store.try_again(), "the disk takes changes")
+        tokens = await parts.store.read(lambda connection: connection.execute("SELECT number FROM attempt").fetchall())
+        require(tokens == [(1,)], tokens)
+        await parts.store.close()
+
+    asyncio.run(play())
+
+
+def default_jobs(folder: Path) -> None:
+    """The default job of a user whose login name looks like another user's default job is named by the number."""
+    names = {61_201: "u5", 61_202: "u61202", 61_203: "u05", 61_204: "ann", 61_205: "12"}
+    with patch.object(users, "name_of", names.get):
+        found = [users.job_of(number) for number in names]
+    require(found == ["u61201", "u61202", "u05", "ann", "u61205"], found)
 
 
 class Session:
@@ -495,6 +530,8 @@ CHECKS: dict[str, Callable[[], None]] = {
     "damaged history": within(damaged_history),
     "cells": within(cells),
     "late agents": within(late_agents),
+    "token twice": within(token_twice),
+    "default jobs": within(default_jobs),
     "counted anew": within(counted_anew),
     "short file": within(short_file),
     "torn event": within(torn_event),

@@ -120,6 +120,9 @@ def table_of_names() -> None:
         name = Name(number, index)
         require(Name.read(text) == name and str(name) == text and name.firm == in_firm, text)
         require(Name.of_firm(in_firm) == name and len(in_firm) <= 16, text)
+        for letters in ("", "a", "zz"):
+            further = name.in_firm(letters)
+            require(Name.of_firm(further) == name and name.letters_in(further) == letters, further)
     for text in ("", "0", "01", "1_", "_1", "1_01", "1-1", "x", "1_1_1", "123456789", "1_12345678", " 1", "1\n"):
         require(Name.read(text) is None, text)
 

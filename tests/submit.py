@@ -215,6 +215,11 @@ def words_are_judged(found: Cluster) -> None:
             2,
             "unrecognized arguments: -b; write -- before the command: firmctl .. -- echo a -b",
         ),
+        (
+            ["echo", "--hold"],
+            2,
+            "an option stands behind 'echo'; it belongs before the command, or -- does: firm-submit ..",
+        ),
         ([], 2, "name a command"),
         (["--file", "/nonexistent"], 2, "cannot read /nonexistent"),
         (["--file", "-", "--", "true"], 2, "has its commands itself"),

@@ -84,10 +84,14 @@ def in_pipe(work: Callable[[], int]) -> int:
 def parsed(parser: argparse.ArgumentParser) -> argparse.Namespace:
     """Return the options of the command line; one that belongs to a submitted command gets a hint."""
     options, unknown = parser.parse_known_args()
+    command, words = getattr(options, "command", None) or [], sys.argv[1:]
     if unknown:
-        command = getattr(options, "command", None)
         hint = f"; write -- before the command: {parser.prog} .. -- {' '.join([*command, *unknown])}" if command else ""
         parser.error(f"unrecognized arguments: {' '.join(unknown)}{hint}")
+    last = words[words.index("--") + 1 :] if "--" in words else words[len(words) - len(command) :]
+    if command and last != command:  # it may be meant for the command
+        told = f"an option stands behind {command[0]!r}; it belongs before the command, or -- does"
+        parser.error(f"{told}: {parser.prog} .. -- {' '.join(command)}")
     return options
 
 

@@ -12,12 +12,13 @@ from typing import Protocol
 
 from ..logs import INFO, WARNING, tell
 from ..sight import ROOT
+from . import queries
+from .backlog import Machines
 from .core import Core, boot_time
 from .fields import Fields, Json, Refused, bad
-from .giving import Machines
 from .queries import Kept
 from .reports import Claim, Told, claim_of, machines_of, runs_of, told_of, tokens_of, work_of
-from .rows import Attempt, Name, Task
+from .rows import Attempt, Task
 from .states import End
 from .store import NotWritten
 from .users import User
@@ -139,7 +140,7 @@ class Agents:
 
     def machines(self) -> Machines:
         """What firm should have of machines."""
-        wanted: dict[str, int] = {}
+        wanted, closed = dict[str, int](), set[str]()
         unwanted = {machine for machine, mark in self.core.marks.items() if mark in (DRAINED, GONE)}
         unwanted |= {machine for agent in self.agents.values() if agent.is_lost for machine in agent.machines}
         loads = Counter(attempt.machine for attempt in self.core.rows.open.values() if not attempt.is_kept)
@@ -149,6 +150,8 @@ class Agents:
             is_late = self.is_late(agent)
             for machine, slots in agent.machines.items() if (agent.is_known or is_late) and not agent.is_lost else ():
                 mark = self.core.marks.get(machine)
+                if is_late and (loads[machine] or kept[machine]):
+                    closed.add(machine)
                 if mark is None and is_late and not loads[machine] and not kept[machine]:
                     unwanted.add(machine)  # no task could begin there; draining a busy one would end its tasks
                 elif not agent.is_known:
@@ -157,9 +160,12 @@ class Agents:
                     wanted[machine] = slots
                 elif not loads[machine]:  # cordoned, or with runs that were kept only after the cordon was taken back
                     unwanted.add(machine)
+                else:
+                    closed.add(machine)
         book = self.core.firm.book  # other slots than there would drain a machine: they wait until nothing runs on it
         busy = {name: slots for name, slots in book.machines.items() if loads[name]} if book is not None else {}
-        return Machines({name: busy.get(name, slots) for name, slots in wanted.items()}, unwanted - wanted.keys())
+        wanted = {name: busy.get(name, slots) for name, slots in wanted.items()}
+        return Machines(wanted, unwanted - wanted.keys(), closed - unwanted)
 
     # Registrations and leases
 
@@ -299,8 +305,12 @@ class Agents:
 
     def over_at(self, agent: Agent) -> float:
         """When nothing of what it has begun runs any more, if it stays silent; by CLOCK_BOOTTIME."""
-        tasks = [self.core.rows.task(attempt.name) for attempt in self.attempts_of(agent)]
-        grace = max((task.submission.spec.grace for task in tasks if task is not None), default=0.0)
+        return max((self._over_at(agent, attempt) for attempt in self.attempts_of(agent)), default=self._over_at(agent))
+
+    def _over_at(self, agent: Agent, attempt: Attempt | None = None) -> float:
+        """When an attempt of it surely has ended, or its lease is over."""
+        task = self.core.rows.task(attempt.name) if attempt is not None else None
+        grace = task.submission.spec.grace if task is not None else 0.0
         return max(agent.answered + self.terms.lease, self._former_over) + grace + self.terms.margin
 
     async def expire_for_ever(self) -> None:
@@ -313,9 +323,13 @@ class Agents:
                 if agent.is_late != (is_late := self.is_late(agent)):
                     agent.is_late = is_late
                     self.core.firm.changed.set()
-                is_over = boot_time() > self.over_at(agent) and not self.core.store.why_bad
-                if is_over and (not agent.is_lost or self.attempts_of(agent)):
-                    with suppress(NotWritten):  # the rows are read anew then, and it is found again
+                now = boot_time()
+                if self.core.store.why_bad or now <= self._over_at(agent):
+                    continue
+                with suppress(NotWritten):  # the rows are read anew then, and it is found again
+                    if now <= self.over_at(agent):  # the graces of its other runs do not hold up these
+                        self._lose_over(agent, now)
+                    elif not agent.is_lost or self.attempts_of(agent):
                         self._lose(agent)
 
     def _forget_lease(self) -> None:
@@ -337,6 +351,14 @@ class Agents:
                 self.core.end_attempt(attempt, End("lost"))
             del self._unknown[token]
 
+    def _lose_over(self, agent: Agent, now: float) -> None:
+        """Takes for lost what has surely ended of a silent agent's runs, while others may be in their graces."""
+        for attempt in self.attempts_of(agent):
+            if now > self._over_at(agent, attempt):
+                told = f"{attempt.name}: attempt {attempt.number} on {attempt.machine} is taken for lost"
+                tell(WARNING, f"{told}: {agent.name} is silent for {agent.silence:.0f} s", agent=agent.name)
+                self.core.end_attempt(attempt, End("lost"))
+
     def _lose(self, agent: Agent) -> None:
         attempts = self.attempts_of(agent)
         told = f"{agent.name}: silent for {agent.silence:.0f} s; {len(attempts)} runs are taken for lost"
@@ -354,6 +376,9 @@ class Agents:
     async def claim(self, session: Session, given: Json) -> Json:
         """Whether a run may begin: once no other attempt of its task is open."""
         claim, loop = claim_of(given), asyncio.get_running_loop()
+        if await self._has_ended(claim.token):  # while its agent was away: the claim's answer was lost
+            session.tell({"tell": "end", "tokens": [claim.token], "why": "its attempt has ended"})
+            return {"wait": "the attempt of this token has ended", "seconds": ASK_AGAIN_SECONDS}
         ends = loop.time() + LAG_SECONDS
         while True:
             agent, news = self.of_session(session), self.core.news
@@ -370,6 +395,14 @@ class Agents:
         agent.is_waiting |= "wait" in found
         await self.core.store.settled()
         return found
+
+    async def _has_ended(self, token: str) -> bool:
+        """Return whether a token is that of an attempt that has ended, which no further one may have."""
+        if token in self.core.rows.open:
+            return False
+        await self.core.store.settled_soon()  # what memory has just forgotten has ended on the disk too then
+        is_known = await self.core.store.read(lambda connection: queries.has_token(connection, token))
+        return is_known and token not in self.core.rows.open
 
     def _try_claim(self, agent: Agent, claim: Claim) -> Json | None:
         """What is answered to a claim; None where the queue and the agent see firm's rows differently."""
@@ -391,7 +424,10 @@ class Agents:
 
     def _hindrance(self, task: Task, claim: Claim) -> Json | None:
         """Why a task that is placed can't begin yet."""
-        wait = ASK_AGAIN_SECONDS
+        wait, rows = ASK_AGAIN_SECONDS, self.core.rows_in_firm(task)
+        there = [firm for firm, row in rows.items() if row.machine == claim.machine]
+        if claim.task != task.firm or len(there) > 1:  # behind a restart it must be clear which row the attempt has
+            return {"wait": "it has another row in firm", "seconds": wait}
         mark, other = self.core.marks.get(claim.machine), task.open_attempt
         if other is not None:
             task.told = f"attempt {other.number} on {other.machine} has not ended"
@@ -574,8 +610,6 @@ class Agents:
                 if attempt.claimed < late and attempt.token not in (agent.runs or ()):
                     told = f"{attempt.name}: attempt {attempt.number} on {attempt.machine} is open"
                     found.append(f"{told}, and the agent {agent.name} does not have it")
-        rows = self.core.firm.rows
-        foreign = [row for row in rows.tasks if self.core.rows.task(Name.of_firm(row)) is None] if rows else []
-        if foreign:
-            found.append(f"{len(foreign)} tasks in firm are not the queue's, as {foreign[0]}")
+        if foreign := self.core.foreign():
+            found.append(f"{len(foreign)} tasks in firm are not the queue's, as {next(iter(foreign))}")
         return found

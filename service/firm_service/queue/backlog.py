@@ -131,6 +131,15 @@ class Line:
         return f"{self.kind} {self.words}".rstrip()
 
 
+@dataclass(frozen=True, slots=True)
+class Machines:
+    """The machines that firm should have, with their slots, and those that it should not have."""
+
+    wanted: dict[str, int]
+    unwanted: set[str]
+    closed: set[str] = field(default_factory=set)  # that stay for their running tasks; no task can begin there
+
+
 @dataclass
 class Wishes:
     """What the queue wants of firm, beside the backlog."""
@@ -140,7 +149,8 @@ class Wishes:
     jobs: frozenset[str] = frozenset()  # that have tasks which have not ended
     idle_jobs: frozenset[str] = frozenset()  # of the queue's own that have none
     rows: list[str] = field(default_factory=list)  # of tasks that firm should not have
-    most: int | None = None  # tasks in firm
+    most: int | None = None  # tasks in firm, beside placeholders
+    placeholders: int = 0  # that are there
 
 
 def plan(book: Book, wishes: Wishes, backlog: Backlog, task_of: Callable[[Name], Task | None]) -> list[Line]:
@@ -155,7 +165,8 @@ def plan(book: Book, wishes: Wishes, backlog: Backlog, task_of: Callable[[Name],
     if is_short:
         return lines
     lines += close_lines(book, wishes, leaving, room)
-    most = MOST_LINES - len(lines) if wishes.most is None else wishes.most - len(book.tasks) + len(leaving)
+    in_firm = len(book.tasks) - wishes.placeholders - len(leaving)
+    most = MOST_LINES - len(lines) if wishes.most is None else wishes.most - in_firm
     yielding = Yielding(book, leaving, task_of) if wishes.most != 0 else None
     lines += task_lines(book, room, Giving(backlog, task_of, min(most, MOST_LINES), yielding))
     return lines
@@ -285,7 +296,7 @@ def task_lines(book: Book, room: Room, giving: Giving) -> list[Line]:
             jobs[submission.job] = submission.weight
             lines.append(Line(Kind.JOB, f"{submission.job} {submission.weight}"))
         giving.backlog.take()
-        lines.append(Line(Kind.TASK, " ".join([submission.job, task.name.firm, *near]), task))
+        lines.append(Line(Kind.TASK, " ".join([submission.job, task.firm, *near]), task))
     for task in kept:
         giving.backlog.put(task)
     return withdrawn + lines

@@ -14,13 +14,15 @@ from dataclasses import dataclass
 from types import MappingProxyType
 
 from ..books import Book
+from ..books import Task as Row
 from . import queries, states
 from .array_limits import ArrayLimits
-from .backlog import Backlog
+from .backlog import Backlog, Machines
 from .fields import Json, Refused, Submit
 from .firm import Firm, Heard
+from .placeholders import Placeholders
 from .rows import IDLE, MOST_NUMBER, SINGLE, WORD_BYTES, Attempt, Job, Name, Need, Rows, Submission, Task, idle_state
-from .spending import ATTEMPT_BYTES, NEED_BYTES, Spending, rows_bytes
+from .spending import ATTEMPT_BYTES, HOLD_BYTES, NEED_BYTES, Spending, rows_bytes
 from .states import Change, End, Facts, Judgement, Needed, Past, State
 from .store import Store, text_of
 from .users import User, job_of, owner_of
@@ -68,6 +70,7 @@ class Core:
         self.rows = Rows()
         self.backlog = Backlog()
         self.array_limits = ArrayLimits()
+        self.placeholders = Placeholders()
         self.unwanted: set[str] = set()  # rows of firm's that are to go
         self.leaving: set[str] = set()  # rows that firm was told to drop: none of them is begun meanwhile
         self.own_jobs: set[str] = set()  # of the queue's making, in firm
@@ -303,16 +306,20 @@ class Core:
 
     # Changes
 
-    def change(self, change: Change, tasks: Iterable[Task]) -> tuple[list[Task], dict[Name, str]]:
+    def change(self, user: User, change: Change, tasks: Iterable[Task]) -> tuple[list[Task], dict[Name, str]]:
         """Cancels, holds or releases tasks; those that it changed, and why the others were left."""
         self.store.require_good()
-        changed, unchanged = [], {}
+        changed, unchanged = list[Task](), dict[Name, str]()
         for task in tasks:
             why = states.refusal(change, self.facts(task))
-            if why is not None:
+            if why is None:
+                changed.append(task)
+            else:
                 unchanged[task.name] = why
-                continue
-            changed.append(task)
+        if changed and change != Change.CANCEL and not user.is_operator:
+            self.spending.require(user.number, HOLD_BYTES * len(changed))
+            self._spend(user.number, HOLD_BYTES * len(changed))
+        for task in changed:
             if change != Change.CANCEL:
                 self.rows.hold(task, change == Change.HOLD)
             elif task.open_attempt is None:
@@ -414,6 +421,7 @@ class Core:
     def look_at_all(self) -> None:
         self._keep_ages()
         self.backlog, self.array_limits, self.strangers = Backlog(), ArrayLimits(), set()
+        self.placeholders.clear()
         self.unwanted.clear()
         self.others.clear()
         self._dirty = {task.name for task in self.rows.live_tasks()}
@@ -421,6 +429,7 @@ class Core:
             if (name := Name.of_firm(row)) is not None:
                 self._dirty.add(name)
                 self._skip(name, 1)
+                self.placeholders.enter(row, name)
         self.firm.changed.set()
 
     def hear(self, heard: Heard) -> None:
@@ -433,45 +442,72 @@ class Core:
         elif heard.words[0] in ("task", "done"):
             row = heard.words[2] if heard.words[0] == "task" else heard.words[1]
             self.leaving.discard(row)
+            self.unwanted.discard(row)
             name = Name.of_firm(row)
             if name is not None:
                 self._dirty.add(name)
-                self._skip(name, 1 if heard.words[0] == "task" else -1)
+                is_new = heard.words[0] == "task"
+                self._skip(name, 1 if is_new else -1)
+                (self.placeholders.enter if is_new else self.placeholders.leave)(row, name)
         elif heard.words[0] == "close":
             self.own_jobs.discard(heard.words[1])
 
-    def sort(self) -> None:
+    def sort(self, machines: Machines) -> None:
         """Looks at the tasks that changed: what is to go into firm, and what is to leave it."""
         book = self.firm.book
         if book is None:
             return
+        for firm in self.placeholders.look(machines, book, self.rows.jobs):
+            if (name := Name.of_firm(firm)) is not None:
+                self._dirty.add(name)
         names, self._dirty = self._dirty, set()
         for name in names:
-            task, row = self.rows.task(name), book.tasks.get(name.firm)
-            if task is None:
-                if row is not None:
-                    self.strangers.add(name)
-                continue
-            is_ours = row is not None and row.job == task.submission.job
-            if states.is_wanted(self.facts(task)) and (row is None or is_ours):
-                self.unwanted.discard(name.firm)
-                if task.since is None and task.open_attempt is None:
-                    task.since = book.rounds - (book.waited(row) if row is not None else 0)
-                if row is not None:
-                    self.array_limits.admit(task)
-                    self.backlog.drop(task)
-                elif self.array_limits.admits(task):
-                    self.backlog.put(task)
-                continue
+            task = self.rows.task(name)
+            rows = self.placeholders.rows_of(name, task, book)
+            if task is not None:
+                self._sort(task, rows, book)
+            elif rows:
+                self.strangers.add(name)
+        for task in self.array_limits.next():
+            self.backlog.put(task)
+
+    def _sort(self, task: Task, rows: dict[str, Row], book: Book) -> None:
+        row = self.placeholders.choose(task, rows)
+        is_wanted = states.is_wanted(self.facts(task)) and (row is not None or task.firm not in rows)
+        if is_wanted and task.since is None and task.open_attempt is None:
+            task.since = book.rounds - (book.waited(row) if row is not None else 0)
+        if is_wanted and (row is None or self.placeholders.replace(task, row, book)):
+            if self.array_limits.admits(task):
+                self.backlog.put(task)
+        elif is_wanted:
+            self.array_limits.admit(task)
+            self.backlog.drop(task)
+        else:
             self.array_limits.leave(task)
             self.backlog.drop(task)
             task.since = None
-            if row is not None:
-                self.unwanted.add(name.firm)
-            else:
-                self.unwanted.discard(name.firm)
-        for task in self.array_limits.next():
-            self.backlog.put(task)
+        for firm, each in rows.items():
+            is_own, is_run = is_wanted and firm == task.firm, each is row and task.open_attempt is not None
+            stands = not is_own and not is_run and self.placeholders.may_stand(each, book, self.rows.jobs)
+            set_member(self.placeholders.standing, firm, stands)
+            set_member(self.unwanted, firm, not is_own and not stands)
+
+    def rows_in_firm(self, task: Task) -> dict[str, Row]:
+        """Return a task's rows in firm, by their names."""
+        book = self.firm.book
+        return self.placeholders.rows_of(task.name, task, book) if book is not None else {}
+
+    def foreign(self) -> dict[str, Row]:
+        """Return the rows in firm that the queue has not submitted, by their names."""
+        rows = self.firm.rows.tasks if self.firm.rows is not None else {}
+        return {firm: row for firm, row in rows.items() if self._is_foreign(firm, row)}
+
+    def _is_foreign(self, firm: str, row: Row) -> bool:
+        name = Name.of_firm(firm)
+        task = self.rows.task(name)
+        if name is None or task is None:
+            return firm not in self.placeholders.standing
+        return firm != name.firm and row.job != task.submission.job
 
     def _skip(self, name: Name, more: int) -> None:
         """Count the rows of others in firm that occupy a number."""
@@ -551,6 +587,14 @@ class Core:
     def ages(self) -> tuple[Counter[str], dict[str, float]]:
         """How many tasks are in each state, and when the oldest of them was submitted."""
         return self.states_of(None), self.oldest()
+
+
+def set_member(found: set[str], name: str, is_in: bool) -> None:
+    """Add a name to a set, or discard it."""
+    if is_in:
+        found.add(name)
+    else:
+        found.discard(name)
 
 
 class Ends:

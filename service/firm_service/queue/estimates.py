@@ -71,7 +71,8 @@ class Estimates:
             return
         for name, row in rows.tasks.items():
             if row.machine is not None:
-                task = self._core.rows.task(Name.of_firm(name))
+                is_placeholder = name in self._core.placeholders.standing
+                task = self._core.rows.task(Name.of_firm(name)) if not is_placeholder else None
                 attempt = task.open_attempt if task is not None else None
                 began = attempt.began if attempt is not None and attempt.began is not None else now
                 yield max(now, began + durations.of(task)) if task is not None else inf, task

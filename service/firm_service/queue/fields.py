@@ -9,7 +9,7 @@ from dataclasses import dataclass, replace
 from graphlib import CycleError, TopologicalSorter
 from typing import Any
 
-from .forms import indexes_of
+from .forms import MAX_INDEXES, TooMany, indexes_of
 from .rows import DEFAULT_GRACE, MOST_INDEX, Spec
 
 MOST_WORDS, MOST_LETTERS, MOST_NAMES, MOST_PATH = 10_000, 128 * 1024, 1_000, 4_096
@@ -139,26 +139,29 @@ SUBMIT = "job weight command array after after_any time near env dir output retr
 SUBMIT_FIELDS = SUBMIT.split()
 
 
-def submit_of(given: Mapping[str, Any], *others: str) -> Submit:
-    """A submission, as a request has it; `others` are fields that are read elsewhere."""
+def submit_of(given: Mapping[str, Any], *others: str, most: int = MAX_INDEXES) -> Submit:
+    """A submission, as a request has it; `others` are fields that are read elsewhere, `most` the bound of a list of
+    indexes, which is in memory before the array's size is judged."""
     fields = Fields(given, [*SUBMIT_FIELDS, *others])
     after, after_any = (fields.texts(field, MOST_NEEDS, MOST_LABEL + 1) for field in ("after", "after_any"))
     label = fields.text("label", MOST_LABEL) if "label" in others else None
-    weight, (indexes, at_once) = fields.whole("weight", 1, MOST_WEIGHT), array_of(fields)
+    weight, (indexes, at_once) = fields.whole("weight", 1, MOST_WEIGHT), array_of(fields, most)
     has_gaps = indexes is not None and indexes[-1] - indexes[0] != len(indexes) - 1
     listed = fields.get("array").partition("%")[0].strip() if has_gaps else None
     spec = replace(spec_of(fields), indexes=listed, at_once=at_once)
     return Submit(fields.name("job"), weight, indexes, after, after_any, fields.flag("hold"), label, spec)
 
 
-def array_of(fields: Fields) -> tuple[Sequence[int] | None, int | None]:
+def array_of(fields: Fields, most: int) -> tuple[Sequence[int] | None, int | None]:
     """Return the indexes of an array, and how many of its tasks may be in firm at a time."""
     value = fields.get("array")
     if value is None:
         return None, None
     if isinstance(value, str):
         try:
-            return indexes_of(checked_text("array", value, MOST_PATH))
+            return indexes_of(checked_text("array", value, MOST_PATH), most)
+        except TooMany as error:
+            raise Refused("array-too-large", str(error)) from None
         except ValueError as error:
             raise bad("array", str(error)) from None
     if not isinstance(value, list) or len(value) != 2 or any(type(one) is not int for one in value):

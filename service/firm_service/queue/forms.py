@@ -64,18 +64,22 @@ def array_of(text: str) -> tuple[int, int] | str:
     return (indexes[0], indexes[-1]) if is_plain else text.strip()
 
 
-def indexes_of(text: str) -> tuple[Sequence[int], int | None]:
-    """Return the indexes of an array in order, and the most tasks of it at a time, written as for sbatch: 1-500; 1,3,5;
-    0-20:5 in steps; 1-40%10 with at most 10 at a time."""
-    words, percent, most = text.strip().partition("%")
+class TooMany(ValueError):
+    """A list of more indexes than an array may have."""
+
+
+def indexes_of(text: str, most: int = MAX_INDEXES) -> tuple[Sequence[int], int | None]:
+    """Return the indexes of an array, and the most tasks of it at a time, written as for sbatch: 1-500; 1,3,5;
+    0-20:5 in steps; 1-40%10 with at most 10 at a time. Raise `TooMany` for a list of more than `most` indexes."""
+    words, percent, at_once = text.strip().partition("%")
     ranges = [range_of(word, text) for word in words.split(",")]
-    if percent and not re.fullmatch(r"[1-9]\d{0,6}", most, re.ASCII):
+    if percent and not re.fullmatch(r"[1-9]\d{0,6}", at_once, re.ASCII):
         raise ValueError(f"{text!r}: a number above 0 follows %")
     if len(ranges) == 1:
-        return ranges[0], int(most) if percent else None
-    if sum(map(len, ranges)) > MAX_INDEXES:
-        raise ValueError(f"{text!r} lists more than {MAX_INDEXES:,} indexes")
-    return sorted({index for one in ranges for index in one}), int(most) if percent else None
+        return ranges[0], int(at_once) if percent else None
+    if sum(map(len, ranges)) > most:
+        raise TooMany(f"{text!r} lists more than {most:,} indexes")
+    return sorted({index for one in ranges for index in one}), int(at_once) if percent else None
 
 
 def range_of(word: str, text: str) -> range:

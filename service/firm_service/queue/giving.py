@@ -13,7 +13,7 @@ from math import inf
 from ..books import Book
 from ..logs import WARNING, tell
 from ..roster import slot_cost
-from .backlog import Kind, Line, Wishes, plan
+from .backlog import Kind, Line, Machines, Wishes, plan
 from .core import Core
 from .firm import Away, Reply
 from .store import NotWritten
@@ -31,14 +31,6 @@ ROUND_SHARE, LONGEST_ROUND_PAUSE, WAIT_SECONDS = 2, 0.2, 1.0
 AGING_SECONDS, MOST_AGING, OTHERS_SECONDS = 5.0, 17_280, 60.0
 NO_ROOM = {"arena-nodes", "arena-arcs", "memory"}
 WAITING_FOR_ROOM = "the arena is full"
-
-
-@dataclass(frozen=True, slots=True)
-class Machines:
-    """What the agents want of firm: machines with their slots, and those that should not be there."""
-
-    wanted: dict[str, int]
-    unwanted: set[str]
 
 
 @dataclass(frozen=True, slots=True)
@@ -87,10 +79,11 @@ class Giver:
             return
         if core.strangers:
             await core.know_strangers()
-        core.sort()
+        machines = self._machines()
+        core.sort(machines)
         if core.strangers:  # they are looked for in a further step, whatever else happens
             core.firm.changed.set()
-        lines = self._plan()
+        lines = self._plan(machines)
         if not lines:
             return
         rows = core.rows
@@ -116,14 +109,15 @@ class Giver:
         for line, reply in zip(lines, replies):
             self._hear(line, reply)
 
-    def _plan(self) -> list[Line]:
+    def _plan(self, machines: Machines) -> list[Line]:
         core, book = self._core, self._core.firm.book
         if book is None:
             return []
-        machines, is_full = self._machines(), self._loop.time() < self._next_tasks
+        is_full = self._loop.time() < self._next_tasks
         jobs = frozenset(core.rows.jobs)
         most = 0 if is_full else self._giving.most
-        wishes = Wishes(machines.wanted, machines.unwanted, jobs, core.idle_jobs(), list(core.unwanted), most)
+        place = (machines.wanted, machines.unwanted, jobs, core.idle_jobs(), list(core.unwanted), most)
+        wishes = Wishes(*place, len(core.placeholders.standing))
         lines = plan(book, wishes, core.backlog, core.rows.task)
         kinds = {line.kind for line in lines}
         self._is_round_due |= bool(kinds & {Kind.TASK, Kind.DONE, Kind.MACHINE, Kind.DRAIN})

@@ -17,7 +17,7 @@ from .backlog import used
 from .columns import Line, cell_of, command_cell
 from .core import Core
 from .fields import Json
-from .rows import SINGLE, Attempt, Name, Submission, Task
+from .rows import SINGLE, Attempt, Submission, Task
 from .states import State
 from .users import User, name_of
 
@@ -134,13 +134,11 @@ class Lists:
 
     def foreign(self) -> Iterable[Json]:
         """Tasks in firm that the queue has not submitted."""
-        rows = self._core.firm.rows
-        for name, row in rows.tasks.items() if rows is not None else ():
-            if self._core.rows.task(Name.of_firm(name)) is None:
-                empty = dict.fromkeys(("number", "index", "user", "agent", "submitted", "began", "ended", "seconds"))
-                shown = {"task": name, "firm": name, **empty, "job": row.job, "weight": None, "state": "foreign"}
-                rest = {"status": None, "time": None, "command": None, "attempt": 0, "reason": ""}
-                yield {**shown, "machine": row.machine, **rest}
+        for name, row in self._core.foreign().items():
+            empty = dict.fromkeys(("number", "index", "user", "agent", "submitted", "began", "ended", "seconds"))
+            shown = {"task": name, "firm": name, **empty, "job": row.job, "weight": None, "state": "foreign"}
+            rest = {"status": None, "time": None, "command": None, "attempt": 0, "reason": ""}
+            yield {**shown, "machine": row.machine, **rest}
 
     def detail(self, task: Task, attempts: list[Attempt]) -> Json:
         submission = task.submission

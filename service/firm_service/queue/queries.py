@@ -190,6 +190,11 @@ def forgotten(connection: sqlite3.Connection, numbers: Sequence[int], owner: int
     return list(found.values())
 
 
+def has_token(connection: sqlite3.Connection, token: str) -> bool:
+    """Return whether an attempt has a token."""
+    return bool(fetched(connection, "SELECT 1 FROM attempt WHERE token = ?", (token,)))
+
+
 def marks_of(values: Collection[int]) -> str:
     return ", ".join("?" * len(values))
 

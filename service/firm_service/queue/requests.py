@@ -14,8 +14,9 @@ A refusal is {"error": NAME, "text": WORDS}, and changes nothing. Unknown fields
 that may be null may be left out. What is acknowledged is on the disk.
 
 Names. A *submission* has a number: 1, 2, .. One without an array is the task `12`, of an array of 1 to 3 the tasks
-`12_1`, `12_2`, `12_3`; `12` then names all of them. firm's names are `12` and `12-1`. Times are seconds of the Unix
-clock for people; nothing is decided by them.
+`12_1`, `12_2`, `12_3`; `12` then names all of them. firm's names are `12` and `12-1`. A task that firm places on a busy
+machine whose agent is away is given again, if others have room, as `12a` or `12a1`, with `b` the next time, ..; the row
+there stays until the agent is back. Times are seconds of the Unix clock for people; nothing is decided by them.
 
 The *user* is the peer's, as the system knows it. *Operators* are root, the queue's own user, and the members of
 `--operators GROUP`. Others see and change only their own tasks: those of others are `no-such-task`.
@@ -83,7 +84,7 @@ why: {"ask": "why", "task": "12_4"} -> {"why": {"task": "12_4", "state": "waitin
 
 cancel, hold, release: {"ask": "cancel", "tasks": ["12", "12_4"], "jobs": ["web"]}
   -> {"changed": ["12_4"], "unchanged": {"12_1": "has ended: done"}}. Names that are missing are among `unchanged`;
-  errors `no-such-task`, `no-such-job`, if all are. hold: only what has no process yet.
+  errors `no-such-task`, `no-such-job`, if all are; `budget` of hold and release. hold: only what has no process yet.
 
 wait: {"ask": "wait", "tasks": ["12", "13_1"], "seconds": null}
   -> {"wait": {"12_1": {"state": "done", "status": 0}, ..}} once all have ended, or the seconds are over.
@@ -154,12 +155,13 @@ beat, every "beat" seconds: {"ask": "beat", "runs": [T, ..]} (all open ones; may
   -> {"beat": {"lease": 60}}; `not-registered`: register again. The tell "lease" says the same at once: beats are sent
   though those before have no answer, so that a disk of the queue's that hangs ends no lease.
   **The lease runs from the moment before the request was sent** (register or beat), not from its answer. Once it is
-  over each supervisor ends its run by itself. lease + the longest grace of its runs + `--margin` (10 s) after the queue
-  answered last, by CLOCK_BOOTTIME, it takes the runs for lost, drains the machines and lets the tasks start elsewhere.
+  over each supervisor ends its run by itself. lease + a run's grace + `--margin` (10 s) after the queue answered last,
+  by CLOCK_BOOTTIME, it takes the run for lost and lets the task start elsewhere; after the last it drains the machines.
 
 claim: {"ask": "claim", "token": T, "task": firm's name, "line": the row's, "state": firmd's id, "machine": "m1", "run":
   7} before a process is started, with a token that no other run has (8 to 64 of 0-9a-f); the run is recorded before.
-  -> {"claim": {"work": WORK}}: start it. The same token again gives the same answer.
+  -> {"claim": {"work": WORK}}: start it. The same token again gives the same answer, until its attempt has ended: then
+     a tell "end" names it.
    | {"claim": {"wait": WORDS, "seconds": s}}: ask again with the same or another token after `seconds` (at most;
      earlier once told "again"), as long as firm's row says so.
    | {"claim": {"void": WORDS}}: never to be run (ended, cancelled, foreign, or not placed there): wait for firm's row
@@ -197,6 +199,7 @@ from __future__ import annotations
 import asyncio
 import json
 import time
+from array import array
 from base64 import b64encode
 from collections import defaultdict
 from collections.abc import AsyncIterator, Awaitable, Callable, Iterable, Mapping, Sequence
@@ -215,9 +218,9 @@ from .estimates import Estimates
 from .explaining import Explainer
 from .fields import MOST_KEY, Fields, Json, Refused, Submit, bad, require_acyclic, submit_of
 from .listing import VERSION, Lists
-from .output import output_of, pieces, tail_of
+from .output import LOOK_SECONDS, output_of, pieces, tail_of
 from .queries import Asked
-from .rows import SINGLE, Attempt, Name, Submission, Task
+from .rows import SINGLE, Attempt, Name, Submission, Task, packed, unpacked
 from .states import ENDED, Change, State
 from .store import NotWritten
 from .threads import Threads
@@ -333,7 +336,7 @@ class Requests:
     # Submissions
 
     async def _submit(self, caller: Caller, given: Json) -> Json:
-        one = submit_of(given, "ask", "key")
+        one = submit_of(given, "ask", "key", most=self._core.bounds.array)
         made = await self._made(caller.user, [one], Fields(given, list(given)).text("key", MOST_KEY))
         return {**made[0], "again": True} if made.is_again else made[0]
 
@@ -342,12 +345,16 @@ class Requests:
         entries = fields.get("submissions")
         if not isinstance(entries, list) or not 1 <= len(entries) <= MOST_SUBMISSIONS:
             raise bad("submissions", f"a list of 1 to {MOST_SUBMISSIONS:,} submissions")
-        asked = []
+        asked, count, bounds = list[Submit](), 0, self._core.bounds
+        name, most = ("queue-full", bounds.in_all) if caller.user.is_operator else ("quota", bounds.of_user)
         for at, entry in enumerate(entries):
             try:
                 if not isinstance(entry, dict):
                     raise bad("submissions", "each is an object")
-                asked.append(submit_of(entry, "label"))
+                asked.append(submit_of(entry, "label", most=bounds.array))
+                count += asked[-1].count
+                if count > most and asked[-1].count <= bounds.array:  # a larger array is refused as that
+                    raise Refused(name, f"the list has {count:,} tasks or more; there may be {most:,}")
             except Refused as refusal:
                 refusal.more["at"] = at
                 raise
@@ -598,7 +605,7 @@ class Requests:
         if missing and not tasks:
             name, why = next(iter(missing.items()))
             raise Refused("no-such-job" if name in jobs else "no-such-task", f"{name}: {why}")
-        changed, unchanged = self._core.change(Change(given["ask"]), tasks.values())
+        changed, unchanged = self._core.change(caller.user, Change(given["ask"]), tasks.values())
         await self._core.store.settled()
         self._agents.end_kept(changed)
         return {
@@ -617,34 +624,37 @@ class Requests:
 
     async def _wait(self, caller: Caller, given: Json) -> Json:
         fields = Fields(given, ["ask", "tasks", "seconds"])
-        texts, seconds = fields.texts("tasks", MOST_ASKED, 32), fields.number("seconds", 1e9)
+        names = packed(map(name_from, dict.fromkeys(fields.texts("tasks", MOST_ASKED, 32))))
+        seconds = fields.number("seconds", 1e9)
+        given.clear()  # as texts they take twenty times as much, perhaps for days
         loop = asyncio.get_running_loop()
         ends = loop.time() + (1e10 if seconds is None else seconds)
         while True:
             try:
-                return await self._waited(caller, texts, ends)
+                return await self._waited(caller, names, ends)
             except NotWritten:  # what has ended in memory alone has not ended: the rows are read anew
                 if loop.time() >= ends or caller.is_gone():
                     raise
             await asyncio.sleep(ANEW_SECONDS)
 
-    async def _waited(self, caller: Caller, texts: Sequence[str], ends: float) -> Json:
+    async def _waited(self, caller: Caller, names: array[int], ends: float) -> Json:
         """What has become of tasks once they have ended, or the time is over; raises `NotWritten`."""
-        await self._submissions_of(caller.user, texts, are_whole=False)
-        await self._wait_for(caller, [name_from(text) for text in dict.fromkeys(texts)], ends)
-        tasks = (await self._named(caller.user, texts)).items()
+        await self._submissions_of(caller.user, list(map(str, unpacked(names))), are_whole=False)
+        await self._wait_for(caller, names[:], ends)
+        tasks = (await self._named(caller.user, list(map(str, unpacked(names))))).items()
         found = {str(name): {"state": self._lists.state_of(task), "status": task.status} for name, task in tasks}
         await self._core.store.settled()
         return found
 
-    async def _wait_for(self, caller: Caller, left: list[Name], ends: float) -> None:
+    async def _wait_for(self, caller: Caller, left: array[int], ends: float) -> None:
         """Returns once tasks, or all of submissions, have ended, or the time is over."""
-        event, numbers, loop = asyncio.Event(), {name.number for name in left}, asyncio.get_running_loop()
+        event, loop = asyncio.Event(), asyncio.get_running_loop()
+        numbers = {name.number for name in unpacked(left)}
         self._core.ends.add(numbers, event)
         try:
             while True:
                 event.clear()
-                while left and self._core.has_ended(left[-1]):
+                while left and self._core.has_ended(next(unpacked(left[-1:]))):
                     left.pop()
                 if not left or loop.time() >= ends or caller.is_gone():
                     return
@@ -670,7 +680,7 @@ class Requests:
         while attempt is None or attempt.began is None and (attempt.is_open or is_next and task.outcome is None):
             if not follows or caller.is_gone() or task.outcome is not None:
                 raise Refused("no-output", f"{task.name} has not begun")
-            await self._wait_a_moment()
+            await asyncio.sleep(LOOK_SECONDS)
             task = await self._current(task.name)
             attempt = await self._attempt(task, wanted)
         at, name, output = start, task.name, output_of(task, attempt)
@@ -692,9 +702,6 @@ class Requests:
             return await self._threads.do(task.submission.user, partial(tail_of, output, most))
         except OSError as error:
             raise output.refusal(error) from error
-
-    async def _wait_a_moment(self) -> None:
-        await asyncio.sleep(0.1)
 
     async def _attempt(self, task: Task, wanted: int | None) -> Attempt | None:
         if wanted is None:

@@ -3,6 +3,7 @@
 from __future__ import annotations
 
 import re
+from array import array
 from bisect import bisect_left, insort
 from collections.abc import Iterable, Iterator, Sequence
 from dataclasses import dataclass, field
@@ -12,10 +13,13 @@ from .forms import indexes_of
 
 SINGLE = -1  # the index of a task that is a submission's only one, without an array
 MOST_NUMBER, MOST_INDEX = 99_999_999, 9_999_999  # together, a name of a task in firm has no more letters
+INDEX_BITS = 24  # of an index, or none, in a packed name
 DEFAULT_GRACE = 5.0  # seconds
 WORD_BYTES = 128  # of memory, that a word or a need takes beside its letters
 _TASK = re.compile(r"([1-9][0-9]{0,7})(?:_(0|[1-9][0-9]{0,6}))?")
-_FIRM_NAME = re.compile(r"([1-9][0-9]{0,7})(?:-(0|[1-9][0-9]{0,6}))?")
+# With letters after its number: a further row of the task, as `placeholders` gives it.
+_FIRM_NAME = re.compile(r"([1-9][0-9]{0,7})(?:-(0|[1-9][0-9]{0,6})|([a-z]{1,2})(0|[1-9][0-9]{0,6})?)?")
+MAX_FIRM_NAME = 16
 
 
 @dataclass(slots=True, order=True, unsafe_hash=True)  # a frozen one takes three times as long to make
@@ -31,23 +35,41 @@ class Name:
     @property
     def firm(self) -> str:
         """The task's name in firm."""
-        return str(self.number) if self.index == SINGLE else f"{self.number}-{self.index}"
+        return self.in_firm("")
+
+    def in_firm(self, letters: str) -> str:
+        """The name in firm of the task's row with these letters; the first row has none."""
+        if self.index == SINGLE:
+            return f"{self.number}{letters}"
+        return f"{self.number}{letters or '-'}{self.index}"
 
     @classmethod
     def read(cls, text: str) -> Name | None:
         """As people write it; None where it is none. Without an index it may mean a whole array."""
-        return cls._of(_TASK.fullmatch(text))
+        match = _TASK.fullmatch(text)
+        return cls(int(match[1]), SINGLE if match[2] is None else int(match[2])) if match is not None else None
 
     @classmethod
     def of_firm(cls, text: str) -> Name | None:
-        """From firm's name of a task; None where the queue gives no such name."""
-        return cls._of(_FIRM_NAME.fullmatch(text))
-
-    @classmethod
-    def _of(cls, match: re.Match[str] | None) -> Name | None:
+        """From the name of any of a task's rows in firm; None where the queue gives no such name."""
+        match = _FIRM_NAME.fullmatch(text)
         if match is None:
             return None
-        return cls(int(match[1]), SINGLE if match[2] is None else int(match[2]))
+        index = match[2] or match[4]
+        return cls(int(match[1]), SINGLE if index is None else int(index))
+
+    def letters_in(self, text: str) -> str:
+        """The letters in a name of this task's in firm."""
+        return text.removeprefix(str(self.number)).rstrip("0123456789").removesuffix("-")
+
+
+def packed(names: Iterable[Name]) -> array[int]:
+    """Return names as numbers, which take a twentieth of their memory."""
+    return array("q", [name.number << INDEX_BITS | name.index - SINGLE for name in names])
+
+
+def unpacked(names: Iterable[int]) -> Iterator[Name]:
+    return (Name(name >> INDEX_BITS, (name & (1 << INDEX_BITS) - 1) + SINGLE) for name in names)
 
 
 @dataclass(frozen=True, slots=True)
@@ -127,6 +149,7 @@ class Task:
     told: str = ""  # why it was not begun when it was claimed last
     seal: int = 0  # checksum of its row until it has ended
     since: int | None = None  # number of rounds when it became ready to begin; None before that, and once it has begun
+    letters: str = ""  # in its name in firm
 
     @property
     def name(self) -> Name:
@@ -140,9 +163,9 @@ class Task:
 
     @property
     def firm(self) -> str:
-        """The name in firm."""
+        """The name in firm of the row by which it is to run."""
         number = self.submission.number
-        return f"{number}" if self.index == SINGLE else f"{number}-{self.index}"
+        return f"{number}{self.letters}" if self.index == SINGLE else f"{number}{self.letters or '-'}{self.index}"
 
     @property
     def is_live(self) -> bool:

@@ -10,6 +10,7 @@ from .fields import Refused
 WEEK_SECONDS = 7 * 86_400.0
 # Bytes of the database, with its indexes, beside the words.
 SUBMISSION_BYTES, NEED_BYTES, TASK_BYTES, ATTEMPT_BYTES = 250, 30, 150, 350
+HOLD_BYTES = 400  # of the database's log and of firmd's journal, for a task that is held or released
 Kept = Mapping[int, tuple[float, float]]  # bytes, and when that was so by the Unix clock, by user
 
 

@@ -33,7 +33,7 @@ from .audit import PAUSE_SECONDS, audit
 from .queries import COMMIT, DROPPING, Point, point_of, value_of
 from .reach import Reach
 from .rows import Attempt, Spec, Submission, Task
-from .seals import COLUMNS, Damaged, is_damage, places, seal, sealed, seals_of_new, words_seal
+from .seals import COLUMNS, KEYS, SUM, Damaged, is_damage, places, seal, sealed, seals_of_new, words_seal
 from .spending import WEEK_SECONDS
 
 DATABASE, ID, REACH = "queue.db", "id", "reach"
@@ -82,6 +82,11 @@ ADD = {table: f"INSERT INTO {table} VALUES ({places(table)})" for table in ("nee
 ADD["task"] = "INSERT INTO task VALUES (?, ?, ?, 0, 0, 0, NULL, NULL, '', NULL, 0, ?)"  # a new one
 ADD["submission"] = f"INSERT INTO submission VALUES ({places('submission')}, ?)"
 REPLACE = {name: f"INSERT OR REPLACE INTO {name} VALUES ({places(name)})" for name in COLUMNS if name not in ADD}
+VALUES = (*COLUMNS["attempt"].split()[KEYS["attempt"] :], SUM)
+REPLACE["attempt"] = (  # no row of another attempt, as of one with the same token
+    f"INSERT INTO attempt VALUES ({places('attempt')}) ON CONFLICT (number, idx, attempt)"
+    f" DO UPDATE SET ({', '.join(VALUES)}) = ({', '.join(f'excluded.{name}' for name in VALUES)})"
+)
 SAVE = """\
 UPDATE task SET (is_held, is_cancelled, failures, lost, outcome, status, reason, ended, attempts, sum)
 = (?, ?, ?, ?, ?, ?, ?, ?, ?, ?) WHERE number = ? AND idx = ?"""

@@ -87,7 +87,7 @@ def number_of(name: str) -> int | None:
 def job_of(number: int) -> str:
     """The name of a user's job, where none is asked for."""
     name = name_of(number)
-    if re.fullmatch(rf"[a-z0-9-]{{1,{MOST_NAME}}}", name) and not name.isdigit():
+    if re.fullmatch(rf"[a-z0-9-]{{1,{MOST_NAME}}}", name) and not name.isdigit() and owner_of(name) is None:
         return name
     return f"u{number}"
 
