@@ -118,20 +118,7 @@ class Core:
 
     def facts(self, task: Task) -> Facts:
         """What the task's state follows from, by what is known of firm now."""
-        rows = self.firm.rows
-        row = rows.tasks.get(task.firm) if rows is not None and task.outcome is None else None
-        attempt = task.open_attempt
-        return Facts(
-            task.outcome,
-            task.is_held,
-            task.submission.is_blocked,
-            task.is_cancelled,
-            row is not None,
-            row.machine if row is not None else None,
-            attempt.machine if attempt is not None else None,
-            attempt is not None and attempt.began is not None,
-            attempt is not None and attempt.is_kept,
-        )
+        return facts_of(task, self.firm.rows)
 
     # Submissions
 
@@ -551,6 +538,23 @@ class Core:
     def ages(self) -> tuple[Counter[str], dict[str, float]]:
         """How many tasks are in each state, and when the oldest of them was submitted."""
         return self.states_of(None), self.oldest()
+
+
+def facts_of(task: Task, rows: Book | None) -> Facts:
+    """What a task's state follows from, by firm's rows."""
+    row = rows.tasks.get(task.firm) if rows is not None and task.outcome is None else None
+    attempt = task.open_attempt
+    return Facts(
+        task.outcome,
+        task.is_held,
+        task.submission.is_blocked,
+        task.is_cancelled,
+        row is not None,
+        row.machine if row is not None else None,
+        attempt.machine if attempt is not None else None,
+        attempt is not None and attempt.began is not None,
+        attempt is not None and attempt.is_kept,
+    )
 
 
 class Ends:

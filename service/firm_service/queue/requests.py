@@ -186,6 +186,13 @@ kept: {"ask": "kept", "tokens": [..]} -> {"kept": n}, once the agent has recorde
   it is registered. Only then does the queue take the rows out of firm, though the cordon may be gone. Such a run is
   ended by a tell "end", as it is cancelled or its machine drained.
 
+The API asks
+============
+
+as, of root and the queue's user: {"ask": "as", "user": 1000, "operator": false} -> {"as": ..}: what follows is hers.
+watch: {"ask": "watch"} -> {"watch": {}}, of operators. Then {"tell": "changed", "tasks": [["12_4", 1000], ..]} comes
+  after each commit: the tasks that it has changed, with their users; of more than 100 of a submission its number alone.
+
 Errors of any request: `bad-request` (no JSON, no object, nothing to be asked), `bad-field`, `too-long` (the connection
 is closed), `too-many-clients` (the same), `operator-only`, `not-written` (the disk is full or fails, or has not
 answered for 30 seconds: nothing is changed; what it is at work on has no answer until then), `not-read` (it fails, and

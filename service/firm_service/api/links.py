@@ -1,0 +1,192 @@
+"""Links to firmd and the queues, over the protocols that they have today."""
+
+from __future__ import annotations
+
+import asyncio
+import json
+import os
+import signal
+import sys
+import time
+from collections.abc import AsyncGenerator, Sequence
+from contextlib import aclosing, closing, suppress
+from pathlib import Path
+from typing import Any
+
+from ..queue import calls
+from ..queue.async_client import Channel, Pipeline
+from ..queue.calls import ANSWER_SECONDS, SHORTEST_PAUSE, Lost, answer_of
+from ..queue.fields import Json, Refused
+from ..queue.users import User
+
+PATIENCE_SECONDS = 5.0  # for a queue that is started again
+LINE_SECONDS = 60.0  # for all replies to the lines of a request
+UNUSED_SECONDS = 60.0  # after which a connection to a queue is closed
+LONGEST_REPLY = 2**26  # bytes: of a view, or of a round that moves all tasks
+TRIAL_SECONDS, MAX_TRIALS = 120.0, 4  # of a question that runs firm; that wait for their turn, of a user
+PACKAGE = Path(__file__).parents[2]
+
+
+class QueueLink:
+    """A tenant's queue, asked for users: each has a connection of its own, as the queue shares its time by user."""
+
+    def __init__(self, path: Path) -> None:
+        self._path = path
+        self._pipelines: dict[User, Pipeline] = {}
+        self._used: dict[User, float] = {}
+        self._connecting = asyncio.Lock()
+
+    async def ask(self, user: User, ask: str, **fields: Any) -> Any:
+        """Return a queue's answer. A request may be sent again, so one that submits has a key."""
+        line, ends = encoded({"ask": ask, **fields}), time.monotonic() + PATIENCE_SECONDS
+        while True:
+            try:
+                async with asyncio.timeout(ANSWER_SECONDS):
+                    pipeline = await self._connected(user)
+                    return read(await pipeline.exchange(line))[ask]
+            except TimeoutError:
+                raise Refused("not-there", "the queue does not answer") from None
+            except Lost as lost:
+                if time.monotonic() > ends:
+                    raise away(lost) from lost
+            await asyncio.sleep(SHORTEST_PAUSE)
+
+    async def answers(self, user: User, ask: str, **fields: Any) -> AsyncGenerator[Json, None]:
+        """Yield answers that may take long, over a connection of their own."""
+        try:
+            channel = await Channel.connect(self._path)
+            try:
+                await greet(channel, user)
+                answer = read(await channel.exchange(encoded({"ask": ask, **fields})))
+                while True:
+                    yield answer
+                    answer = read(await channel.next())
+            finally:
+                channel.close()
+        except Lost as lost:
+            raise away(lost) from lost
+
+    async def changes(self) -> AsyncGenerator[list[tuple[str, int]], None]:
+        """Yield the tasks that each commit changes, with their users; nothing first, once it is told all."""
+        async with aclosing(self.answers(User(os.geteuid(), True), "watch")) as answers:
+            async for answer in answers:
+                yield [(str(name), int(user)) for name, user in answer.get("tasks", [])]
+
+    async def close_unused(self) -> None:
+        while True:
+            await asyncio.sleep(UNUSED_SECONDS)
+            oldest = time.monotonic() - UNUSED_SECONDS
+            for user in [user for user, used in self._used.items() if used < oldest]:
+                del self._used[user]
+                await self._pipelines.pop(user).close()
+
+    async def _connected(self, user: User) -> Pipeline:
+        found = self._pipelines.get(user)
+        if found is None or found.reading.done():
+            async with self._connecting:
+                found = self._pipelines.get(user)
+                if found is None or found.reading.done():
+                    found = await Pipeline.connect(self._path)
+                    await greet(found, user)
+                    self._pipelines[user] = found
+        self._used[user] = time.monotonic()
+        return found
+
+
+def encoded(request: Json) -> bytes:
+    return json.dumps(request).encode() + b"\n"
+
+
+def read(line: bytes) -> Json:
+    try:
+        return answer_of(line)
+    except calls.Refused as refusal:
+        raise Refused(refusal.name, str(refusal), **refusal.more) from None
+    except calls.NotThere as error:
+        raise Refused("not-there", str(error)) from error
+
+
+async def greet(link: Pipeline | Channel, user: User) -> None:
+    """Have the queue take a connection as this user's."""
+    read(await link.exchange(encoded({"ask": "as", "user": user.number, "operator": user.is_operator})))
+
+
+def away(lost: Lost) -> Refused:
+    return Refused("not-there", f"no queue answers: {lost}; a submission with the same key makes nothing twice")
+
+
+async def replies_to(path: Path, lines: Sequence[str]) -> list[str]:
+    """Return firm's replies to lines, one to each, by a client socket of firmd's."""
+    replies: list[str] = []
+    try:
+        async with asyncio.timeout(LINE_SECONDS):
+            reader, writer = await asyncio.open_unix_connection(path, limit=LONGEST_REPLY)
+            with closing(writer):
+                writer.write("".join(f"{line}\n" for line in lines).encode())
+                writer.write_eof()
+                while len(replies) < len(lines) and (reply := await reader.readline()):
+                    replies.append(reply.decode().rstrip("\n"))
+    except (OSError, ValueError, TimeoutError) as error:
+        raise Refused("not-there", f"firmd does not answer: {error}", replies=replies) from error
+    if len(replies) < len(lines):
+        told = f"firmd has closed the connection after {len(replies)} of {len(lines)} replies"
+        raise Refused("not-there", told, replies=replies)
+    return replies
+
+
+async def view_of(path: Path, ask: str, **fields: Any) -> Json:
+    """Return an answer of firmd's view."""
+    try:
+        async with asyncio.timeout(ANSWER_SECONDS):
+            reader, writer = await asyncio.open_unix_connection(path, limit=LONGEST_REPLY)
+            with closing(writer):
+                writer.write(encoded({"ask": ask, **fields}))
+                return read(await reader.readline())
+    except (OSError, ValueError, TimeoutError, Lost) as error:
+        raise Refused("not-there", f"firmd's view does not answer: {error}") from error
+
+
+class Trials:
+    """Questions that run firm's programs, as firmctl does: one at a time, at a low priority."""
+
+    def __init__(self, state: Path) -> None:
+        self._state = state
+        self._all = asyncio.Lock()
+        self._asking: dict[int, int] = {}  # by user
+
+    async def ask(self, user: int, words: Sequence[str], text: bytes = b"") -> Json:
+        """Return what firmctl answers to these words; `text` is its standard input."""
+        if self._asking.get(user, 0) >= MAX_TRIALS:
+            raise Refused("too-many-questions", f"{MAX_TRIALS} questions of yours wait already")
+        self._asking[user] = self._asking.get(user, 0) + 1
+        try:
+            async with asyncio.timeout(TRIAL_SECONDS), self._all:
+                return await self._run(words, text)
+        except TimeoutError:
+            raise Refused("too-long", f"there is no answer after {TRIAL_SECONDS:g} s") from None
+        finally:
+            self._asking[user] -= 1
+            if not self._asking[user]:
+                del self._asking[user]
+
+    async def _run(self, words: Sequence[str], text: bytes) -> Json:
+        process = await asyncio.create_subprocess_exec(
+            *[sys.executable, "-P", "-m", "firm_service.firmctl", "--state", str(self._state), "--json", *words],
+            stdin=asyncio.subprocess.PIPE,
+            stdout=asyncio.subprocess.PIPE,
+            stderr=asyncio.subprocess.PIPE,
+            env={**os.environ, "PYTHONPATH": str(PACKAGE)},
+            process_group=0,
+        )
+        try:
+            answered, said = await process.communicate(text)
+        finally:
+            with suppress(ProcessLookupError):
+                os.killpg(process.pid, signal.SIGKILL)
+        answer: Json = json.loads(answered) if answered.strip() else {}
+        if process.returncode:
+            told = said.decode(errors="replace").strip().splitlines()[-1:] or [f"status {process.returncode}"]
+            is_faulty = bool(answer.get("faults"))
+            name = "bad-lines" if is_faulty else "no-such-task" if process.returncode == 1 else "failed"
+            raise Refused(name, told[0].removeprefix("firmctl: "), **(answer if is_faulty else {}))
+        return answer
