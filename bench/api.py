@@ -116,7 +116,7 @@ def report(what: str, took: Sequence[float]) -> None:
 
 
 def fill(case: Case) -> None:
-    """Submits the tasks of many users, as the queue is told by root."""
+    """Submits the tasks of many users, in whose names root asks the queue."""
     for user in range(USERS):
         with Client(case.socket) as client:
             client.ask("as", user=FIRST_USER + user, operator=False)

@@ -3,8 +3,8 @@
 usage: tools/run tests/api.py [--quick] [--program FILE]
 Each check has a line; the last line is 'N passed, M failed', and the exit status is 1 where one failed. It needs the
 built program, python3-aiohttp and python3-prometheus-client; the document python3-jsonschema and openapi-specification,
-TLS openssl, the page's lines curl, and other users root. What is not there is said and skipped. --quick asks less of
-each kind. `tests/api_hostile.py` has what clients do to it.
+TLS openssl, the page's lines curl, and other users root. Checks that lack one of these are skipped. --quick asks less of
+each kind. `tests/api_hostile.py` has hostile clients.
 """
 
 from __future__ import annotations
@@ -15,6 +15,7 @@ import json
 import os
 import re
 import shutil
+import signal
 import ssl
 import subprocess
 import sys
@@ -25,7 +26,7 @@ from functools import partial
 from pathlib import Path
 from typing import Any
 
-from api_kit import Answer, Connection, Site, certificate, port_of, site
+from api_kit import Answer, Connection, Site, certificate, connected, port_of, site
 from harness import program
 from harness.checks import Check, Skipped, Suite, require, run_script, run_suites
 from harness.program import ROOT, built
@@ -120,8 +121,8 @@ def references(found: Any) -> Iterator[str]:
 
 
 def document(setup: Setup) -> None:
-    """The document is one of OpenAPI 3.0.3, each of its references leads somewhere, and it has each route and no other;
-    a faulty one is found."""
+    """The document is one of OpenAPI 3.0.3, each of its references leads somewhere, and it has each route and no other.
+    The schema refuses faulty ones."""
     with site(setup) as served:
         found = served.get("/v1/openapi.json")
         dangling = [name for name in references(found) if not has_reference(found, name)]
@@ -453,7 +454,7 @@ def rights(setup: Setup) -> None:
 
 
 def events_of(served: Site, task: str) -> list[str]:
-    """What a user is told of another's task, while it changes twice."""
+    """Return the events that a user gets of another's task, until one of an own task comes."""
     with Events(served) as stream:
         own, found = served.submit("z"), list[str]()
         while True:
@@ -634,10 +635,15 @@ def methods_and_kinds(served: Site) -> None:
     ):
         served.ask("POST", served.of("submissions"), body, **headers).refused(status, name)
     served.ask("GET", "/v1/status", Host="evil.example:8080").refused(403, "wrong-host")
+    for twice in ("Authorization: Bearer x", "Last-Event-ID: 1", "Host: localhost"):
+        with closing(connected(served.socket)) as connection:
+            line = f"{twice}\r\n".encode()
+            connection.sendall(b"GET /v1/status HTTP/1.1\r\nHost: localhost\r\n" + 2 * line + b"\r\n")
+            require(b" 400 " in connection.recv(100), f"{twice}, twice")
     require(served.ask("HEAD", "/v1/status").status == 200, "HEAD")
 
 
-# What is told.
+# Connections, ends, and the page.
 
 
 def mixed(setup: Setup) -> None:
@@ -664,6 +670,19 @@ def mixed(setup: Setup) -> None:
         statuses = re.findall(rb"HTTP/1.1 ([0-9]+)", answered)
         require(statuses == [b"200"] * 6, statuses)
         require(answered.count(b'"state": "held"') == 2, answered)
+
+
+def ends(setup: Setup) -> None:
+    """Each process ends with the other, and a start after that serves again."""
+    with site(setup) as served:
+        for is_reads in (True, False):
+            process = served.process
+            if process is None:
+                raise RuntimeError("it was started")
+            os.kill(served.reads_process() if is_reads else process.pid, signal.SIGKILL)
+            status = process.wait(LIMIT_SECONDS)
+            require(status == (1 if is_reads else -signal.SIGKILL), f"status {status}")
+            require(served.start().ask("GET", "/v1/status").status == 200, "it serves again")
 
 
 def curl_lines(setup: Setup) -> None:
@@ -741,7 +760,8 @@ def main() -> int:
     if python is not None and importlib.util.find_spec("aiohttp") is None:
         os.execv(python, [python, __file__, *sys.argv[1:]])  # Debian's, which has the validator too
     setup = Setup(given.program, given.quick, 0)
-    checks = [document, endpoints, pages_of_tasks, logs, events, rights, tokens, bad_requests, mixed, curl_lines]
+    checks = [document, endpoints, pages_of_tasks, logs, events, rights, tokens, bad_requests, mixed, ends]
+    checks.append(curl_lines)
     found: dict[str, Check] = {check.__name__.replace("_", " "): partial(check, setup) for check in checks}
     return run_suites(Suite({name: check for name, check in found.items() if given.only in name}))
 

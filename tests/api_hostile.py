@@ -52,8 +52,8 @@ STATUSES = {100, 200, 201, 400, 401, 403, 404, 405, 408, 409, 413, 415, 417, 429
 
 
 def fuzz(setup: Setup) -> None:
-    """Whatever a request has, it is answered by a status that is told, or its connection is closed; nothing is logged
-    as a fault, and the next request is answered."""
+    """Each request gets one of the known statuses, or its connection is closed. None is logged as a fault, and the next
+    one is answered."""
     draw = random.Random(setup.seed)
     with site(setup) as served:
         document = served.get("/v1/openapi.json")
@@ -323,7 +323,7 @@ def slow_readers(setup: Setup) -> None:
 
 
 def open_streams(served: Site) -> int:
-    """How many connections there are, beside that which asks."""
+    """Number of connections, without the one that asks."""
     text = served.ask("GET", "/metrics").body.decode()
     return int(float(re.findall(r'firm_api_connections\{process="reads"\} (\S+)', text)[0])) - 1
 

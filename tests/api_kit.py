@@ -139,7 +139,7 @@ class Site:
         return int(Path(f"/proc/{pid}/task/{pid}/children").read_text().split()[0])
 
     def ask(self, method: str, path: str, body: Any = None, **headers: str) -> Answer:
-        """The answer over a connection of its own."""
+        """The answer over a new connection."""
         with closing(Connection(self.socket)) as connection:
             return connection.ask(method, path, body, **headers)
 
@@ -181,7 +181,7 @@ def site(setup: Setup, *options: str, queue: tuple[str, ...] = ()) -> Iterator[S
 
 
 def certificate(folder: Path, name: str) -> tuple[Path, Path]:
-    """A certificate of its own signature, and its key."""
+    """A self-signed certificate, and its key."""
     found, key = folder / f"{name}.pem", folder / f"{name}.key"
     words = ["openssl", "req", "-x509", "-newkey", "ec", "-pkeyopt", "ec_paramgen_curve:prime256v1", "-nodes"]
     words += ["-keyout", str(key), "-out", str(found), "-days", CERTIFICATE_DAYS, "-subj", f"/CN={name}"]

@@ -35,7 +35,7 @@ LINES = "lines"
 
 @dataclass(frozen=True, slots=True)
 class Place:
-    """Where a tenant is reached."""
+    """The sockets and the folder of a tenant."""
 
     tenant: str
     lines: Path | None = None  # a client socket of firmd
@@ -45,7 +45,7 @@ class Place:
 
 @dataclass(frozen=True, slots=True)
 class Rights:
-    """What a caller may do with one tenant."""
+    """A caller's rights on one tenant."""
 
     lines: bool = False  # send lines, and see firm's rows
     queue: bool = False  # have work in the queue
@@ -89,7 +89,7 @@ def caller_of_peer(peer: Peer, operators: Operators, places: Iterable[Place]) ->
 
 @dataclass(frozen=True, slots=True)
 class Grant:
-    """What a token gives its bearer."""
+    """The rights of a token's bearer."""
 
     user: int
     role: str

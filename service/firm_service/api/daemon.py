@@ -82,7 +82,7 @@ class Options:
 
 
 class Stop(Exception):
-    """It was told to stop."""
+    """A signal to stop has come."""
 
 
 class Service:
@@ -104,7 +104,7 @@ class Service:
         self._stopped.set()
 
     async def run(self, listening: socket.socket | None) -> None:
-        """Serve until it is told to stop. Raise the fault that ended it otherwise."""
+        """Serve until a signal to stop. Raise the fault that ended it otherwise."""
         from .serving import Server
 
         loop = asyncio.get_running_loop()
@@ -166,7 +166,7 @@ class Service:
             self._begin_ready()
 
     def _begin_ready(self) -> None:
-        """Tell that both processes serve, once: this one hears of the other as soon as it does."""
+        """Report once that both processes serve: the other sends its counts as soon as it does."""
         if not self._is_ready and self._name == CHANGES:
             logs.tell(logs.INFO, "ready")
             notify(b"READY=1")

@@ -1,4 +1,4 @@
-"""What changes of a tenant, for server-sent events: its queue's tasks by commits, and firm's lines with their replies.
+"""Changes of a tenant, for server-sent events: its queue's tasks by commits, and firm's lines with their replies.
 
 A feed keeps the last changes by name alone. A stream reads the rows when it sends them, so a task that changes five
 times while a client reads slowly is sent once. An event's id is EPOCH-NUMBER, of this process and this tenant; a client
@@ -54,6 +54,7 @@ class Feed:
         self._changes: deque[Change] = deque(maxlen=MAX_KEPT)
         self.last = 0
         self._news = asyncio.Event()
+        self._waiting = 0  # for news
 
     def position(self, given: str | None) -> Position:
         """Return where a client goes on that has had the event of this id."""
@@ -73,7 +74,7 @@ class Feed:
         for place in range(len(self._changes) - (self.last - at), len(self._changes)):
             yield self._changes[place]
 
-    def add_task(self, name: Name, user: int | None) -> None:
+    def add_task(self, name: Name, user: int) -> None:
         self._owners[name.number] = user
         if len(self._owners) > MAX_KNOWN:
             del self._owners[next(iter(self._owners))]
@@ -97,6 +98,7 @@ class Feed:
 
     async def wait(self, seconds: float) -> None:
         """Return after the next change, or some time."""
+        self._waiting += 1
         try:
             async with asyncio.timeout(seconds):
                 await self._news.wait()
@@ -106,8 +108,9 @@ class Feed:
     def _add(self, name: Name | None, user: int | None, line: Json | None) -> None:
         self.last += 1
         self._changes.append(Change(self.last, name, user, line))
-        self._news.set()
-        self._news = asyncio.Event()
+        if self._waiting:
+            self._news.set()
+            self._news, self._waiting = asyncio.Event(), 0
 
 
 class FollowedFirm(Firm):

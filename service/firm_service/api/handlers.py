@@ -6,7 +6,7 @@ import asyncio
 import json
 import time
 from base64 import b64decode
-from collections.abc import AsyncIterator, Mapping
+from collections.abc import AsyncIterator, Callable, Mapping
 from contextlib import aclosing
 from dataclasses import dataclass, field
 from pathlib import Path
@@ -40,7 +40,7 @@ MAX_EVENT_ROWS, EVENT_PAUSE, QUIET_SECONDS = 500, 0.2, 15.0  # of one write of e
 
 @dataclass(frozen=True)
 class Tenant:
-    """What a tenant's answers are made of."""
+    """The sources of a tenant's answers."""
 
     place: Place
     firm: FollowedFirm
@@ -64,6 +64,7 @@ class Call:
     request: web.Request
     caller: Caller
     values: Json  # of its parameters
+    look: Callable[[], Caller]  # who calls, as of now; raises `Refused`
     body: Json = field(default_factory=dict)
 
     @property
@@ -73,6 +74,15 @@ class Call:
     @property
     def rights(self) -> Rights:
         return self.caller.of(self.values["tenant"])
+
+    def require_still(self) -> None:
+        """End a stream whose caller has not the rights any more with which it began."""
+        try:
+            is_same = self.look() == self.caller
+        except Refused:
+            is_same = False
+        if not is_same:
+            raise ConnectionResetError("the caller has other rights now")
 
     def require_operator(self) -> None:
         if not self.rights.operator:
@@ -191,6 +201,7 @@ class Api:
             response = web.StreamResponse(headers={"Content-Type": "application/octet-stream"})
             await response.prepare(call.request)
             while "log" in answer:
+                call.require_still()
                 await write(call.request, response, b64decode(answer["log"]))
                 answer = await anext(answers)
         return response
@@ -219,6 +230,7 @@ class Api:
         await response.prepare(call.request)
         await write(call.request, response, b": events of this tenant\n\n")
         while True:
+            call.require_still()
             changes = [*tenant.feed.since(position)]
             if position.is_lost:
                 position.is_lost, told = False, [("reset", {"tenant": tenant.place.tenant})]
@@ -239,8 +251,8 @@ class Api:
     # Changes
 
     async def submit(self, call: Call) -> web.StreamResponse:
-        key, batch = call.body.get("key") or new_key(), call.body["submissions"]
-        made = await self._queue(call).ask(call.user, "submit-all", key=key, submissions=batch)
+        key, link = call.body.get("key") or new_key(), self._queue(call)
+        made = await link.ask(call.user, "submit-all", key=key, submissions=call.body.pop("submissions"))
         is_again = bool(made and made[0].get("again"))
         return web.json_response({"submissions": made}, status=200 if is_again else 201)
 
@@ -280,7 +292,7 @@ class Api:
         path = self._tenants[name].place.lines
         return web.json_response({"replies": await replies_to(path, lines)} if path is not None else {"replies": []})
 
-    # What they share
+    # Common parts
 
     def _tenant(self, call: Call) -> Tenant:
         call.rights  # refuses a tenant that the caller has no rights on

@@ -3,6 +3,7 @@
 from __future__ import annotations
 
 import asyncio
+import itertools
 import json
 import os
 import signal
@@ -24,21 +25,27 @@ LINE_SECONDS = 60.0  # for all replies to the lines of a request
 UNUSED_SECONDS = 60.0  # after which a connection to a queue is closed
 LONGEST_REPLY = 2**26  # bytes: of a view, or of a round that moves all tasks
 TRIAL_SECONDS, MAX_TRIALS = 120.0, 4  # of a question that runs firm; that wait for their turn, of a user
+OPERATORS_LINES = 8  # connections of an operator: the queue gives each of them time of its own
 PACKAGE = Path(__file__).parents[2]
 
 
+Line = tuple[User, int]  # one of a user's connections to a queue
+
+
 class QueueLink:
-    """A tenant's queue, asked for users: each has a connection of its own, as the queue shares its time by user."""
+    """A tenant's queue. Each user has a separate connection, as the queue shares its time by user."""
 
     def __init__(self, path: Path) -> None:
         self._path = path
-        self._pipelines: dict[User, Pipeline] = {}
-        self._used: dict[User, float] = {}
+        self._pipelines: dict[Line, Pipeline] = {}
+        self._used: dict[Line, float] = {}
+        self._turns = itertools.count()
         self._connecting = asyncio.Lock()
 
     async def ask(self, user: User, ask: str, **fields: Any) -> Any:
         """Return a queue's answer. A request may be sent again, so one that submits has a key."""
         line, ends = encoded({"ask": ask, **fields}), time.monotonic() + PATIENCE_SECONDS
+        fields.clear()  # they take many times the memory of the line
         while True:
             try:
                 async with asyncio.timeout(ANSWER_SECONDS):
@@ -52,7 +59,7 @@ class QueueLink:
             await asyncio.sleep(SHORTEST_PAUSE)
 
     async def answers(self, user: User, ask: str, **fields: Any) -> AsyncGenerator[Json, None]:
-        """Yield answers that may take long, over a connection of their own."""
+        """Yield answers that may take long, over a separate connection."""
         try:
             channel = await Channel.connect(self._path)
             try:
@@ -66,30 +73,31 @@ class QueueLink:
         except Lost as lost:
             raise away(lost) from lost
 
-    async def changes(self) -> AsyncGenerator[list[tuple[str, int]], None]:
-        """Yield the tasks that each commit changes, with their users; nothing first, once it is told all."""
+    async def changes(self) -> AsyncGenerator[list[tuple[int, int, int]], None]:
+        """Yield number, index and user of the tasks that each commit changes, and first an empty list."""
         async with aclosing(self.answers(User(os.geteuid(), True), "watch")) as answers:
             async for answer in answers:
-                yield [(str(name), int(user)) for name, user in answer.get("tasks", [])]
+                yield answer.get("tasks", [])
 
     async def close_unused(self) -> None:
         while True:
             await asyncio.sleep(UNUSED_SECONDS)
             oldest = time.monotonic() - UNUSED_SECONDS
-            for user in [user for user, used in self._used.items() if used < oldest]:
-                del self._used[user]
-                await self._pipelines.pop(user).close()
+            for line in [line for line, used in self._used.items() if used < oldest]:
+                del self._used[line]
+                await self._pipelines.pop(line).close()
 
     async def _connected(self, user: User) -> Pipeline:
-        found = self._pipelines.get(user)
+        line = user, next(self._turns) % OPERATORS_LINES if user.is_operator else 0
+        found = self._pipelines.get(line)
         if found is None or found.reading.done():
             async with self._connecting:
-                found = self._pipelines.get(user)
+                found = self._pipelines.get(line)
                 if found is None or found.reading.done():
                     found = await Pipeline.connect(self._path)
                     await greet(found, user)
-                    self._pipelines[user] = found
-        self._used[user] = time.monotonic()
+                    self._pipelines[line] = found
+        self._used[line] = time.monotonic()
         return found
 
 
@@ -152,7 +160,8 @@ class Trials:
     def __init__(self, state: Path) -> None:
         self._state = state
         self._all = asyncio.Lock()
-        self._asking: dict[int, int] = {}  # by user
+        self._turns: dict[int, asyncio.Lock] = {}  # by user
+        self._asking: dict[int, int] = {}
 
     async def ask(self, user: int, words: Sequence[str], text: bytes = b"") -> Json:
         """Return what firmctl answers to these words; `text` is its standard input."""
@@ -160,14 +169,14 @@ class Trials:
             raise Refused("too-many-questions", f"{MAX_TRIALS} questions of yours wait already")
         self._asking[user] = self._asking.get(user, 0) + 1
         try:
-            async with asyncio.timeout(TRIAL_SECONDS), self._all:
+            async with asyncio.timeout(TRIAL_SECONDS), self._turns.setdefault(user, asyncio.Lock()), self._all:
                 return await self._run(words, text)
         except TimeoutError:
             raise Refused("too-long", f"there is no answer after {TRIAL_SECONDS:g} s") from None
         finally:
             self._asking[user] -= 1
             if not self._asking[user]:
-                del self._asking[user]
+                del self._asking[user], self._turns[user]
 
     async def _run(self, words: Sequence[str], text: bytes) -> Json:
         process = await asyncio.create_subprocess_exec(

@@ -32,6 +32,7 @@ MAX_WORDS = 2**22  # bytes of the words of a page's submissions
 READ_SECONDS = 10.0  # for a list
 FEW_NEEDS = 16  # of a task that is read in the loop
 MAX_OWNERS = 200_000  # submissions that are added to the index of owners until it is made anew
+HEAD = f"SELECT {columns('submission')}, spec FROM submission WHERE number = ?"
 OWNERS = "CREATE TEMP TABLE owner (user INTEGER, number INTEGER, PRIMARY KEY (user, number)) WITHOUT ROWID"
 LIVE_OWNERS = """\
 INSERT INTO owner SELECT DISTINCT s.user, s.number FROM task t INDEXED BY task_live CROSS JOIN submission s
@@ -60,7 +61,7 @@ class Wanted:
 
 @dataclass(slots=True)
 class Page:
-    """Tasks with what their rows are made of; `last`: where the next page begins, if there is one."""
+    """Tasks, with the parts of their rows; the next page, if any, begins after `last`."""
 
     firm: Firm
     tasks: list[Task] = field(default_factory=list)
@@ -157,8 +158,7 @@ class QueueRows:
         self, db: sqlite3.Connection, name: Name, user: int | None, most: int | None
     ) -> tuple[Page | None, list[Attempt]]:
         """Return a task, or the first one of a submission, with its attempts; no page where it has more needs."""
-        page, words = Page(self._firm), f"SELECT {columns('submission')}, spec FROM submission WHERE number = ?"
-        rows = fetched(db, words, (name.number,))
+        page, rows = Page(self._firm), fetched(db, HEAD, (name.number,))
         submission = whole_of(rows[0]) if rows else None
         if submission is None or user not in (None, submission.user):
             return page, []
@@ -184,8 +184,7 @@ class QueueRows:
         for row in tasks[:most]:
             submission = heads.get(row[0])
             if submission is None:
-                words = f"SELECT {columns('submission')}, spec FROM submission WHERE number = ?"
-                (head,) = fetched(db, words, (row[0],))
+                (head,) = fetched(db, HEAD, (row[0],))
                 size += len(head[-1])
                 if found and size > MAX_WORDS:
                     break

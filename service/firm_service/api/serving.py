@@ -20,11 +20,11 @@ from ..faults import Faults
 from ..queue.fields import Json, Refused, bad
 from ..queue.firm import Doors
 from ..queue.rows import Name
-from ..queue.shares import BOUNDS, Shares
+from ..queue.shares import BOUNDS, Share, Shares
 from ..queue.users import User
 from ..queue.front import share_of
 from ..sight import Peer
-from .bounded import WRITE_SECONDS, Gate, Gates, refusal_of
+from .bounded import WRITE_SECONDS, Gate, Gates, key_of, refusal_of
 from .callers import Caller, Place, Tokens, caller_of_peer
 from .document import ENDPOINTS, Endpoint
 from .events import Feed, FollowedFirm
@@ -37,7 +37,10 @@ if TYPE_CHECKING:
     from .daemon import Options
 
 MAX_BODY, MAX_VALUES = 2**23, 400_000  # bytes; commas and brackets, each of which may be a value
-MAX_BODIES, MAX_STREAMS = 4, 32  # of a user at a time, that are read, and that are sent
+SMALL_BODY = 2**16  # bytes, with which a request is no large one
+MAX_BODIES, MAX_STREAMS = 4, 32  # of a user at a time: requests with large bodies, and streams
+NOBODY = -1
+CHANGES_AT_ONCE = 200  # that a feed takes in a turn of the loop
 AGAIN_SECONDS, MAX_TOLD = 1.0, 40  # until a queue is asked again to tell of changes; letters of an unknown name
 SINGLE_HEADERS = ("Authorization", "Content-Length", "Content-Type", "Host", "Last-Event-ID", "Transfer-Encoding")
 HEADERS = {
@@ -65,7 +68,7 @@ def status_of(name: str) -> int:
 
 
 class Server:
-    """What a process serves."""
+    """The endpoints, as one process serves them."""
 
     def __init__(self, options: Options, name: str, faults: Faults, tokens: Tokens | None) -> None:
         self._options, self._faults, self._tokens = options, faults, tokens
@@ -134,15 +137,14 @@ class Server:
         request["operation"] = endpoint.name
         gate = self.gates.of(request)
         require_plain(request, gate)
-        caller = Caller(0) if endpoint.is_open else self._caller(request, gate)
-        share = share_of(User(caller.number), gate, gate.transport.abort)
-        await self._shares.turn(share)
-        call = Call(request, caller, values_of(endpoint, request))
-        if endpoint.body is not None:
-            call.body = await self._body(caller.number, request, gate)
-            require_fields(call.body, endpoint.body)
+        caller = Caller(NOBODY) if endpoint.is_open else self._caller(request, gate)
+        await self._shares.turn(share_of_caller(caller, gate))
+        call = Call(request, caller, values_of(endpoint, request), partial(self._caller, request, gate))
         handler: Handler = getattr(self._api, endpoint.name)
-        async with self._place(endpoint, caller.number, gate):
+        async with self._place(endpoint, caller.number, request, gate):
+            if endpoint.body is not None:
+                call.body = json_of(await body_of(request, gate))
+                require_fields(call.body, endpoint.body)
             response = await handler(call)
             await send(request, response)
             return response
@@ -163,8 +165,8 @@ class Server:
         return found.caller(self._options.places)
 
     @asynccontextmanager
-    async def _place(self, endpoint: Endpoint, user: int, gate: Gate) -> AsyncIterator[None]:
-        """A user has some streams at a time, and one answer of each other kind of read, which may be large."""
+    async def _place(self, endpoint: Endpoint, user: int, request: web.Request, gate: Gate) -> AsyncIterator[None]:
+        """A user has some streams and some large bodies at a time, and one list, which may be large."""
         if endpoint.is_stream:
             if self._streams[user] >= MAX_STREAMS:
                 raise Refused("too-many-streams", f"{MAX_STREAMS} logs and events of yours are open; close one")
@@ -178,21 +180,31 @@ class Server:
         elif endpoint.name in ("tasks", "history", "machines", "jobs"):
             async with self._lists.setdefault(user, asyncio.Lock()):
                 yield
+        elif endpoint.body is not None and (request.content_length or MAX_BODY) > SMALL_BODY:
+            async with self._bodies.setdefault(user, asyncio.Semaphore(MAX_BODIES)):
+                yield
         else:
             yield
 
-    async def _body(self, user: int, request: web.Request, gate: Gate) -> Json:
-        if request.content_type != "application/json" or "Content-Encoding" in request.headers:
-            raise Refused("not-json", "a body is plain JSON: Content-Type: application/json")
-        if (request.content_length or 0) > MAX_BODY:
-            raise Refused("too-large", f"a body has at most {MAX_BODY:,} bytes")
-        async with self._bodies.setdefault(user, asyncio.Semaphore(MAX_BODIES)):
-            gate.read_body()
-            try:
-                data = await request.read()
-            finally:
-                gate.end_body()
-        return json_of(data)
+
+async def body_of(request: web.Request, gate: Gate) -> bytes:
+    if request.content_type != "application/json" or "Content-Encoding" in request.headers:
+        raise Refused("not-json", "a body is plain JSON: Content-Type: application/json")
+    if (request.content_length or 0) > MAX_BODY:
+        raise Refused("too-large", f"a body has at most {MAX_BODY:,} bytes")
+    gate.read_body()
+    try:
+        return await request.read()
+    finally:
+        gate.end_body()
+
+
+def share_of_caller(caller: Caller, gate: Gate) -> Share:
+    """Return whose time a request takes: a user's, a connection's of an operator, or an unknown caller's address."""
+    if caller.number == NOBODY:
+        return Share(f"address {key_of(gate.owner)}".encode(), True)
+    is_operator = any(rights.operator for rights in caller.rights.values())
+    return share_of(User(caller.number, is_operator), gate, gate.transport.abort)
 
 
 def json_of(data: bytes) -> Json:
@@ -251,7 +263,8 @@ def values_of(endpoint: Endpoint, request: web.Request) -> Json:
 def value_of(name: str, text: str, schema: Mapping[str, Any]) -> Any:
     kind = schema["type"]
     if kind == "string":
-        if len(text) > schema.get("maxLength", 100) or not re.search(schema.get("pattern", ""), text) or "\0" in text:
+        is_formed = "pattern" not in schema or re.fullmatch(schema["pattern"], text)
+        if len(text) > schema.get("maxLength", 100) or not is_formed or "\0" in text:
             kinds = f"; it has the form {schema['pattern']}" if "pattern" in schema else ""
             raise Refused(f"no-such-{name}", f"no {name} has this name") if kinds else bad(name, "not of its form")
         return text
@@ -327,17 +340,17 @@ def tenant_at(place: Place, options: Options) -> Tenant:
 
 
 async def follow(queue: QueueLink, feed: Feed) -> None:
-    """Have a feed take in what a queue's commits change, as long as the queue tells it."""
+    """Put the changes of a queue's commits into a feed."""
     while True:
         try:
             async with aclosing(queue.changes()) as changes:
                 async for told in changes:
                     if not told:  # from here on
                         feed.lose()
-                    for text, user in told:
-                        name = Name.read(text)
-                        if name is not None:
-                            feed.add_task(name, user)
+                    for at in range(0, len(told), CHANGES_AT_ONCE):
+                        for number, index, user in told[at : at + CHANGES_AT_ONCE]:
+                            feed.add_task(Name(number, index), user)
+                        await asyncio.sleep(0)
         except Refused:
             pass
         await asyncio.sleep(AGAIN_SECONDS)

@@ -541,7 +541,7 @@ class Core:
 
 
 def facts_of(task: Task, rows: Book | None) -> Facts:
-    """What a task's state follows from, by firm's rows."""
+    """Return the facts that decide a task's state, by firm's rows."""
     row = rows.tasks.get(task.firm) if rows is not None and task.outcome is None else None
     attempt = task.open_attempt
     return Facts(

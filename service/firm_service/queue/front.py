@@ -20,7 +20,7 @@ from ..sight import ROOT
 from .agents import Agents
 from .fields import Fields, Json, Refused, bad
 from .requests import Requests
-from .rows import SINGLE, Name
+from .rows import SINGLE
 from .shares import BOUNDS, Share, Shares
 from .store import Changed, NotWritten
 from .users import Operators, User
@@ -122,7 +122,7 @@ class Front:
                 return self._serve_as(connection, Fields(given, ["ask", "user", "operator"]))
             Fields(given, ["ask"])
             if not connection.user.is_operator:
-                raise Refused("operator-only", "watch is asked by operators alone")
+                raise Refused("operator-only", "only operators may watch")
         except Refused as refusal:
             return refusal.answer()
         self._watchers.add(connection)
@@ -132,7 +132,7 @@ class Front:
         """Serve a connection of root's or of the queue's own user as another user's from now on."""
         number, is_operator = fields.whole("user", 0, 2**32 - 1), fields.flag("operator")
         if connection.peer not in (ROOT, os.geteuid()):
-            raise Refused("operator-only", "as is asked by root and the queue's own user alone")
+            raise Refused("operator-only", "only root and the queue's own user may act as others")
         if number is None:
             raise bad("user", "it is needed")
         user = User(number, is_operator)
@@ -148,12 +148,12 @@ class Front:
         """Tell watchers what a commit has changed: tasks, or the submission of many, each with its user."""
         if not self._watchers:
             return
-        told: list[tuple[str, int]] = []
+        told: list[tuple[int, int, int]] = []
         for number, indexes in changed.items():
             submission = self.agents.core.rows.submissions.get(number)
             if submission is not None:  # otherwise it ended long ago
                 few = indexes if len(indexes) <= MOST_TOLD_TASKS else [SINGLE]
-                told += [(str(Name(number, index)), submission.user) for index in few]
+                told += [(number, index, submission.user) for index in few]
         for connection in list(self._watchers):
             connection.tell({"tell": "changed", "tasks": told})
 

@@ -27,14 +27,14 @@ MOST_SHOWN, MOST_LOOKED_AT = 4, 16  # needs that a reason names, and among which
 
 
 class Known(Protocol):
-    """What a task's row is made of, beside the task."""
+    """The sources of a task's row, beside the task."""
 
     @property
     def firm(self) -> Firm:
         """The tenant in firm."""
 
     def facts(self, task: Task) -> Facts:
-        """What the task's state follows from."""
+        """Return the facts that decide the task's state."""
 
     def needed(self, need: Need) -> Needed:
         """How far what a task waits for is."""

@@ -190,8 +190,8 @@ The API asks
 ============
 
 as, of root and the queue's user: {"ask": "as", "user": 1000, "operator": false} -> {"as": ..}: what follows is hers.
-watch: {"ask": "watch"} -> {"watch": {}}, of operators. Then {"tell": "changed", "tasks": [["12_4", 1000], ..]} comes
-  after each commit: the tasks that it has changed, with their users; of more than 100 of a submission its number alone.
+watch: {"ask": "watch"} -> {"watch": {}}, of operators. Then {"tell": "changed", "tasks": [[12, 4, 1000], ..]} comes
+  after each commit: number, index (-1: none) and user of what it has changed; of more than 100 of a submission, -1.
 
 Errors of any request: `bad-request` (no JSON, no object, nothing to be asked), `bad-field`, `too-long` (the connection
 is closed), `too-many-clients` (the same), `operator-only`, `not-written` (the disk is full or fails, or has not
