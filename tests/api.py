@@ -464,6 +464,35 @@ def events_of(served: Site, task: str) -> list[str]:
             found += [data["task"]] if data.get("task") == task else []
 
 
+def proxy(setup: Setup) -> None:
+    """Only root and the queue's own user may act as others, at once and for good; watchers hear of commits alone."""
+    if os.geteuid():
+        raise Skipped("it needs root, to be other users")
+    with setup.case("--socket-mode=666") as case:
+        case.folder.chmod(0o755)
+        case.start()
+        for ask, fields in (("as", {"user": BOB, "operator": True}), ("watch", {})):
+            found = as_user_does(ANN, partial(try_ask, case, ask, fields))
+            require(found["error"] == "operator-only", found)
+        with case.client() as client, case.client() as watcher:
+            watcher.ask("watch")
+            one = {"command": ["true"], "dir": "/tmp", "hold": True}
+            client.send({"ask": "as", "user": ANN}, {"ask": "submit", **one}, {"ask": "cordon", "machines": []})
+            answers = [client.answer() for _ in range(3)]
+            require(answers[0] == {"as": {"user": ANN}} and "submit" in answers[1], answers)
+            require(answers[2]["error"] == "operator-only", answers)
+            client.refused("operator-only", "as", user=0, operator=True)
+            require(client.ask("tasks")[0]["user"] == str(ANN), "whose task it is")
+            require(watcher.line() == {"tell": "changed", "tasks": [[1, -1, ANN]]}, "what a commit has changed")
+            for user in ("x", -1, True, None):
+                watcher.refused("bad-field", "as", user=user)
+
+
+def try_ask(case: Case, ask: str, fields: Json) -> Json:
+    with case.client() as client:
+        return client.try_ask(ask, **fields)
+
+
 def tokens(setup: Setup) -> None:
     """Over TLS a token or a certificate gives a user, a role and tenants, until its line is removed."""
     with site(setup) as served:
@@ -761,7 +790,7 @@ def main() -> int:
         os.execv(python, [python, __file__, *sys.argv[1:]])  # Debian's, which has the validator too
     setup = Setup(given.program, given.quick, 0)
     checks = [document, endpoints, pages_of_tasks, logs, events, rights, tokens, bad_requests, mixed, ends]
-    checks.append(curl_lines)
+    checks += [proxy, curl_lines]
     found: dict[str, Check] = {check.__name__.replace("_", " "): partial(check, setup) for check in checks}
     return run_suites(Suite({name: check for name, check in found.items() if given.only in name}))
 

@@ -21,6 +21,7 @@ from functools import partial
 from pathlib import Path
 from typing import Any
 
+from api import run_one
 from api_kit import Connection, Site, certificate, connected, port_of, site
 from firmd_kit import memory_kilobytes
 from harness import program
@@ -35,6 +36,7 @@ CLIENTS = 160  # of a user, more than may be
 PIPELINED = 20_000
 HEADERS = 20_000
 BOMB_BYTES = 2**26
+NEEDS, WAITING = 5_000, 20  # tasks that each of others waits for; how many others there are
 SMALL_SECONDS = 2.0
 # A firm-api whose clients have little time.
 SMALL = f"""\
@@ -328,6 +330,44 @@ def open_streams(served: Site) -> int:
     return int(float(re.findall(r'firm_api_connections\{process="reads"\} (\S+)', text)[0])) - 1
 
 
+def many_needs(setup: Setup) -> None:
+    """Tasks that wait for thousands of others are shown, in pages, and hold up no list of others."""
+    with site(setup) as served:
+        served.submit("x", array=[1, NEEDS], hold=True)
+        after = [f"1_{index}" for index in range(1, NEEDS + 1)]
+        for _ in range(WAITING):
+            served.submit("y", after=after, job="late")
+        cursor, rows = "", list[Any]()
+        while cursor is not None:
+            began = time.monotonic()
+            found = served.get(served.of(f"tasks?job=late&limit=1000{cursor and f'&cursor={cursor}'}"))
+            require(time.monotonic() - began < SERVED_SECONDS, "a page took long")
+            rows, cursor = rows + found["tasks"], found["next"]
+        require([row["task"] for row in rows] == [str(number) for number in range(2, WAITING + 2)], "each row once")
+        wanted = f"waits for 1_1, 1_2, 1_3, 1_4 and {NEEDS - 4:,} more"
+        require(all((row["state"], row["reason"]) == ("blocked", wanted) for row in rows), rows[0])
+        require(len(served.get(served.of("tasks/3"))["spec"]["after"]) == NEEDS, "all that it waits for")
+
+
+def lost_queue(setup: Setup) -> None:
+    """A log whose queue is killed ends without its last chunk, so that nobody takes it for the whole."""
+    with site(setup) as served:
+        served.submit("x")
+        run_one(served.case, "1")
+        with connected(served.socket) as connection:
+            path = served.of("tasks/1/log?follow=true")
+            connection.sendall(f"GET {path} HTTP/1.1\r\nHost: localhost\r\n\r\n".encode())
+            answer = b""
+            while b"said" not in answer:
+                answer += connection.recv(1_000)
+            served.case.kill()
+            while more := connection.recv(1_000):
+                answer += more
+        require(answer.count(b"HTTP/1.1") == 1 and not answer.endswith(b"0\r\n\r\n"), answer)
+        served.ask("GET", served.of("machines")).refused(503, "not-there")
+        require(served.get(served.of("tasks/1"))["task"] == "1", "what needs no queue is answered")
+
+
 def tls_floods(setup: Setup) -> None:
     """Mute clients before a handshake, and such as say something else, keep nobody out."""
     with site(setup) as served:
@@ -363,7 +403,7 @@ def main() -> int:
     program.add_program(parser)
     given = parser.parse_args()
     setup = Setup(given.program, given.quick, given.seed)
-    checks = [fuzz, closed_in_time, slow_readers, tls_floods]
+    checks = [fuzz, closed_in_time, slow_readers, many_needs, lost_queue, tls_floods]
     found: dict[str, Check] = {check.__name__.replace("_", " "): partial(check, setup) for check in checks}
     for work in (slow_heads, slow_bodies, mute, pipelining, endless_heads, bombs, comers):
         found[work.__name__.replace("_", " ")] = partial(beside, work, setup)

@@ -100,7 +100,8 @@ class Gate(asyncio.BufferedProtocol):
 
     def eof_received(self) -> bool:
         """Answer what has come of a client that sends no more."""
-        if not self._held and not self._is_busy:
+        is_tls = self.transport.get_extra_info("ssl_object") is not None  # which can't be half closed
+        if is_tls or not self._held and not self._is_busy:
             return False
         self._gates.ending.add(self)
         return True

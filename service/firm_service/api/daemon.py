@@ -17,6 +17,7 @@ from collections.abc import Coroutine
 from contextlib import suppress
 from dataclasses import dataclass
 from functools import partial
+from importlib import import_module
 from pathlib import Path
 from typing import Any
 
@@ -157,6 +158,8 @@ class Service:
         if not message:
             asyncio.get_running_loop().remove_reader(self._peer)
             self.give_up(Fault(Exit.INTERNAL, "the other process has ended"))
+        elif message.startswith(b"+") and not files:
+            self._faults.count("client", "a connection had no descriptor here")
         elif files:
             task = asyncio.get_running_loop().create_task(self._begin(socket.socket(fileno=files[0]), message[1:]))
             self._beginning.add(task)
@@ -282,6 +285,7 @@ def serve(options: Options) -> None:
     """Serve by two processes. The child has the socket; this one ends with it."""
     from .bounded import MAX_CONNECTIONS
 
+    import_module(".serving", __package__)  # before there are two processes, which share it
     if options.tls is not None:
         options.tls.context()  # a fault is told before anything is served
     allow_files(MAX_CONNECTIONS)

@@ -22,7 +22,7 @@ from ..queue.queries import Asked
 from ..queue.rows import SINGLE, Name
 from ..queue.states import State
 from ..queue.threads import Threads
-from ..queue.users import User, number_of
+from ..queue.users import User, know, number_of
 from ..version import version
 from ..view import summary_of
 from ..web import page_text, policy_of
@@ -34,6 +34,14 @@ from .links import QueueLink, Trials, replies_to
 from .metrics import Metrics
 from .rows import QueueRows, Wanted, jobs_in, machines_in, tasks_in
 
+BEGUN = "begun"  # the key of a request whose answer is a stream
+HEADERS = {
+    "Cache-Control": "no-store",
+    "Cross-Origin-Resource-Policy": "same-origin",
+    "Referrer-Policy": "no-referrer",
+    "Server": "firm-api",
+    "X-Content-Type-Options": "nosniff",
+}
 PAGE = Path(__file__).with_name("page.html")
 MAX_EVENT_ROWS, EVENT_PAUSE, QUIET_SECONDS = 500, 0.2, 15.0  # of one write of events; between two; until a comment
 
@@ -118,6 +126,7 @@ class Api:
 
     async def status(self, call: Call) -> web.StreamResponse:
         caller = call.caller
+        await know(self._threads, caller.number, [caller.number])
         tenants = [rights_row(name, rights) for name, rights in caller.rights.items()]
         found: Json = {"version": version(), "user": caller.name, "number": caller.number}
         return web.json_response({**found, "started": self._started, "tenants": tenants})
@@ -198,8 +207,7 @@ class Api:
         fields = {"task": values["task"], "attempt": values["attempt"], "from": values["from"]}
         async with aclosing(link.answers(call.user, "log", **fields, follow=values["follow"])) as answers:
             answer = await anext(answers)  # a refusal has a status of its own
-            response = web.StreamResponse(headers={"Content-Type": "application/octet-stream"})
-            await response.prepare(call.request)
+            response = await begun(call.request, "application/octet-stream")
             while "log" in answer:
                 call.require_still()
                 await write(call.request, response, b64decode(answer["log"]))
@@ -217,6 +225,7 @@ class Api:
         last = found[values["limit"] - 1] if len(found) > values["limit"] else None
         index = SINGLE if last is None or last["index"] is None else last["index"]
         following = None if last is None else f"{last['ended']!r}_{last['number']}_{index}"
+        await know(self._threads, call.caller.number, [row["user"] for row in found])
         shown = [{**row, "user": User(row["user"]).name} for row in found[: values["limit"]]]
         return web.json_response({"history": shown, "next": following})
 
@@ -226,8 +235,7 @@ class Api:
         if with_lines and not call.rights.lines:
             raise Refused("operator-only", "firm's lines are for those who may send the tenant's")
         position = tenant.feed.position(call.request.headers.get("Last-Event-ID"))
-        response = web.StreamResponse(headers={"Content-Type": "text/event-stream", "Cache-Control": "no-store"})
-        await response.prepare(call.request)
+        response = await begun(call.request, "text/event-stream")
         await write(call.request, response, b": events of this tenant\n\n")
         while True:
             call.require_still()
@@ -394,6 +402,14 @@ async def changed_rows(rows: QueueRows | None, names: list[Name], sees: int | No
         if rows is not None:
             for row in await rows.named(names[at : at + MAX_EVENT_ROWS], sees):
                 yield row
+
+
+async def begun(request: web.Request, kind: str) -> web.StreamResponse:
+    """Begin an answer that is sent in parts. From here on no refusal can be sent."""
+    response = web.StreamResponse(headers={**HEADERS, "Content-Type": kind})
+    request[BEGUN] = True
+    await response.prepare(request)
+    return response
 
 
 async def write(request: web.Request, response: web.StreamResponse, text: bytes) -> None:

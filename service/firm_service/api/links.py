@@ -14,6 +14,7 @@ from contextlib import aclosing, closing, suppress
 from pathlib import Path
 from typing import Any
 
+from ..command_line import NO_SERVICE, NOT_THERE
 from ..queue import calls
 from ..queue.async_client import Channel, Pipeline
 from ..queue.calls import ANSWER_SECONDS, SHORTEST_PAUSE, Lost, answer_of
@@ -25,6 +26,7 @@ LINE_SECONDS = 60.0  # for all replies to the lines of a request
 UNUSED_SECONDS = 60.0  # after which a connection to a queue is closed
 LONGEST_REPLY = 2**26  # bytes: of a view, or of a round that moves all tasks
 TRIAL_SECONDS, MAX_TRIALS = 120.0, 4  # of a question that runs firm; that wait for their turn, of a user
+REFUSED_OF = {"why": "no-such-task", "what-if": "bad-lines"}  # by firmctl
 OPERATORS_LINES = 8  # connections of an operator: the queue gives each of them time of its own
 PACKAGE = Path(__file__).parents[2]
 
@@ -93,7 +95,10 @@ class QueueLink:
         if found is None or found.reading.done():
             async with self._connecting:
                 found = self._pipelines.get(line)
-                if found is None or found.reading.done():
+                if found is not None and found.reading.done():
+                    await found.close()
+                    found = None
+                if found is None:
                     found = await Pipeline.connect(self._path)
                     await greet(found, user)
                     self._pipelines[line] = found
@@ -195,7 +200,7 @@ class Trials:
         answer: Json = json.loads(answered) if answered.strip() else {}
         if process.returncode:
             told = said.decode(errors="replace").strip().splitlines()[-1:] or [f"status {process.returncode}"]
-            is_faulty = bool(answer.get("faults"))
-            name = "bad-lines" if is_faulty else "no-such-task" if process.returncode == 1 else "failed"
-            raise Refused(name, told[0].removeprefix("firmctl: "), **(answer if is_faulty else {}))
+            name = {NOT_THERE: REFUSED_OF[words[0]], NO_SERVICE: "not-there"}.get(process.returncode, "failed")
+            faults = {"faults": answer["faults"]} if "faults" in answer else {}
+            raise Refused(name, told[0].removeprefix("firmctl: "), **faults)
         return answer

@@ -7,7 +7,7 @@ from __future__ import annotations
 
 import asyncio
 import sqlite3
-from collections.abc import Callable, Collection, Iterable, Iterator, Sequence
+from collections.abc import Callable, Iterable, Iterator, Sequence
 from concurrent.futures import ThreadPoolExecutor
 from dataclasses import dataclass, field, replace
 from functools import partial
@@ -25,12 +25,15 @@ from ..queue.rows import SINGLE, Attempt, Name, Need, Submission, Task
 from ..queue.seals import columns
 from ..queue.states import Facts, Needed
 from ..queue.store import DATABASE
-from ..queue.users import is_known, look_up
+from ..queue.threads import Threads
+from ..queue.users import know
 
 MAX_ROWS, MAX_LOOKED_AT = 1_000, 20_000  # of a page; tasks that are looked at for one, past which it ends
 MAX_WORDS = 2**22  # bytes of the words of a page's submissions
 READ_SECONDS = 10.0  # for a list
-FEW_NEEDS = 16  # of a task that is read in the loop
+FEW = 16  # needs, and attempts, of a task that is read in the loop
+NEED_BYTES = 128  # that a need counts for
+NOBODY = -1  # for whom names are looked up
 MAX_OWNERS = 200_000  # submissions that are added to the index of owners until it is made anew
 HEAD = f"SELECT {columns('submission')}, spec FROM submission WHERE number = ?"
 OWNERS = "CREATE TEMP TABLE owner (user INTEGER, number INTEGER, PRIMARY KEY (user, number)) WITHOUT ROWID"
@@ -67,6 +70,7 @@ class Page:
     tasks: list[Task] = field(default_factory=list)
     open_needs: set[Need] = field(default_factory=set)
     last: tuple[int, int] | None = None
+    looked: int = 0  # rows
 
     def facts(self, task: Task) -> Facts:
         return facts_of(task, self.firm.rows)
@@ -84,30 +88,32 @@ class QueueRows:
     def __init__(self, folder: Path, firm: Firm) -> None:
         self._path, self._firm = folder / DATABASE, firm
         self._thread = ThreadPoolExecutor(1, "lists")
+        self._threads = Threads()
         self._near, self._aside = Reading(self._path), Reading(self._path)  # of the loop; of the thread
 
     async def task(self, name: Name, user: int | None) -> Json:
         """Return a task with its attempts."""
-        number, index = name.number, name.index
-        page, attempts = self._near.read(lambda db: self._found(db, name, user, FEW_NEEDS))
+        page, attempts = self._near.read(lambda db: self._found(db, name, user, FEW))
         if page is None:
             page, attempts = await self._read(lambda db: self._found(db, name, user, None))
         if page is None or not page.tasks:
             raise Refused("no-such-task", f"{name}: no such task")
         task = page.tasks[0]
-        if index == SINGLE and task.index != SINGLE:
-            raise Refused("no-such-task", f"{number} is an array; name a task of it, as {task.name}")
-        self._know(page.tasks)
+        if name.index == SINGLE and task.index != SINGLE:
+            raise Refused("no-such-task", f"{name.number} is an array; name a task of it, as {task.name}")
+        await self._know(page.tasks)
         return TaskRows(page, page).detail(task, attempts)
 
-    async def named(self, names: Collection[Name], user: int | None) -> list[Json]:
-        """Return the rows of tasks, as far as they are there and the user's."""
-        pages = await self._read(lambda db: [self._found(db, name, user, None)[0] for name in names])
-        found = []
-        for page in pages:
-            if page is not None and page.tasks:
-                self._know(page.tasks)
-                found.append(TaskRows(page, page).row(page.tasks[0]))
+    async def named(self, names: Sequence[Name], user: int | None) -> list[Json]:
+        """Return the rows of tasks, as far as they exist and are the user's."""
+        found: list[Json] = []
+        left = list(names)
+        while left:
+            page = await self._read(partial(self._named, names=left))
+            await self._know(page.tasks)
+            rows = TaskRows(page, page)
+            found += [rows.row(task) for task in page.tasks if user in (None, task.submission.user)]
+            left = left[page.looked :]
         return found
 
     async def page(self, wanted: Wanted) -> tuple[list[Json], tuple[int, int] | None]:
@@ -116,7 +122,7 @@ class QueueRows:
         looked = 0
         while looked <= MAX_LOOKED_AT:
             page = await self._read(partial(self._page, wanted=wanted))
-            self._know(page.tasks)
+            await self._know(page.tasks)
             rows = TaskRows(page, page)
             async for some in in_turns(page.tasks):
                 for task in some:
@@ -148,11 +154,8 @@ class QueueRows:
         finally:
             timer.cancel()
 
-    @staticmethod
-    def _know(tasks: Iterable[Task]) -> None:
-        for user in {task.submission.user for task in tasks}:
-            if not is_known(user):
-                look_up(user)
+    async def _know(self, tasks: Iterable[Task]) -> None:
+        await know(self._threads, NOBODY, (task.submission.user for task in tasks))
 
     def _found(
         self, db: sqlite3.Connection, name: Name, user: int | None, most: int | None
@@ -162,42 +165,52 @@ class QueueRows:
         submission = whole_of(rows[0]) if rows else None
         if submission is None or user not in (None, submission.user):
             return page, []
-        if most is not None and rows[0][7] > most:
-            return None, []
-        is_first = " AND t.idx = ?" if name.index != SINGLE else " ORDER BY t.idx LIMIT 1"
-        values = (name.number, name.index) if name.index != SINGLE else (name.number,)
-        for row in fetched(db, f"{TASKS} {LAST} WHERE t.number = ?{is_first}", values):
+        for row in self._rows_of(db, name):
             add_task(submission, row)
         page.tasks = [*submission.tasks.values()]
-        if rows[0][7]:
-            words = f"SELECT {columns('need')} FROM need WHERE number = ? ORDER BY place"
-            needs = fetched(db, words, (name.number,))
-            submission.needs = tuple(need_of(row) for row in needs)
-            self._open_needs(db, page, [submission])
+        if most is not None and max(rows[0][7], *(task.attempts for task in page.tasks), 0) > most:
+            return None, []
+        words = f"SELECT {columns('need')} FROM need WHERE number = ? ORDER BY place"
+        submission.needs = tuple(map(need_of, fetched(db, words, (name.number,)) if rows[0][7] else ()))
+        self._open_needs(db, page, [submission] if submission.needs else [])
         return page, attempts_of(db, page.tasks[0].name) if page.tasks else []
 
+    @staticmethod
+    def _rows_of(db: sqlite3.Connection, name: Name) -> list[Any]:
+        """Return the row of a task, or of the first one of a submission, with its last attempt."""
+        words = f"{TASKS} {LAST} WHERE t.number = ?"
+        if name.index == SINGLE:
+            return fetched(db, f"{words} ORDER BY t.idx LIMIT 1", (name.number,))
+        return fetched(db, f"{words} AND t.idx = ?", (name.number, name.index))
+
+    def _named(self, db: sqlite3.Connection, names: Sequence[Name]) -> Page:
+        rows = (row for name in names for row in self._rows_of(db, name) or [None])
+        return self._gathered(db, rows)
+
     def _page(self, db: sqlite3.Connection, wanted: Wanted) -> Page:
-        page, found = Page(self._firm), list[Any]()
         most = MAX_ROWS if wanted.states else wanted.limit
         tasks = self._tasks(db, wanted, most + 1)
-        heads, size = dict[int, Submission](), 0
-        for row in tasks[:most]:
-            submission = heads.get(row[0])
-            if submission is None:
+        page = self._gathered(db, tasks[:most])
+        page.last = key_of(page.tasks[-1]) if page.tasks and page.looked < len(tasks) else None
+        return page
+
+    def _gathered(self, db: sqlite3.Connection, rows: Iterable[Any]) -> Page:
+        """Return tasks by their rows, the first ones, as far as words and needs take not too much; one at least."""
+        page, size = Page(self._firm), 0
+        heads = dict[int, Submission]()
+        for row in rows:
+            if row is not None and row[0] not in heads:
                 (head,) = fetched(db, HEAD, (row[0],))
-                size += len(head[-1])
-                if found and size > MAX_WORDS:
+                size += len(head[-1]) + NEED_BYTES * head[7]
+                if page.looked and size > MAX_WORDS:
                     break
-                submission = heads[row[0]] = whole_of(head)
-                submission.open_needs = head[7]
-            add_task(submission, row)
-            found.append(row)
-        page.tasks = [heads[row[0]].tasks[row[1]] for row in found]
-        page.last = (found[-1][0], found[-1][1]) if found and len(found) < len(tasks) else None
-        waiting = [one for one in heads.values() if one.open_needs and one.live]
-        for submission in waiting:
-            submission.open_needs = 0
-        self._open_needs(db, page, waiting)
+                heads[row[0]] = whole_of(head)
+                heads[row[0]].open_needs = head[7]
+            page.looked += 1
+            if row is not None:
+                add_task(heads[row[0]], row)
+                page.tasks.append(heads[row[0]].tasks[row[1]])
+        self._open_needs(db, page, [one for one in heads.values() if one.open_needs])
         return page
 
     def _tasks(self, db: sqlite3.Connection, wanted: Wanted, most: int) -> list[Any]:
@@ -241,17 +254,18 @@ class QueueRows:
 
     @staticmethod
     def _open_needs(db: sqlite3.Connection, page: Page, submissions: Sequence[Submission]) -> None:
-        by_number = {one.number: one for one in submissions}
-        numbers = list(by_number)
+        """Look up which needs of submissions have not ended."""
+        found: dict[int, list[Need]] = {one.number: [] for one in submissions}
+        numbers = list(found)
         for at in range(0, len(numbers), AT_ONCE):
             some = numbers[at : at + AT_ONCE]
             words = OPEN_NEEDS.format(columns=columns("need", "n"), marks=marks_of(some))
             for row in fetched(db, words, some):
-                need, submission = need_of(row), by_number[row[0]]
-                page.open_needs.add(need)
-                submission.open_needs += 1
-                if need not in submission.needs:
-                    submission.needs += (need,)
+                found[row[0]].append(need_of(row))
+        for submission in submissions:
+            needs = found[submission.number]
+            page.open_needs.update(needs)
+            submission.open_needs, submission.needs = len(needs), submission.needs or tuple(needs)
 
 
 class Reading:

@@ -28,7 +28,7 @@ from .bounded import WRITE_SECONDS, Gate, Gates, key_of, refusal_of
 from .callers import Caller, Place, Tokens, caller_of_peer
 from .document import ENDPOINTS, Endpoint
 from .events import Feed, FollowedFirm
-from .handlers import Api, Call, Tenant
+from .handlers import BEGUN, HEADERS, Api, Call, Tenant
 from .links import QueueLink, Trials
 from .metrics import Metrics
 from .rows import QueueRows
@@ -43,13 +43,6 @@ NOBODY = -1
 CHANGES_AT_ONCE = 200  # that a feed takes in a turn of the loop
 AGAIN_SECONDS, MAX_TOLD = 1.0, 40  # until a queue is asked again to tell of changes; letters of an unknown name
 SINGLE_HEADERS = ("Authorization", "Content-Length", "Content-Type", "Host", "Last-Event-ID", "Transfer-Encoding")
-HEADERS = {
-    "Cache-Control": "no-store",
-    "Cross-Origin-Resource-Policy": "same-origin",
-    "Referrer-Policy": "no-referrer",
-    "Server": "firm-api",
-    "X-Content-Type-Options": "nosniff",
-}
 STATUSES = {
     **dict.fromkeys(["no-token", "bad-token"], 401),
     **dict.fromkeys(["operator-only", "other-tenant", "not-yours", "wrong-host"], 403),
@@ -127,6 +120,9 @@ class Server:
             except Exception as error:
                 self._faults.note("http", error)
                 response = refused(Refused("internal", "an error of firm-api's"))
+            if BEGUN in request and not response.prepared:  # its client sees that the rest is missing
+                gate.transport.abort()
+                raise ConnectionResetError("a stream ends before its end")
             await send(request, response)
             return response
         finally:

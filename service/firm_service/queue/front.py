@@ -131,7 +131,8 @@ class Front:
     def _serve_as(self, connection: Connection, fields: Fields) -> Json:
         """Serve a connection of root's or of the queue's own user as another user's from now on."""
         number, is_operator = fields.whole("user", 0, 2**32 - 1), fields.flag("operator")
-        if connection.peer not in (ROOT, os.geteuid()):
+        is_own = connection.user.is_operator and connection.user.number == connection.peer
+        if not is_own or connection.peer not in (ROOT, os.geteuid()):
             raise Refused("operator-only", "only root and the queue's own user may act as others")
         if number is None:
             raise bad("user", "it is needed")
@@ -154,7 +155,7 @@ class Front:
             if submission is not None:  # otherwise it ended long ago
                 few = indexes if len(indexes) <= MOST_TOLD_TASKS else [SINGLE]
                 told += [(number, index, submission.user) for index in few]
-        for connection in list(self._watchers):
+        for connection in list(self._watchers) if told else ():
             connection.tell({"tell": "changed", "tasks": told})
 
     def _is_too_many(self, user: User) -> bool:

@@ -207,7 +207,6 @@ import time
 from base64 import b64encode
 from collections import defaultdict
 from collections.abc import AsyncIterator, Awaitable, Callable, Iterable, Mapping, Sequence
-from contextlib import suppress
 from dataclasses import dataclass, replace
 from functools import partial
 from typing import Any, Protocol
@@ -228,7 +227,7 @@ from .rows import SINGLE, Attempt, Name, Submission, Task
 from .states import ENDED, Change, State
 from .store import NotWritten
 from .threads import Threads
-from .users import User, is_known, look_up, name_of, number_of, presume
+from .users import User, know, name_of, number_of
 
 MOST_SUBMISSIONS, MOST_ASKED, MOST_ROWS, DEFAULT_ROWS = 10_000, 100_000, 100_000, 10_000
 # Of what has ended long ago, for one request: tasks, and bytes that the words take, where they are read.
@@ -477,13 +476,8 @@ class Requests:
         return Chosen(owner, job, wanted, names, DEFAULT_ROWS if limit is None else limit)
 
     async def know(self, user: User, numbers: Iterable[int]) -> None:
-        """Looks up names of users for one of them, which may hang: what is not known in time has its number for now."""
-        unknown = [number for number in set(numbers) if not is_known(number)]
-        if unknown:
-            with suppress(TimeoutError):
-                await self._threads.do(user.number, lambda: [*map(look_up, unknown)])
-            for number in unknown:
-                presume(number)
+        """Looks up names of users for one of them."""
+        await know(self._threads, user.number, numbers)
 
     async def _user(self, user: User, fields: Fields) -> int | None:
         """The user that a request of this one names; None where it names none."""
