@@ -10,6 +10,7 @@ from __future__ import annotations
 import argparse
 import asyncio
 import json
+import math
 import os
 import tempfile
 import time
@@ -102,14 +103,17 @@ def measure(site: Site, what: str, count: int, gap: float, seconds: float) -> No
             work.result()
 
     began = time.monotonic()
+    before = processor_seconds(site)
     asyncio.run(run())
     rate = len(made) * count / (time.monotonic() - began)
     os.waitpid(child, 0)
+    own = (processor_seconds(site) - before) / (time.monotonic() - began)
+    print(f"{what}: the process for reads works {own:.0%} of the time", flush=True)
     report(f"{what}: {rate:,.0f} submissions/s, a request of {count}", made)
 
 
 def report(what: str, took: Sequence[float]) -> None:
-    found = sorted(took)
+    found = sorted(took) or [math.nan]
     middle, late = (found[len(found) * share // 100] * 1_000 for share in (50, 99))
     load = os.getloadavg()[0]
     print(f"{what}: p50 {middle:.1f} ms, p99 {late:.1f} ms, {len(found):,} times (load {load:.0f})", flush=True)
@@ -125,7 +129,7 @@ def fill(case: Case) -> None:
 
 
 def lists(site: Site, times: int) -> None:
-    took = []
+    took, before = [], processor_seconds(site)
     for turn in range(times):
         began = time.monotonic()
         found = site.get(site.of(f"tasks?limit=1000&user={FIRST_USER + turn % USERS}"))
@@ -133,6 +137,14 @@ def lists(site: Site, times: int) -> None:
         if len(found["tasks"]) != OF_USER:
             raise RuntimeError(f"{len(found['tasks'])} rows")
     report(f"the {OF_USER:,} tasks of one user among {USERS * OF_USER:,}", took)
+    own = (processor_seconds(site) - before) / times
+    print(f"of which the process for reads works {own * 1_000:.0f} ms", flush=True)
+
+
+def processor_seconds(site: Site) -> float:
+    """The time that the process for reads has worked."""
+    fields = Path(f"/proc/{site.reads_process()}/stat").read_text().rpartition(")")[2].split()
+    return (int(fields[11]) + int(fields[12])) / os.sysconf("SC_CLK_TCK")
 
 
 def main() -> None:

@@ -103,7 +103,7 @@ class Api:
     def __init__(self, tenants: Mapping[str, Tenant], trials: Trials, metrics: Metrics) -> None:
         self._tenants, self._trials, self._metrics = tenants, trials, metrics
         self._threads, self._started = Threads(), time.time()
-        self._document = json.dumps(document())
+        self._document, self._version = json.dumps(document()), version()
         self._page = page_text(PAGE)
         self._policy = policy_of(self._page)
 
@@ -128,7 +128,7 @@ class Api:
         caller = call.caller
         await know(self._threads, caller.number, [caller.number])
         tenants = [rights_row(name, rights) for name, rights in caller.rights.items()]
-        found: Json = {"version": version(), "user": caller.name, "number": caller.number}
+        found: Json = {"version": self._version, "user": caller.name, "number": caller.number}
         return web.json_response({**found, "started": self._started, "tenants": tenants})
 
     # Tenants
