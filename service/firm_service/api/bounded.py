@@ -57,10 +57,10 @@ def refusal_of(status: int, name: str, message: str, **more: Any) -> web.Respons
     return web.json_response({"error": name, "message": message, **more}, status=status)
 
 
-class Gate(asyncio.BufferedProtocol):
+class BoundedConnection(asyncio.BufferedProtocol):
     """A connection."""
 
-    def __init__(self, gates: Gates, handler: Handler) -> None:
+    def __init__(self, gates: BoundedConnections, handler: Handler) -> None:
         self._gates, self._handler = gates, handler
         self.transport: asyncio.Transport
         self.owner: Owner = ""
@@ -210,37 +210,37 @@ def key_of(owner: Owner) -> Hashable:
     return owner.user if isinstance(owner, Peer) else owner
 
 
-class Gates:
+class BoundedConnections:
     """All connections of a process."""
 
     def __init__(self, server: web.Server, faults: Faults) -> None:
         self._server, self.faults = server, faults
         self.hand_over: Callable[[socket.socket, bytes], None] | None = None  # what is not for this process
-        self.open: dict[RequestHandler, Gate] = {}
-        self.ending: set[Gate] = set()  # whose clients send no more
+        self.open: dict[RequestHandler, BoundedConnection] = {}
+        self.ending: set[BoundedConnection] = set()  # whose clients send no more
         self._counts: Counter[Hashable] = Counter()
         self._loop = asyncio.get_running_loop()
         logger = logging.Logger("api")
-        logger.addHandler(Noted(faults))
+        logger.addHandler(FaultLog(faults))
         self._options: dict[str, Any] = {"access_log": None, "logger": logger, "auto_decompress": False}
         self._look()
 
-    def connect(self) -> Gate:
+    def connect(self) -> BoundedConnection:
         handler = Handler(self._server, loop=self._loop, lingering_time=0.0, tcp_keepalive=False, **self._options)
-        return Gate(self, handler)
+        return BoundedConnection(self, handler)
 
-    def add(self, gate: Gate, handler: RequestHandler) -> bool:
+    def add(self, gate: BoundedConnection, handler: RequestHandler) -> bool:
         """Count a connection. Return whether it may stay."""
         self.open[handler] = gate
         self._counts[key_of(gate.owner)] += 1
         return len(self.open) <= MAX_CONNECTIONS and self._counts[key_of(gate.owner)] <= MAX_OF_OWNER
 
-    def remove(self, gate: Gate, handler: RequestHandler) -> None:
+    def remove(self, gate: BoundedConnection, handler: RequestHandler) -> None:
         self.ending.discard(gate)
         if self.open.pop(handler, None) is not None:
             self._counts -= Counter([key_of(gate.owner)])
 
-    def of(self, request: web.Request) -> Gate:
+    def of(self, request: web.Request) -> BoundedConnection:
         """Return the connection of a request. Raise ConnectionResetError if it has gone."""
         gate = self.open.get(request.protocol)
         if gate is None:
@@ -267,7 +267,7 @@ class Gates:
         self._loop.call_later(LOOK_SECONDS / 20 if len(late) > CLOSED_AT_ONCE else LOOK_SECONDS, self._look)
 
 
-class Noted(logging.Handler):
+class FaultLog(logging.Handler):
     """Counts what aiohttp would log."""
 
     def __init__(self, faults: Faults) -> None:

@@ -34,7 +34,7 @@ LINES = "lines"
 
 
 @dataclass(frozen=True, slots=True)
-class Place:
+class TenantPaths:
     """The sockets and the folder of a tenant."""
 
     tenant: str
@@ -44,7 +44,7 @@ class Place:
 
 
 @dataclass(frozen=True, slots=True)
-class Rights:
+class TenantRights:
     """A caller's rights on one tenant."""
 
     lines: bool = False  # send lines, and see firm's rows
@@ -56,11 +56,11 @@ class Rights:
 
 
 @dataclass(frozen=True, slots=True)
-class Caller:
+class Principal:
     number: int  # the user's
-    rights: Mapping[str, Rights] = field(default_factory=dict)  # by tenant
+    rights: Mapping[str, TenantRights] = field(default_factory=dict)  # by tenant
 
-    def of(self, tenant: str) -> Rights:
+    def of(self, tenant: str) -> TenantRights:
         """Return the rights on a tenant; one without any is like one that does not exist."""
         found = self.rights.get(tenant)
         if found is None:
@@ -75,16 +75,16 @@ class Caller:
         return name_of(self.number)
 
 
-def caller_of_peer(peer: Peer, operators: Operators, places: Iterable[Place]) -> Caller:
+def caller_of_peer(peer: Peer, operators: Operators, places: Iterable[TenantPaths]) -> Principal:
     """Return the rights that the modes of the tenants' sockets give a user of this host."""
     is_operator = operators.user(peer.user).is_operator or operators.group in peer.groups
-    found: dict[str, Rights] = {}
+    found: dict[str, TenantRights] = {}
     for place in places:
         lines = place.lines is not None and (is_operator or peer.may_connect(place.lines))
         queue = place.queue is not None and (is_operator or peer.may_connect(place.queue))
         if lines or queue:
-            found[place.tenant] = Rights(lines, queue, is_operator)
-    return Caller(peer.user, found)
+            found[place.tenant] = TenantRights(lines, queue, is_operator)
+    return Principal(peer.user, found)
 
 
 @dataclass(frozen=True, slots=True)
@@ -105,15 +105,15 @@ class Grant:
             raise TypeError("tenants is a list of names")
         return digest, cls(row["user"], row["role"], tuple(tenants))
 
-    def caller(self, places: Mapping[str, Place]) -> Caller:
+    def caller(self, places: Mapping[str, TenantPaths]) -> Principal:
         found = {}
         for tenant in self.tenants if self.role != "agent" else ():
             if (place := places.get(tenant)) is not None:
                 is_operator = self.role == "operator"
-                rights = Rights(is_operator and place.lines is not None, place.queue is not None, is_operator)
+                rights = TenantRights(is_operator and place.lines is not None, place.queue is not None, is_operator)
                 if rights.lines or rights.queue:
                     found[tenant] = rights
-        return Caller(self.user, found)
+        return Principal(self.user, found)
 
 
 class Tokens:
@@ -139,12 +139,18 @@ class Tokens:
         self._stamp = stamp
 
     def of_token(self, token: str) -> Grant | None:
-        is_token = len(token) <= MAX_TOKEN and token.isascii()
-        return self._grants.get(hashlib.sha256(token.encode()).hexdigest()) if is_token else None
+        return self._of(token.encode()) if len(token) <= MAX_TOKEN and token.isascii() else None
 
     def of_certificate(self, found: ssl.SSLObject | None) -> Grant | None:
         text = found.getpeercert(binary_form=True) if found is not None else None
-        return self._grants.get(hashlib.sha256(text).hexdigest()) if text else None
+        return self._of(text) if text else None
+
+    def _of(self, secret: bytes) -> Grant | None:
+        """Return what a token or a certificate gives, one that was just added too."""
+        digest = hashlib.sha256(secret).hexdigest()
+        if digest not in self._grants:
+            self.look()
+        return self._grants.get(digest)
 
 
 def read_grants(path: Path) -> dict[str, Grant]:

@@ -33,7 +33,7 @@ from ..queue.users import Operators, number_of
 from ..relief import Relief
 from ..sockets import Names
 from ..version import add_version
-from .callers import ROLES, Grant, Place, Tokens, grant
+from .callers import ROLES, Grant, TenantPaths, Tokens, grant
 
 READS, CHANGES = "reads", "changes"  # the processes
 LOOK_SECONDS = 1.0  # between looks at the file of tokens, and counts that are sent
@@ -72,24 +72,24 @@ class Tls:
 
 
 @dataclass(frozen=True)
-class Options:
+class ApiOptions:
     socket: Path
     socket_mode: int
     state: Path  # firmd's folder
-    places: dict[str, Place]
+    places: dict[str, TenantPaths]
     operators: Operators
     tls: Tls | None
     tokens: Path | None
 
 
-class Stop(Exception):
+class StopSignal(Exception):
     """A signal to stop has come."""
 
 
-class Service:
+class ApiProcess:
     """One of the two processes."""
 
-    def __init__(self, options: Options, name: str, peer: socket.socket) -> None:
+    def __init__(self, options: ApiOptions, name: str, peer: socket.socket) -> None:
         self._options, self._name, self._peer = options, name, peer
         self._faults = Faults()
         self._stopped = asyncio.Event()
@@ -126,6 +126,8 @@ class Service:
                 acceptors.append(Acceptor(one, "api", gates.connect, relief, self._faults))
                 acceptors[-1].tls = context
         loop.add_reader(self._peer, self._receive)
+        if self._tokens is not None:
+            self._tokens.look()
         works: list[Coroutine[Any, Any, None]] = [self._look_for_ever(), *self._server.works()]
         try:
             async with asyncio.TaskGroup() as tasks:
@@ -134,8 +136,8 @@ class Service:
                 await self._stopped.wait()
                 if self._fault is not None:
                     raise self._fault
-                raise Stop
-        except* Stop:
+                raise StopSignal
+        except* StopSignal:
             pass
         finally:
             loop.remove_reader(self._peer)
@@ -268,20 +270,20 @@ def parser() -> argparse.ArgumentParser:
     return found
 
 
-def options_of(given: argparse.Namespace) -> Options:
+def options_of(given: argparse.Namespace) -> ApiOptions:
     lines, queues, rows = dict(given.lines), dict(given.queue), dict(given.rows)
     if queues.keys() != rows.keys():
         raise Fault(Exit.WORDS, "each --queue needs the --rows of the same tenant")
     names = [*dict.fromkeys([*lines, *queues])]
-    places = {name: Place(name, lines.get(name), queues.get(name), rows.get(name)) for name in names}
+    places = {name: TenantPaths(name, lines.get(name), queues.get(name), rows.get(name)) for name in names}
     if (given.tls is None) != (given.certificate is None) or (given.certificate is None) != (given.key is None):
         raise Fault(Exit.WORDS, "--tls, --certificate and --key go together")
     tls = None if given.tls is None else Tls(given.tls, given.certificate, given.key, given.client_ca)
     place = (given.socket, int(given.socket_mode, 8), given.state)
-    return Options(*place, places, Operators(given.operators), tls, given.tokens)
+    return ApiOptions(*place, places, Operators(given.operators), tls, given.tokens)
 
 
-def serve(options: Options) -> None:
+def serve(options: ApiOptions) -> None:
     """Serve by two processes. The child has the socket; this one ends with it."""
     from .bounded import MAX_CONNECTIONS
 
@@ -310,7 +312,7 @@ def serve(options: Options) -> None:
         os.waitpid(child, 0)
 
 
-def run_child(options: Options, listening: socket.socket, peer: socket.socket) -> int:
+def run_child(options: ApiOptions, listening: socket.socket, peer: socket.socket) -> int:
     try:
         asyncio.run(run(options, READS, peer, listening))
     except BaseException as error:
@@ -319,8 +321,8 @@ def run_child(options: Options, listening: socket.socket, peer: socket.socket) -
     return 0
 
 
-async def run(options: Options, name: str, peer: socket.socket, listening: socket.socket | None) -> None:
-    await Service(options, name, peer).run(listening)
+async def run(options: ApiOptions, name: str, peer: socket.socket, listening: socket.socket | None) -> None:
+    await ApiProcess(options, name, peer).run(listening)
 
 
 def main(arguments: list[str] | None = None) -> int:

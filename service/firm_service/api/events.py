@@ -28,7 +28,7 @@ EPOCH = secrets.token_hex(4)  # of this process
 ID = re.compile(r"([0-9a-f]{8})-([0-9]{1,15})")
 
 
-class Change(NamedTuple):
+class FeedEntry(NamedTuple):
     """A task that has changed, or a line with its reply."""
 
     number: int  # from 1
@@ -38,7 +38,7 @@ class Change(NamedTuple):
 
 
 @dataclass(slots=True)
-class Position:
+class StreamPosition:
     """How far a stream is."""
 
     at: int
@@ -51,21 +51,21 @@ class Feed:
     def __init__(self, owner: Callable[[int], int | None]) -> None:
         self._owner = owner
         self._owners: dict[int, int | None] = {}
-        self._changes: deque[Change] = deque(maxlen=MAX_KEPT)
+        self._changes: deque[FeedEntry] = deque(maxlen=MAX_KEPT)
         self.last = 0
         self._news = asyncio.Event()
         self._waiting = 0  # for news
 
-    def position(self, given: str | None) -> Position:
+    def position(self, given: str | None) -> StreamPosition:
         """Return where a client goes on that has had the event of this id."""
         found = ID.fullmatch(given) if given is not None else None
         if given is None:
-            return Position(self.last)
+            return StreamPosition(self.last)
         if found is None or found[1] != EPOCH or int(found[2]) > self.last:
-            return Position(self.last, is_lost=True)
-        return Position(int(found[2]))
+            return StreamPosition(self.last, is_lost=True)
+        return StreamPosition(int(found[2]))
 
-    def since(self, position: Position) -> Iterator[Change]:
+    def since(self, position: StreamPosition) -> Iterator[FeedEntry]:
         """Yield the changes after a position, and set it to the last one."""
         at, position.at = position.at, self.last
         if self.last - at > len(self._changes):
@@ -107,7 +107,7 @@ class Feed:
 
     def _add(self, name: Name | None, user: int | None, line: Json | None) -> None:
         self.last += 1
-        self._changes.append(Change(self.last, name, user, line))
+        self._changes.append(FeedEntry(self.last, name, user, line))
         if self._waiting:
             self._news.set()
             self._news, self._waiting = asyncio.Event(), 0

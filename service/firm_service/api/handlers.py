@@ -27,11 +27,11 @@ from ..version import version
 from ..view import summary_of
 from ..web import page_text, policy_of
 from .bounded import WRITE_SECONDS
-from .callers import Caller, Place, Rights
+from .callers import Principal, TenantPaths, TenantRights
 from .document import MAX_LINES, document
 from .events import Feed, FollowedFirm, events_text
 from .links import QueueLink, Trials, replies_to
-from .metrics import Metrics
+from .metrics import ApiMetrics
 from .rows import QueueRows, Wanted, jobs_in, machines_in, tasks_in
 
 BEGUN = "begun"  # the key of a request whose answer is a stream
@@ -40,7 +40,7 @@ HEADERS = {
     "Cross-Origin-Resource-Policy": "same-origin",
     "Referrer-Policy": "no-referrer",
     "Server": "firm-api",
-    "X-Content-Type-Options": "nosniff",
+    "X-Content-Type-ApiOptions": "nosniff",
 }
 PAGE = Path(__file__).with_name("page.html")
 MAX_EVENT_ROWS, EVENT_PAUSE, QUIET_SECONDS = 500, 0.2, 15.0  # of one write of events; between two; until a comment
@@ -50,7 +50,7 @@ MAX_EVENT_ROWS, EVENT_PAUSE, QUIET_SECONDS = 500, 0.2, 15.0  # of one write of e
 class Tenant:
     """The sources of a tenant's answers."""
 
-    place: Place
+    place: TenantPaths
     firm: FollowedFirm
     feed: Feed
     queue: QueueLink | None
@@ -66,13 +66,13 @@ class Tenant:
 
 
 @dataclass
-class Call:
+class ApiCall:
     """A request that is answered."""
 
     request: web.Request
-    caller: Caller
+    caller: Principal
     values: Json  # of its parameters
-    look: Callable[[], Caller]  # who calls, as of now; raises `Refused`
+    look: Callable[[], Principal]  # who calls, as of now; raises `Refused`
     body: Json = field(default_factory=dict)
 
     @property
@@ -80,7 +80,7 @@ class Call:
         return self.caller.user_of(self.values["tenant"])
 
     @property
-    def rights(self) -> Rights:
+    def rights(self) -> TenantRights:
         return self.caller.of(self.values["tenant"])
 
     def require_still(self) -> None:
@@ -100,7 +100,7 @@ class Call:
 class Api:
     """All endpoints, by the names of their operations."""
 
-    def __init__(self, tenants: Mapping[str, Tenant], trials: Trials, metrics: Metrics) -> None:
+    def __init__(self, tenants: Mapping[str, Tenant], trials: Trials, metrics: ApiMetrics) -> None:
         self._tenants, self._trials, self._metrics = tenants, trials, metrics
         self._threads, self._started = Threads(), time.time()
         self._document, self._version = json.dumps(document()), version()
@@ -109,14 +109,14 @@ class Api:
 
     # The server
 
-    async def page(self, _: Call) -> web.StreamResponse:
+    async def page(self, _: ApiCall) -> web.StreamResponse:
         headers = {"Content-Security-Policy": self._policy}
         return web.Response(text=self._page, content_type="text/html", headers=headers)
 
-    async def document(self, _: Call) -> web.StreamResponse:
+    async def document(self, _: ApiCall) -> web.StreamResponse:
         return web.Response(text=self._document, content_type="application/json")
 
-    async def metrics(self, call: Call) -> web.StreamResponse:
+    async def metrics(self, call: ApiCall) -> web.StreamResponse:
         operated = [name for name, rights in call.caller.rights.items() if rights.operator]
         if not operated:
             raise Refused("operator-only", "metrics are for operators")
@@ -124,7 +124,7 @@ class Api:
         text, kind = self._metrics.text(books)
         return web.Response(body=text, headers={"Content-Type": kind})
 
-    async def status(self, call: Call) -> web.StreamResponse:
+    async def status(self, call: ApiCall) -> web.StreamResponse:
         caller = call.caller
         await know(self._threads, caller.number, [caller.number])
         tenants = [rights_row(name, rights) for name, rights in caller.rights.items()]
@@ -133,34 +133,34 @@ class Api:
 
     # Tenants
 
-    async def tenants(self, call: Call) -> web.StreamResponse:
+    async def tenants(self, call: ApiCall) -> web.StreamResponse:
         return web.json_response({"tenants": [self._tenant_row(name, call.caller) for name in call.caller.rights]})
 
-    async def tenant(self, call: Call) -> web.StreamResponse:
+    async def tenant(self, call: ApiCall) -> web.StreamResponse:
         tenant, row = self._tenant(call), self._tenant_row(call.values["tenant"], call.caller)
         if tenant.queue is None or not call.rights.queue:
             return web.json_response({**row, "states": {"running": row["running"], "waiting": row["waiting"]}})
         found = await tenant.queue.ask(call.user, "status")
         return web.json_response({**{key: found[key] for key in found if key not in ("tenant", "version")}, **row})
 
-    async def machines(self, call: Call) -> web.StreamResponse:
+    async def machines(self, call: ApiCall) -> web.StreamResponse:
         tenant = self._tenant(call)
         if tenant.queue is not None and call.rights.queue:
             return web.json_response({"machines": await tenant.queue.ask(call.user, "machines")})
         return web.json_response({"machines": machines_in(tenant.book)})
 
-    async def jobs(self, call: Call) -> web.StreamResponse:
+    async def jobs(self, call: ApiCall) -> web.StreamResponse:
         tenant = self._tenant(call)
         if tenant.queue is not None and call.rights.queue:
             return web.json_response({"jobs": await tenant.queue.ask(call.user, "jobs")})
         return web.json_response({"jobs": jobs_in(tenant.book)})
 
-    async def agents(self, call: Call) -> web.StreamResponse:
+    async def agents(self, call: ApiCall) -> web.StreamResponse:
         return web.json_response({"agents": await self._queue(call).ask(call.user, "agents")})
 
     # Tasks
 
-    async def tasks(self, call: Call) -> web.StreamResponse:
+    async def tasks(self, call: ApiCall) -> web.StreamResponse:
         tenant, values = self._tenant(call), call.values
         if tenant.rows is None or not call.rights.queue:
             return web.json_response(self._firm_tasks(tenant.book, call))
@@ -174,7 +174,7 @@ class Api:
         rows, last = await tenant.rows.page(wanted)
         return web.json_response({"tasks": rows, "next": ".".join(map(str, last)) if last is not None else None})
 
-    def _firm_tasks(self, book: Book, call: Call) -> Json:
+    def _firm_tasks(self, book: Book, call: ApiCall) -> Json:
         """A page of firm's tasks, of a tenant without a queue, or of a caller without one there."""
         values = call.values
         (at,) = numbers_of(values["cursor"], 1) or (0,)
@@ -183,7 +183,7 @@ class Api:
         more = at + len(some)
         return {"tasks": [*tasks_in(book, some)], "next": str(more) if more < len(chosen) else None}
 
-    async def task(self, call: Call) -> web.StreamResponse:
+    async def task(self, call: ApiCall) -> web.StreamResponse:
         tenant, text = self._tenant(call), call.values["task"]
         if tenant.rows is not None and call.rights.queue:
             return web.json_response(await tenant.rows.task(name_of(text), call.user.sees))
@@ -191,7 +191,7 @@ class Api:
             return web.json_response({**row, "spec": None, "attempts": []})
         raise Refused("no-such-task", f"{text}: no such task")
 
-    async def why(self, call: Call) -> web.StreamResponse:
+    async def why(self, call: ApiCall) -> web.StreamResponse:
         tenant, text = self._tenant(call), call.values["task"]
         if tenant.queue is not None and call.rights.queue:
             async with aclosing(tenant.queue.answers(call.user, "why", task=text)) as answers:
@@ -202,7 +202,7 @@ class Api:
         found = await self._trials.ask(call.caller.number, ["why", "--", text, tenant.place.tenant])
         return web.json_response({"task": text, "state": row["state"], "text": found["text"]})
 
-    async def log(self, call: Call) -> web.StreamResponse:
+    async def log(self, call: ApiCall) -> web.StreamResponse:
         values, link = call.values, self._queue(call)
         fields = {"task": values["task"], "attempt": values["attempt"], "from": values["from"]}
         async with aclosing(link.answers(call.user, "log", **fields, follow=values["follow"])) as answers:
@@ -214,7 +214,7 @@ class Api:
                 answer = await anext(answers)
         return response
 
-    async def history(self, call: Call) -> web.StreamResponse:
+    async def history(self, call: ApiCall) -> web.StreamResponse:
         values, rows = call.values, self._queue_rows(call)
         asked = Asked(await self._owner(call), values["job"], limit=values["limit"] + 1)
         before = floats_of(values["cursor"])
@@ -229,7 +229,7 @@ class Api:
         shown = [{**row, "user": User(row["user"]).name} for row in found[: values["limit"]]]
         return web.json_response({"history": shown, "next": following})
 
-    async def events(self, call: Call) -> web.StreamResponse:
+    async def events(self, call: ApiCall) -> web.StreamResponse:
         tenant, sees = self._tenant(call), call.user.sees
         with_lines = call.values["lines"]
         if with_lines and not call.rights.lines:
@@ -258,27 +258,27 @@ class Api:
 
     # Changes
 
-    async def submit(self, call: Call) -> web.StreamResponse:
+    async def submit(self, call: ApiCall) -> web.StreamResponse:
         key, link = call.body.get("key") or new_key(), self._queue(call)
         made = await link.ask(call.user, "submit-all", key=key, submissions=call.body.pop("submissions"))
         is_again = bool(made and made[0].get("again"))
         return web.json_response({"submissions": made}, status=200 if is_again else 201)
 
-    async def cancel(self, call: Call) -> web.StreamResponse:
+    async def cancel(self, call: ApiCall) -> web.StreamResponse:
         ask = call.request.path.rpartition("/")[2]
         names = {name: call.body.get(name) or [] for name in ("tasks", "jobs")}
         return web.json_response(await self._queue(call).ask(call.user, ask, **names))
 
     hold = release = cancel
 
-    async def cordon(self, call: Call) -> web.StreamResponse:
+    async def cordon(self, call: ApiCall) -> web.StreamResponse:
         call.require_operator()
         ask = call.request.path.rpartition("/")[2]
         return web.json_response(await self._queue(call).ask(call.user, ask, machines=call.body["machines"]))
 
     uncordon = drain = cordon
 
-    async def what_if(self, call: Call) -> web.StreamResponse:
+    async def what_if(self, call: ApiCall) -> web.StreamResponse:
         tenant = self._tenant(call)
         self._require_lines(call, call.values["tenant"])
         lines = lines_of(Fields(call.body, ["lines"]))
@@ -286,7 +286,7 @@ class Api:
         found = await self._trials.ask(call.caller.number, words, "".join(f"{line}\n" for line in lines).encode())
         return web.json_response(found)
 
-    async def lines(self, call: Call) -> web.StreamResponse:
+    async def lines(self, call: ApiCall) -> web.StreamResponse:
         fields = Fields(call.body, ["tenant", "lines"])
         name = fields.name("tenant")
         if name is None:
@@ -302,11 +302,11 @@ class Api:
 
     # Common parts
 
-    def _tenant(self, call: Call) -> Tenant:
+    def _tenant(self, call: ApiCall) -> Tenant:
         call.rights  # refuses a tenant that the caller has no rights on
         return self._tenants[call.values["tenant"]]
 
-    def _tenant_row(self, name: str, caller: Caller) -> Json:
+    def _tenant_row(self, name: str, caller: Principal) -> Json:
         tenant, rights = self._tenants[name], caller.of(name)
         firm = {"is_there": not tenant.firm.trouble, "reason": tenant.firm.trouble}
         row: Json = {**rights_row(name, rights), "firm": firm}
@@ -315,13 +315,13 @@ class Api:
             row |= {key: counts[key] for key in ("machines", "jobs", "running", "waiting", "slots", "free_slots")}
         return row
 
-    def _queue(self, call: Call) -> QueueLink:
+    def _queue(self, call: ApiCall) -> QueueLink:
         found = self._tenant(call).queue
         if found is None or not call.rights.queue:
             raise Refused("no-queue", f"{call.values['tenant']} has no queue for this user")
         return found
 
-    def _queue_rows(self, call: Call) -> QueueRows:
+    def _queue_rows(self, call: ApiCall) -> QueueRows:
         self._queue(call)
         found = self._tenant(call).rows
         if found is None:
@@ -329,11 +329,11 @@ class Api:
         return found
 
     @staticmethod
-    def _require_lines(call: Call, tenant: str) -> None:
+    def _require_lines(call: ApiCall, tenant: str) -> None:
         if not call.caller.of(tenant).lines:
             raise Refused("operator-only", "this user may not send the tenant's lines")
 
-    async def _owner(self, call: Call) -> int | None:
+    async def _owner(self, call: ApiCall) -> int | None:
         """Return whose rows a list has: the caller's own, or for operators those of whom they name, or of all."""
         text, sees = call.values["user"], call.user.sees
         if text is None:
@@ -349,7 +349,7 @@ class Api:
         return number
 
 
-def rights_row(tenant: str, rights: Rights) -> Json:
+def rights_row(tenant: str, rights: TenantRights) -> Json:
     return {"tenant": tenant, "role": rights.named(), "lines": rights.lines, "queue": rights.queue}
 
 

@@ -18,7 +18,7 @@ from ..faults import Faults
 Count = tuple[str, int]  # an operation and a status
 
 
-class Metrics:
+class ApiMetrics:
     """Counts of a process, and the last ones that the other process has sent."""
 
     def __init__(self, process: str, faults: Faults) -> None:
@@ -43,12 +43,12 @@ class Metrics:
 
     def text(self, books: Mapping[str, Book]) -> tuple[bytes, str]:
         registry = CollectorRegistry()
-        registry.register(Counts({**self._others, **dict([json.loads(self.message())])}, books))
+        registry.register(ApiCollector({**self._others, **dict([json.loads(self.message())])}, books))
         ProcessCollector(namespace=f"firm_api_{self._process}", registry=registry)
         return generate_latest(registry), CONTENT_TYPE_LATEST
 
 
-class Counts(Collector):
+class ApiCollector(Collector):
     def __init__(self, processes: Mapping[str, list[Any]], books: Mapping[str, Book]) -> None:
         self._processes, self._books = processes, books
 

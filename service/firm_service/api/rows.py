@@ -89,7 +89,7 @@ class QueueRows:
         self._path, self._firm = folder / DATABASE, firm
         self._thread = ThreadPoolExecutor(1, "lists")
         self._threads = Threads()
-        self._near, self._aside = Reading(self._path), Reading(self._path)  # of the loop; of the thread
+        self._near, self._aside = ReadConnection(self._path), ReadConnection(self._path)  # of the loop; of the thread
 
     async def task(self, name: Name, user: int | None) -> Json:
         """Return a task with its attempts."""
@@ -268,7 +268,7 @@ class QueueRows:
             submission.open_needs, submission.needs = len(needs), submission.needs or tuple(needs)
 
 
-class Reading:
+class ReadConnection:
     """A connection to a database, which is opened anew where the file is another one."""
 
     def __init__(self, path: Path) -> None:

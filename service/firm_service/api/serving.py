@@ -24,17 +24,17 @@ from ..queue.shares import BOUNDS, Share, Shares
 from ..queue.users import User
 from ..queue.front import share_of
 from ..sight import Peer
-from .bounded import WRITE_SECONDS, Gate, Gates, key_of, refusal_of
-from .callers import Caller, Place, Tokens, caller_of_peer
+from .bounded import WRITE_SECONDS, BoundedConnection, BoundedConnections, key_of, refusal_of
+from .callers import Principal, TenantPaths, Tokens, caller_of_peer
 from .document import ENDPOINTS, Endpoint
 from .events import Feed, FollowedFirm
-from .handlers import BEGUN, HEADERS, Api, Call, Tenant
+from .handlers import BEGUN, HEADERS, Api, ApiCall, Tenant
 from .links import QueueLink, Trials
-from .metrics import Metrics
+from .metrics import ApiMetrics
 from .rows import QueueRows
 
 if TYPE_CHECKING:
-    from .daemon import Options
+    from .daemon import ApiOptions
 
 MAX_BODY, MAX_VALUES = 2**23, 400_000  # bytes; commas and brackets, each of which may be a value
 SMALL_BODY = 2**16  # bytes, with which a request is no large one
@@ -52,7 +52,7 @@ STATUSES = {
     **dict.fromkeys(["quota", "budget", "too-many-questions", "too-many-streams", "too-many-clients"], 429),
     **dict.fromkeys(["queue-full", "not-there", "not-written", "not-read", "stopping", "too-long", "failed"], 503),
 }
-Handler = Callable[[Call], Awaitable[web.StreamResponse]]
+Handler = Callable[[ApiCall], Awaitable[web.StreamResponse]]
 
 
 def status_of(name: str) -> int:
@@ -63,20 +63,20 @@ def status_of(name: str) -> int:
 class Server:
     """The endpoints, as one process serves them."""
 
-    def __init__(self, options: Options, name: str, faults: Faults, tokens: Tokens | None) -> None:
+    def __init__(self, options: ApiOptions, name: str, faults: Faults, tokens: Tokens | None) -> None:
         self._options, self._faults, self._tokens = options, faults, tokens
-        self.metrics = Metrics(name, faults)
+        self.metrics = ApiMetrics(name, faults)
         self._tenants = {place.tenant: tenant_at(place, options) for place in options.places.values()}
         self._api = Api(self._tenants, Trials(options.state), self.metrics)
         self._shares = Shares(BOUNDS, lambda: None)
         self._bodies: dict[int, asyncio.Semaphore] = {}
         self._lists: dict[int, asyncio.Lock] = {}
         self._streams = Counter[int]()
-        self.gates: Gates
+        self.gates: BoundedConnections
         self.app: web.Application
 
     @classmethod
-    async def start(cls, options: Options, name: str, faults: Faults, tokens: Tokens | None) -> Server:
+    async def start(cls, options: ApiOptions, name: str, faults: Faults, tokens: Tokens | None) -> Server:
         found = cls(options, name, faults, tokens)
         app = found.app = web.Application(client_max_size=MAX_BODY, middlewares=[found._guard])
         for endpoint in ENDPOINTS:
@@ -87,7 +87,7 @@ class Server:
         await runner.setup()
         if runner.server is None:
             raise RuntimeError("the runner has no server")
-        found.gates = Gates(runner.server, faults)
+        found.gates = BoundedConnections(runner.server, faults)
         return found
 
     def works(self) -> list[Coroutine[Any, Any, None]]:
@@ -133,9 +133,9 @@ class Server:
         request["operation"] = endpoint.name
         gate = self.gates.of(request)
         require_plain(request, gate)
-        caller = Caller(NOBODY) if endpoint.is_open else self._caller(request, gate)
+        caller = Principal(NOBODY) if endpoint.is_open else self._caller(request, gate)
         await self._shares.turn(share_of_caller(caller, gate))
-        call = Call(request, caller, values_of(endpoint, request), partial(self._caller, request, gate))
+        call = ApiCall(request, caller, values_of(endpoint, request), partial(self._caller, request, gate))
         handler: Handler = getattr(self._api, endpoint.name)
         async with self._place(endpoint, caller.number, request, gate):
             if endpoint.body is not None:
@@ -145,7 +145,7 @@ class Server:
             await send(request, response)
             return response
 
-    def _caller(self, request: web.Request, gate: Gate) -> Caller:
+    def _caller(self, request: web.Request, gate: BoundedConnection) -> Principal:
         """Return who calls, by the socket's peer, the token or the certificate."""
         if isinstance(gate.owner, Peer):
             return caller_of_peer(gate.owner, self._options.operators, self._options.places.values())
@@ -161,7 +161,9 @@ class Server:
         return found.caller(self._options.places)
 
     @asynccontextmanager
-    async def _place(self, endpoint: Endpoint, user: int, request: web.Request, gate: Gate) -> AsyncIterator[None]:
+    async def _place(
+        self, endpoint: Endpoint, user: int, request: web.Request, gate: BoundedConnection
+    ) -> AsyncIterator[None]:
         """A user has some streams and some large bodies at a time, and one list, which may be large."""
         if endpoint.is_stream:
             if self._streams[user] >= MAX_STREAMS:
@@ -183,7 +185,7 @@ class Server:
             yield
 
 
-async def body_of(request: web.Request, gate: Gate) -> bytes:
+async def body_of(request: web.Request, gate: BoundedConnection) -> bytes:
     if request.content_type != "application/json" or "Content-Encoding" in request.headers:
         raise Refused("not-json", "a body is plain JSON: Content-Type: application/json")
     if (request.content_length or 0) > MAX_BODY:
@@ -195,7 +197,7 @@ async def body_of(request: web.Request, gate: Gate) -> bytes:
         gate.end_body()
 
 
-def share_of_caller(caller: Caller, gate: Gate) -> Share:
+def share_of_caller(caller: Principal, gate: BoundedConnection) -> Share:
     """Return whose time a request takes: a user's, a connection's of an operator, or an unknown caller's address."""
     if caller.number == NOBODY:
         return Share(f"address {key_of(gate.owner)}".encode(), True)
@@ -230,7 +232,7 @@ def no_constant(text: str) -> None:
     raise ValueError(f"{text} is no number of JSON's")
 
 
-def require_plain(request: web.Request, gate: Gate) -> None:
+def require_plain(request: web.Request, gate: BoundedConnection) -> None:
     """Refuse what two readers could take for two things, and pages of other sites that rebind their names."""
     for name in SINGLE_HEADERS:
         if len(request.headers.getall(name, [])) > 1:
@@ -326,7 +328,7 @@ async def send(request: web.Request, response: web.StreamResponse) -> None:
 # Tenants
 
 
-def tenant_at(place: Place, options: Options) -> Tenant:
+def tenant_at(place: TenantPaths, options: ApiOptions) -> Tenant:
     view = options.state / "view"
     firm = FollowedFirm(Doors(place.tenant, view, place.lines or view), lambda heard: None)
     rows = QueueRows(place.rows, firm) if place.rows is not None else None
