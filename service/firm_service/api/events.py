@@ -75,9 +75,9 @@ class Feed:
             yield self._changes[place]
 
     def add_task(self, name: Name, user: int) -> None:
+        if len(self._owners) >= MAX_KNOWN:  # all: to find the first of a dict takes long once many were removed
+            self._owners.clear()
         self._owners[name.number] = user
-        if len(self._owners) > MAX_KNOWN:
-            del self._owners[next(iter(self._owners))]
         self._add(name, user, None)
 
     def add_firm_tasks(self, names: Iterable[str]) -> None:
