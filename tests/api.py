@@ -26,7 +26,7 @@ from functools import partial
 from pathlib import Path
 from typing import Any
 
-from api_kit import Answer, Connection, Site, certificate, connected, port_of, site
+from api_kit import Answer, Connection, Events, Judge, Site, certificate, connected, port_of, site
 from harness import program
 from harness.checks import Check, Skipped, Suite, require, run_script, run_suites
 from harness.program import ROOT, built
@@ -37,7 +37,6 @@ from queue_kit import ANN, BOB, LIMIT_SECONDS, Case, Client, Json, Setup, as_use
 SCHEMA = Path("/usr/share/openapi-specification/schemas/v3.0/schema.json")
 PAGE = ROOT / "docs" / "API.md"
 OPERATIONS = ("get", "post", "put", "delete", "patch", "head")
-LONG_SECONDS = 60.0
 NO_TASK = {"tasks": ["9999"]}
 MANY = 1_200  # tasks, more than a page has
 TLS_PORT = "8443"  # of the page's lines
@@ -61,52 +60,6 @@ print(json.dumps(asyncio.run(routes())))
 
 
 # The document.
-
-
-def plain_schema(found: Any) -> Any:
-    """A schema of the document as JSON Schema has it: `nullable` is OpenAPI's alone."""
-    if isinstance(found, list):
-        return [plain_schema(one) for one in found]
-    if not isinstance(found, dict):
-        return found
-    rest = {key: plain_schema(value) for key, value in found.items() if key != "nullable"}
-    return {"anyOf": [rest, {"type": "null"}]} if found.get("nullable") is True else rest
-
-
-class Judge:
-    """Holds answers to the document."""
-
-    def __init__(self, document: Json) -> None:
-        self.document, self.asked = document, set[tuple[str, str]]()
-        self._plain = {**document, "components": {"schemas": plain_schema(document["components"]["schemas"])}}
-        self._forms = {
-            path: re.compile(re.sub(r"\\\{\w+\\\}", "[^/]+", re.escape(path)).replace("{tenant}", "[^/]+"))
-            for path in document["paths"]
-        }
-
-    def path_of(self, path: str) -> str:
-        """The path of the document that a request's is of."""
-        bare = path.partition("?")[0]
-        found = [name for name, form in self._forms.items() if form.fullmatch(bare)]
-        require(bare in found or len(found) == 1, f"{bare} is {found} in the document")
-        return bare if bare in found else str(found[0])
-
-    def judge(self, method: str, path: str, answer: Answer) -> Answer:
-        """Asks that an answer is as its operation says."""
-        jsonschema = importlib.import_module("jsonschema")
-        name = self.path_of(path)
-        self.asked.add((method, name))
-        answers = self.document["paths"][name][method.lower()]["responses"]
-        said = answers.get(str(answer.status)) or answers["default"]
-        require(answer.status < 400 or said is answers["default"], f"{method} {path}: {answer.status}")
-        ((media, content),) = said["content"].items()
-        require(answer.headers["content-type"].startswith(media), f"{path}: {answer.headers}")
-        if media == "application/json":
-            resolver = jsonschema.RefResolver("", self._plain)
-            judge = jsonschema.Draft4Validator(plain_schema(content["schema"]), resolver=resolver)
-            faults = [f"{error.json_path}: {error.message[:200]}" for error in judge.iter_errors(answer.json())]
-            require(not faults, f"{method} {path}: {faults}")
-        return answer
 
 
 def references(found: Any) -> Iterator[str]:
@@ -262,6 +215,50 @@ def has_explain() -> bool:
     return built("firm_explain").exists()
 
 
+def plain_tenant(setup: Setup) -> None:
+    """A tenant without a queue shows firm's rows to those who may send its lines, and to nobody else."""
+    with setup.case_alone() as case:
+        case.folder.chmod(0o755)
+        served = Site(case, [f"--lines=alpha={case.firmd.any}"], has_queue=False)
+        try:
+            served.start()
+            judge, of = judge_of(served), served.of
+            rows = ["machine m1 2", "job web 10", *(f"task web {name}" for name in "abc"), "round"]
+            body = {"tenant": "alpha", "lines": [f"alpha {row}" for row in rows]}
+            with Events(served, "?lines=true") as stream:
+                replies = served.ask("POST", "/v1/lines", body).good()["replies"]
+                require(replies[-1].startswith("alpha 6 ok round"), replies)
+                stream.until(lambda kind, data: kind == "line" and data["reply"] == replies[-1])
+
+            def get(path: str) -> Any:
+                return judge.judge("GET", of(path), served.ask("GET", of(path))).good()
+
+            require(get("machines")["machines"][0]["tasks"] == ["a", "b"], "machines")
+            require(get("jobs")["jobs"][0]["states"] == {"running": 2, "waiting": 1}, "jobs")
+            first = get("tasks?limit=2")
+            names = [row["task"] for row in first["tasks"] + get(f"tasks?limit=2&cursor={first['next']}")["tasks"]]
+            require(names == ["a", "b", "c"], names)
+            require(get("tasks/c")["state"] == "waiting", "a task")
+            require(served.get("/v1/tenants")["tenants"][0]["free_slots"] == 0, "counts")
+            for path, status, name in (
+                ("tasks/d", 404, "no-such-task"),
+                ("tasks/d/why", 404, "no-such-task"),
+                ("tasks/a/log", 404, "no-queue"),
+                ("history", 404, "no-queue"),
+                ("agents", 404, "no-queue"),
+            ):
+                served.ask("GET", of(path)).refused(status, name)
+            served.ask("POST", of("cancel"), NO_TASK).refused(404, "no-queue")
+            why = served.ask("GET", of("tasks/c/why"))
+            require(why.good()["text"] if has_explain() else why.refused(503, "failed"), "reasons")
+            if not os.geteuid():
+                asked_as(ANN, served, "GET", of("tasks")).refused(404, "no-such-tenant")
+                case.firmd.any.chmod(0o666)
+                require(len(asked_as(ANN, served, "GET", of("tasks")).good()["tasks"]) == 3, "who may send lines")
+        finally:
+            served.kill()
+
+
 def pages_of_tasks(setup: Setup) -> None:
     """Lists come in pages: each row once, in order, whatever the filter, and no more than asked for; so does the
     history, also where many tasks end at once."""
@@ -317,52 +314,6 @@ def logs(setup: Setup) -> None:
 
 
 # Events.
-
-
-class Events:
-    """A stream of events."""
-
-    def __init__(self, served: Site, query: str = "", last: str | None = None) -> None:
-        self._connection = Connection(served.socket)
-        headers = {} if last is None else {"Last-Event-ID": last}
-        self._connection.request("GET", served.of(f"events{query}"), headers=headers)
-        self._answer = self._connection.getresponse()
-        require(self._answer.status == 200, self._answer.status)
-        self.last, self.seen = "", list[Json]()
-        require(self._answer.readline().startswith(b":"), "it begins at once")
-
-    def __enter__(self) -> Events:
-        return self
-
-    def __exit__(self, *_: object) -> None:
-        self._connection.close()
-
-    def next(self) -> tuple[str, Json]:
-        """The kind of the next event, and its data."""
-        kind, ends = "", time.monotonic() + LONG_SECONDS
-        while True:
-            require(time.monotonic() < ends, f"no further event; {self.seen[-5:]}")
-            line = self._answer.readline().decode().rstrip("\n")
-            name, _, value = line.partition(": ")
-            if name == "id":
-                self.last = value
-            elif name == "event":
-                kind = value
-            elif name == "data":
-                self.seen.append(json.loads(value))
-                return kind, self.seen[-1]
-
-    def until(self, holds: Callable[[str, Json], bool]) -> Json:
-        """The data of the first event for which this holds."""
-        ends = time.monotonic() + LONG_SECONDS
-        while time.monotonic() < ends:
-            kind, data = self.next()
-            if holds(kind, data):
-                return data
-        raise AssertionError("no such event")
-
-    def state(self, task: str, state: str) -> None:
-        self.until(lambda kind, data: kind == "task" and (data["task"], data["state"]) == (task, state))
 
 
 def events(setup: Setup) -> None:
@@ -789,7 +740,19 @@ def main() -> int:
     if python is not None and importlib.util.find_spec("aiohttp") is None:
         os.execv(python, [python, __file__, *sys.argv[1:]])  # Debian's, which has the validator too
     setup = Setup(given.program, given.quick, 0)
-    checks = [document, endpoints, pages_of_tasks, logs, events, rights, tokens, bad_requests, mixed, ends]
+    checks = [
+        document,
+        endpoints,
+        plain_tenant,
+        pages_of_tasks,
+        logs,
+        events,
+        rights,
+        tokens,
+        bad_requests,
+        mixed,
+        ends,
+    ]
     checks += [proxy, curl_lines]
     found: dict[str, Check] = {check.__name__.replace("_", " "): partial(check, setup) for check in checks}
     return run_suites(Suite({name: check for name, check in found.items() if given.only in name}))

@@ -3,6 +3,7 @@
 from __future__ import annotations
 
 import http.client
+import importlib
 import json
 import os
 import re
@@ -11,7 +12,7 @@ import socket
 import ssl
 import subprocess
 import time
-from collections.abc import Iterator, Mapping
+from collections.abc import Callable, Iterator, Mapping
 from contextlib import closing, contextmanager
 from dataclasses import dataclass, field
 from pathlib import Path
@@ -25,6 +26,7 @@ from queue_kit import LIMIT_SECONDS, Case, Json, Setup
 
 CERTIFICATE_DAYS = "30"
 JSON_KIND = "application/json"
+EVENT_SECONDS = 60.0  # for a further event
 
 
 class Answer(NamedTuple):
@@ -89,6 +91,7 @@ class Site:
 
     case: Case
     options: list[str] = field(default_factory=list)
+    has_queue: bool = True
     first: list[str] = field(default_factory=list)  # words in the place of the program's
     process: subprocess.Popen[bytes] | None = None
 
@@ -109,7 +112,9 @@ class Site:
     def start(self) -> Site:
         case = self.case
         words = self.words("run", f"--state={case.firmd.state}", f"--socket={self.socket}", "--socket-mode=666")
-        words += [f"--queue={case.tenant}={case.socket}", f"--rows={case.tenant}={case.state}", *self.options]
+        if self.has_queue:
+            words += [f"--queue={case.tenant}={case.socket}", f"--rows={case.tenant}={case.state}"]
+        words += self.options
         began = time.monotonic()
         with open(case.folder / "api-log", "wb") as log:
             self.process = subprocess.Popen(words, stdin=subprocess.DEVNULL, stderr=log)
@@ -160,6 +165,98 @@ class Site:
         made = subprocess.run([*words, f"--tenants={','.join(tenants)}"], capture_output=True, text=True)
         require(made.returncode == 0, made.stderr)
         return made.stdout.strip()
+
+
+def plain_schema(found: Any) -> Any:
+    """A schema of the document as JSON Schema has it: `nullable` is OpenAPI's alone."""
+    if isinstance(found, list):
+        return [plain_schema(one) for one in found]
+    if not isinstance(found, dict):
+        return found
+    rest = {key: plain_schema(value) for key, value in found.items() if key != "nullable"}
+    return {"anyOf": [rest, {"type": "null"}]} if found.get("nullable") is True else rest
+
+
+class Events:
+    """A stream of events."""
+
+    def __init__(self, served: Site, query: str = "", last: str | None = None) -> None:
+        self._connection = Connection(served.socket)
+        headers = {} if last is None else {"Last-Event-ID": last}
+        self._connection.request("GET", served.of(f"events{query}"), headers=headers)
+        self._answer = self._connection.getresponse()
+        require(self._answer.status == 200, self._answer.status)
+        self.last, self.seen = "", list[Json]()
+        require(self._answer.readline().startswith(b":"), "it begins at once")
+
+    def __enter__(self) -> Events:
+        return self
+
+    def __exit__(self, *_: object) -> None:
+        self._connection.close()
+
+    def next(self) -> tuple[str, Json]:
+        """The kind of the next event, and its data."""
+        kind, ends = "", time.monotonic() + EVENT_SECONDS
+        while True:
+            require(time.monotonic() < ends, f"no further event; {self.seen[-5:]}")
+            line = self._answer.readline().decode().rstrip("\n")
+            name, _, value = line.partition(": ")
+            if name == "id":
+                self.last = value
+            elif name == "event":
+                kind = value
+            elif name == "data":
+                self.seen.append(json.loads(value))
+                return kind, self.seen[-1]
+
+    def until(self, holds: Callable[[str, Json], bool]) -> Json:
+        """The data of the first event for which this holds."""
+        ends = time.monotonic() + EVENT_SECONDS
+        while time.monotonic() < ends:
+            kind, data = self.next()
+            if holds(kind, data):
+                return data
+        raise AssertionError("no such event")
+
+    def state(self, task: str, state: str) -> None:
+        self.until(lambda kind, data: kind == "task" and (data["task"], data["state"]) == (task, state))
+
+
+class Judge:
+    """Holds answers to the document."""
+
+    def __init__(self, document: Json) -> None:
+        self.document, self.asked = document, set[tuple[str, str]]()
+        self._plain = {**document, "components": {"schemas": plain_schema(document["components"]["schemas"])}}
+        self._forms = {
+            path: re.compile(re.sub(r"\\\{\w+\\\}", "[^/]+", re.escape(path)).replace("{tenant}", "[^/]+"))
+            for path in document["paths"]
+        }
+
+    def path_of(self, path: str) -> str:
+        """The path of the document that a request's is of."""
+        bare = path.partition("?")[0]
+        found = [name for name, form in self._forms.items() if form.fullmatch(bare)]
+        require(bare in found or len(found) == 1, f"{bare} is {found} in the document")
+        return bare if bare in found else str(found[0])
+
+    def judge(self, method: str, path: str, answer: Answer) -> Answer:
+        """Asks that an answer is as its operation says."""
+        jsonschema = importlib.import_module("jsonschema")
+        name = self.path_of(path)
+        self.asked.add((method, name))
+        answers = self.document["paths"][name][method.lower()]["responses"]
+        said = answers.get(str(answer.status)) or answers["default"]
+        require(answer.status < 400 or said is answers["default"], f"{method} {path}: {answer.status}")
+        ((media, content),) = said["content"].items()
+        require(answer.headers["content-type"].startswith(media), f"{path}: {answer.headers}")
+        if media == "application/json":
+            resolver = jsonschema.RefResolver("", self._plain)
+            judge = jsonschema.Draft4Validator(plain_schema(content["schema"]), resolver=resolver)
+            faults = [f"{error.json_path}: {error.message[:200]}" for error in judge.iter_errors(answer.json())]
+            require(not faults, f"{method} {path}: {faults}")
+        return answer
 
 
 @contextmanager
