@@ -1,10 +1,10 @@
 """Asks firm-api as users, operators and programs do, and holds its answers to its own OpenAPI document.
 
-usage: tools/run tests/api.py [--quick] [--program FILE]
+usage: tools/run tests/api.py [--quick] [--only WORD] [--program FILE]
 Each check has a line; the last line is 'N passed, M failed', and the exit status is 1 where one failed. It needs the
 built program, python3-aiohttp and python3-prometheus-client; the document python3-jsonschema and openapi-specification,
-TLS openssl, the page's lines curl, and other users root. Checks that lack one of these are skipped. --quick asks less of
-each kind. `tests/api_hostile.py` has hostile clients.
+TLS openssl, the page's lines curl, and other users root. Checks that lack one of these are skipped. --quick asks less
+of each kind. `tests/api_hostile.py` has hostile clients.
 """
 
 from __future__ import annotations

@@ -368,6 +368,24 @@ def lost_queue(setup: Setup) -> None:
         require(served.get(served.of("tasks/1"))["task"] == "1", "what needs no queue is answered")
 
 
+def late_queue(setup: Setup) -> None:
+    """firm-api serves what it can before its queue has ever begun, whatever tasks firm has, and the rest afterwards."""
+    with setup.case_alone("--socket-mode=666") as case:
+        served = Site(case, [f"--lines=alpha={case.firmd.any}"])
+        try:
+            served.start()
+            rows = ["machine m1 1", "job web 10", "task web 12", "task web 7-3", "round", "done 12"]
+            body = {"tenant": "alpha", "lines": [f"alpha {row}" for row in rows]}
+            require(len(served.ask("POST", "/v1/lines", body).good()["replies"]) == len(rows), "lines")
+            served.ask("GET", served.of("tasks")).refused(503, "not-read")
+            served.ask("GET", served.of("jobs")).refused(503, "not-there")
+            case.start()
+            require(served.submit("x", hold=True) == 1, "its first submission")
+            require(served.get(served.of("tasks/1"))["state"] == "held", "its row")
+        finally:
+            served.kill()
+
+
 def tls_floods(setup: Setup) -> None:
     """Mute clients before a handshake, and such as say something else, keep nobody out."""
     with site(setup) as served:
@@ -403,7 +421,7 @@ def main() -> int:
     program.add_program(parser)
     given = parser.parse_args()
     setup = Setup(given.program, given.quick, given.seed)
-    checks = [fuzz, closed_in_time, slow_readers, many_needs, lost_queue, tls_floods]
+    checks = [fuzz, closed_in_time, slow_readers, many_needs, lost_queue, late_queue, tls_floods]
     found: dict[str, Check] = {check.__name__.replace("_", " "): partial(check, setup) for check in checks}
     for work in (slow_heads, slow_bodies, mute, pipelining, endless_heads, bombs, comers):
         found[work.__name__.replace("_", " ")] = partial(beside, work, setup)

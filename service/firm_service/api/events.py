@@ -1,9 +1,9 @@
 """Changes of a tenant, for server-sent events: its queue's tasks by commits, and firm's lines with their replies.
 
 A feed keeps the last changes by name alone. A stream reads the rows when it sends them, so a task that changes five
-times while a client reads slowly is sent once. An event's id is EPOCH-NUMBER, of this process and this tenant; a client
-that names one in `Last-Event-ID` gets what came after it, or `reset` if that is not kept any more: then it reads all
-anew.
+times while a client reads slowly is sent once. An event's id is EPOCH-NUMBER; no two feeds have an epoch in common. A
+client that names one in `Last-Event-ID` gets what came after it, or `reset` if that is not kept any more: then it reads
+all anew.
 """
 
 from __future__ import annotations
@@ -15,6 +15,7 @@ import secrets
 from collections import deque
 from collections.abc import Callable, Iterable, Iterator, Sequence
 from dataclasses import dataclass
+from itertools import islice
 from typing import Any, NamedTuple
 
 from ..queue.fields import Json
@@ -24,7 +25,6 @@ from ..queue.rows import Name
 MAX_KEPT = 10_000  # changes of a tenant
 MAX_KNOWN = 50_000  # submissions whose users are kept
 PLACES = {"start": 3, "preempt": 3, "move": 4}  # words of a change in a round's reply
-EPOCH = secrets.token_hex(4)  # of this process
 ID = re.compile(r"([0-9a-f]{8})-([0-9]{1,15})")
 
 
@@ -49,7 +49,7 @@ class Feed:
     """The last changes of a tenant."""
 
     def __init__(self, owner: Callable[[int], int | None]) -> None:
-        self._owner = owner
+        self._owner, self.epoch = owner, secrets.token_hex(4)
         self._owners: dict[int, int | None] = {}
         self._changes: deque[FeedEntry] = deque(maxlen=MAX_KEPT)
         self.last = 0
@@ -61,18 +61,16 @@ class Feed:
         found = ID.fullmatch(given) if given is not None else None
         if given is None:
             return StreamPosition(self.last)
-        if found is None or found[1] != EPOCH or int(found[2]) > self.last:
+        if found is None or found[1] != self.epoch or int(found[2]) > self.last:
             return StreamPosition(self.last, is_lost=True)
         return StreamPosition(int(found[2]))
 
-    def since(self, position: StreamPosition) -> Iterator[FeedEntry]:
-        """Yield the changes after a position, and set it to the last one."""
+    def since(self, position: StreamPosition) -> list[FeedEntry]:
+        """Return the changes after a position, and set it to the last one."""
         at, position.at = position.at, self.last
-        if self.last - at > len(self._changes):
-            position.is_lost = True
-            return
-        for place in range(len(self._changes) - (self.last - at), len(self._changes)):
-            yield self._changes[place]
+        first = len(self._changes) - (self.last - at)
+        position.is_lost |= first < 0
+        return [*islice(self._changes, first, None)] if first >= 0 else []
 
     def add_task(self, name: Name, user: int) -> None:
         if len(self._owners) >= MAX_KNOWN:  # all: to find the first of a dict takes long once many were removed
@@ -143,8 +141,8 @@ def tasks_of(heard: Heard) -> Iterator[str]:
         yield heard.words[2 if heard.words[0] == "task" else 1]
 
 
-def events_text(told: Sequence[tuple[str, Json]], number: int) -> bytes:
+def events_text(told: Sequence[tuple[str, Json]], place: str) -> bytes:
     """Return server-sent events. The last one alone has an id: a client that lost some of them gets all again."""
     texts = [f"event: {kind}\ndata: {json.dumps(data)}\n\n" for kind, data in told]
-    texts[-1] = f"id: {EPOCH}-{number}\n{texts[-1]}"
+    texts[-1] = f"id: {place}\n{texts[-1]}"
     return "".join(texts).encode()

@@ -239,7 +239,7 @@ class Api:
         await write(call.request, response, b": events of this tenant\n\n")
         while True:
             call.require_still()
-            changes = [*tenant.feed.since(position)]
+            changes = tenant.feed.since(position)
             if position.is_lost:
                 position.is_lost, told = False, [("reset", {"tenant": tenant.place.tenant})]
             else:
@@ -248,9 +248,10 @@ class Api:
                 rows = tenant.rows if call.rights.queue else None
                 told += [("task", row) async for row in changed_rows(rows, sorted(names), sees)]
             if told:
-                await write(call.request, response, events_text(told, position.at))
+                await write(call.request, response, events_text(told, f"{tenant.feed.epoch}-{position.at}"))
+            if told or changes:  # what comes soon is sent together
                 await asyncio.sleep(EVENT_PAUSE)
-            elif not changes:
+            else:
                 at = position.at
                 await tenant.feed.wait(QUIET_SECONDS)
                 if tenant.feed.last == at:

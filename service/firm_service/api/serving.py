@@ -332,9 +332,17 @@ def tenant_at(place: TenantPaths, options: ApiOptions) -> Tenant:
     view = options.state / "view"
     firm = FollowedFirm(Doors(place.tenant, view, place.lines or view), lambda heard: None)
     rows = QueueRows(place.rows, firm) if place.rows is not None else None
-    firm.feed = Feed(rows.owner if rows is not None else lambda number: None)
+    firm.feed = Feed(partial(owner_in, rows))
     queue = QueueLink(place.queue) if place.queue is not None else None
     return Tenant(place, firm, firm.feed, queue, rows)
+
+
+def owner_in(rows: QueueRows | None, number: int) -> int | None:
+    """Return whose a submission is, if the queue's rows can be read."""
+    try:
+        return rows.owner(number) if rows is not None else None
+    except Refused:
+        return None
 
 
 async def follow(queue: QueueLink, feed: Feed) -> None:
