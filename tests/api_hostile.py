@@ -30,7 +30,7 @@ from queue_kit import LIMIT_SECONDS, Setup
 from queue_page import hostile
 
 FUZZED, QUICK_SECONDS, LEAST = 10_000, 45.0, 300  # requests; for them with --quick, and how many they are at least
-SERVED_SECONDS, ASKED = 4.0, 20  # for another user's request beside a flood, on a busy host; how many there are
+SERVED_SECONDS, ASKED = 8.0, 20  # for another user's request beside a flood, on a busy host; how many there are
 MAX_KILOBYTES = 250_000  # of a process, whatever is sent
 CLIENTS = 160  # of a user, more than may be
 PIPELINED = 20_000
@@ -254,7 +254,7 @@ def endless_heads(path: Path) -> Iterator[None]:
 def bombs(path: Path) -> Iterator[None]:
     packed = zlib.compress(b" " * BOMB_BYTES, 9)
     many = b'{"lines": [' + b"{}," * 2**20 + b"1]}"
-    keys = b"{" + b",".join(b'"%d":1' % number for number in range(300_000)) + b"}"
+    keys = b"{" + b",".join(b'"%d":1' % number for number in range(240_000)) + b"}"
     head = (
         "POST /v1/lines HTTP/1.1\r\nHost: localhost\r\nContent-Type: application/json\r\nContent-Length: {}\r\n{}\r\n"
     )

@@ -36,7 +36,7 @@ from .rows import QueueRows
 if TYPE_CHECKING:
     from .daemon import ApiOptions
 
-MAX_BODY, MAX_VALUES = 2**23, 400_000  # bytes; commas and brackets, each of which may be a value
+MAX_BODY, MAX_VALUES = 2**23, 250_000  # bytes; commas and brackets, each of which may be a value
 SMALL_BODY = 2**16  # bytes, with which a request is no large one
 MAX_BODIES, MAX_STREAMS = 4, 32  # of a user at a time: requests with large bodies, and streams
 NOBODY = -1
@@ -134,12 +134,15 @@ class Server:
         gate = self.gates.of(request)
         require_plain(request, gate)
         caller = Principal(NOBODY) if endpoint.is_open else self._caller(request, gate)
-        await self._shares.turn(share_of_caller(caller, gate))
+        share = share_of_caller(caller, gate)
+        await self._shares.turn(share)
         call = ApiCall(request, caller, values_of(endpoint, request), partial(self._caller, request, gate))
         handler: Handler = getattr(self._api, endpoint.name)
         async with self._place(endpoint, caller.number, request, gate):
             if endpoint.body is not None:
-                call.body = json_of(await body_of(request, gate))
+                data = await body_of(request, gate)
+                await self._shares.turn(share)  # in which its parts are read: who takes long rests
+                call.body = json_of(data)
                 require_fields(call.body, endpoint.body)
             response = await handler(call)
             await send(request, response)
