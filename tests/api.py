@@ -416,7 +416,7 @@ def events_of(served: Site, task: str) -> list[str]:
 
 
 def proxy(setup: Setup) -> None:
-    """Only root and the queue's own user may act as others, at once and for good; watchers hear of commits alone."""
+    """Only root and the queue's own user may act as others, at once and for good; watchers get commits alone."""
     if os.geteuid():
         raise Skipped("it needs root, to be other users")
     with setup.case("--socket-mode=666") as case:
