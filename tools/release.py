@@ -41,6 +41,7 @@ SERVICES = {
     "firm-agent": "runs the tasks that firm places",
     "firm-journal": "looks after the journal of a firmd",
     "firm-queue": "takes work from users and gives it to firm",
+    "firm-api": "serves firmd and queues as HTTP and JSON",
     "firm-slurm": "has Slurm run what firm decides",
     "firm-door": "writes the configuration of one door to many firmd",
 }
@@ -50,6 +51,7 @@ PARSERS = {  # modules with the parsers of command lines; the others' completion
     "firm-agent": "firm_service.agent",
     "firm-journal": "firm_service.journal_tool",
     "firm-queue": "firm_service.queue.daemon",
+    "firm-api": "firm_service.api.daemon",
     "firm-slurm": "firm_service.slurm.daemon",
     "firm-door": "firm_service.door.writing",
 }

@@ -4,12 +4,14 @@ from __future__ import annotations
 
 import asyncio
 import socket
+import ssl
 from collections.abc import Callable
 
 from .faults import Fault, Faults, Reader
 from .relief import SHORTAGES, Relief
 
 AT_ONCE = 1  # connection of a socket in a turn of the loop, as one costs more than some reads
+HANDSHAKE_SECONDS, MAX_HANDSHAKES = 10.0, 64  # of TLS; the oldest gives way to a further one
 RETRY_SECONDS = 0.01  # until one that was closed has given its descriptor back
 
 
@@ -27,8 +29,9 @@ class Acceptor:
         self._socket, self._name, self._protocol = listening, name, protocol
         self._relief, self._faults = relief, faults
         self._loop = asyncio.get_running_loop()
-        self._tasks: set[asyncio.Task[None]] = set()
+        self._tasks: dict[asyncio.Task[None], None] = {}  # the newest last
         self._is_closed = False
+        self.tls: ssl.SSLContext | None = None
         self._reader = Reader("client", self._accept, faults, self._give_up)
         listening.setblocking(False)
         self._listen()
@@ -54,8 +57,10 @@ class Acceptor:
             for _ in range(AT_ONCE):
                 connection, _ = self._socket.accept()
                 task = self._loop.create_task(self._begin(connection))
-                self._tasks.add(task)
-                task.add_done_callback(self._tasks.discard)
+                self._tasks[task] = None
+                task.add_done_callback(self._tasks.pop)
+                if self.tls is not None and len(self._tasks) > MAX_HANDSHAKES:
+                    next(iter(self._tasks)).cancel()
         except (BlockingIOError, InterruptedError, ConnectionAbortedError):
             pass
         except OSError as error:
@@ -66,11 +71,15 @@ class Acceptor:
                 self._loop.remove_reader(self._socket)
 
     async def _begin(self, connection: socket.socket) -> None:
+        seconds = None if self.tls is None else HANDSHAKE_SECONDS
         try:
-            await self._loop.connect_accepted_socket(self._protocol, connection)
+            await self._loop.connect_accepted_socket(
+                self._protocol, connection, ssl=self.tls, ssl_handshake_timeout=seconds
+            )
         except Exception as error:
             connection.close()
-            self._faults.note("client", error)
+            if self.tls is None or not isinstance(error, OSError):  # whatever a client says instead of TLS
+                self._faults.note("client", error)
         except asyncio.CancelledError:
             connection.close()
             raise

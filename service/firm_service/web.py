@@ -56,6 +56,15 @@ def policy_of(page: str) -> str:
     return f"default-src 'none'; {own}; connect-src 'self'; base-uri 'none'; form-action 'none'; frame-ancestors 'none'"
 
 
+def page_text(template: Path) -> str:
+    """Return a page with the style and the helpers of firmd's."""
+    text, own = template.read_text("utf-8"), PAGE.read_text("utf-8")
+    for mark, pattern in (("{{style}}", r"<style>\n(.*?)</style>"), ("{{helpers}}", r"// Helpers\.\n(.*?)// End of")):
+        (part,) = re.findall(pattern, own, re.S)
+        text = text.replace(mark, part)
+    return text
+
+
 def slots_of(book: Book) -> list[Json]:
     """The first machines, each with its tasks and their jobs, those of one job together."""
     tasks: dict[str, list[tuple[str, str]]] = {name: [] for name in islice(book.machines, MOST_MACHINES)}

@@ -121,20 +121,7 @@ class Core:
 
     def facts(self, task: Task) -> Facts:
         """What the task's state follows from, by what is known of firm now."""
-        rows = self.firm.rows
-        row = rows.tasks.get(task.firm) if rows is not None and task.outcome is None else None
-        attempt = task.open_attempt
-        return Facts(
-            task.outcome,
-            task.is_held,
-            task.submission.is_blocked,
-            task.is_cancelled,
-            row is not None,
-            row.machine if row is not None else None,
-            attempt.machine if attempt is not None else None,
-            attempt is not None and attempt.began is not None,
-            attempt is not None and attempt.is_kept,
-        )
+        return facts_of(task, self.firm.rows)
 
     # Submissions
 
@@ -595,6 +582,23 @@ def set_member(found: set[str], name: str, is_in: bool) -> None:
         found.add(name)
     else:
         found.discard(name)
+
+
+def facts_of(task: Task, rows: Book | None) -> Facts:
+    """Return the facts that decide a task's state, by firm's rows."""
+    row = rows.tasks.get(task.firm) if rows is not None and task.outcome is None else None
+    attempt = task.open_attempt
+    return Facts(
+        task.outcome,
+        task.is_held,
+        task.submission.is_blocked,
+        task.is_cancelled,
+        row is not None,
+        row.machine if row is not None else None,
+        attempt.machine if attempt is not None else None,
+        attempt is not None and attempt.began is not None,
+        attempt is not None and attempt.is_kept,
+    )
 
 
 class Ends:

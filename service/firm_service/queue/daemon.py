@@ -90,6 +90,7 @@ class Queue:
         """Serves until it is told to stop; raises the fault that ended it otherwise."""
         await self._store.start()
         self._store.on_failure, self._store.on_damage = self._failed.set, self._give_up
+        self._store.on_commit = self._front.tell_changed
         try:
             try:
                 kept = await self._core.load()

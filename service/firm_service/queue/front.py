@@ -4,6 +4,7 @@ from __future__ import annotations
 
 import asyncio
 import json
+import os
 import select
 import socket
 import sqlite3
@@ -15,11 +16,13 @@ from typing import NamedTuple
 
 from ..faults import Faults
 from ..relief import Held
+from ..sight import ROOT
 from .agents import Agents
-from .fields import Json, Refused
+from .fields import Fields, Json, Refused, bad
 from .requests import Requests
+from .rows import SINGLE
 from .shares import BOUNDS, Share, Shares
-from .store import NotWritten
+from .store import Changed, NotWritten
 from .users import Operators, User
 
 LONGEST_REQUEST = 8 * 2**20  # bytes
@@ -31,10 +34,12 @@ REQUEST_SECONDS = 60.0  # for the rest of a long request
 REFUSAL_SECONDS = 1.0  # for the rest of a request that is too long
 PATIENCE_SECONDS = 30.0  # for a client to read
 MOST_TOLD = 4 * 2**20  # bytes that an agent may leave unread
+MOST_TOLD_TASKS = 100  # of a submission, that watchers are told one by one
 ROWS_AT_ONCE = 500  # of an answer, that are written as JSON in a turn of the loop
 # Their answers may be large. As `wait`, `why` and `log` each is begun once the answers before it are read, since it
 # changes nothing.
 LISTS = {"tasks", "ps", "task", "history", "machines", "agents", "jobs", "status"}
+PROXY = {"as", "watch"}  # which the API asks for its users
 TOO_MANY = Refused("too-many-clients", "close a connection first")
 CROWDED = "users have left too much unread, or unsent: the connection of the fullest that has most is closed"
 
@@ -48,6 +53,7 @@ class Front:
         self._operators = operators
         self._users: Counter[int] = Counter()  # others than operators
         self._connections: dict[Connection, None] = {}  # the newest last
+        self._watchers: set[Connection] = set()
         self._tasks: set[asyncio.Task[None]] = set()
 
     def protocol(self) -> asyncio.StreamReaderProtocol:
@@ -104,9 +110,53 @@ class Front:
 
     def _leave(self, connection: Connection) -> None:
         del self._connections[connection]
+        self._watchers.discard(connection)
         self._users[connection.user.number] -= not connection.user.is_operator
         self.shares.leave(connection.share)
         self.agents.leave(connection)
+
+    def serve_proxy(self, connection: Connection, given: Json) -> Json:
+        """Answer what the API asks for its users: to be served as another user, or told of changes."""
+        try:
+            if given["ask"] == "as":
+                return self._serve_as(connection, Fields(given, ["ask", "user", "operator"]))
+            Fields(given, ["ask"])
+            if not connection.user.is_operator:
+                raise Refused("operator-only", "only operators may watch")
+        except Refused as refusal:
+            return refusal.answer()
+        self._watchers.add(connection)
+        return {"watch": {}}
+
+    def _serve_as(self, connection: Connection, fields: Fields) -> Json:
+        """Serve a connection of root's or of the queue's own user as another user's from now on."""
+        number, is_operator = fields.whole("user", 0, 2**32 - 1), fields.flag("operator")
+        is_own = connection.user.is_operator and connection.user.number == connection.peer
+        if not is_own or connection.peer not in (ROOT, os.geteuid()):
+            raise Refused("operator-only", "only root and the queue's own user may act as others")
+        if number is None:
+            raise bad("user", "it is needed")
+        user = User(number, is_operator)
+        if self._is_too_many(user):
+            raise TOO_MANY
+        self.shares.leave(connection.share)
+        self._users[connection.user.number] -= not connection.user.is_operator
+        connection.user, connection.share = user, share_of(user, connection, connection.end)
+        self._users[number] += not is_operator
+        return {"as": {"user": number}}
+
+    def tell_changed(self, changed: Changed) -> None:
+        """Tell watchers what a commit has changed: tasks, or the submission of many, each with its user."""
+        if not self._watchers:
+            return
+        told: list[tuple[int, int, int]] = []
+        for number, indexes in changed.items():
+            submission = self.agents.core.rows.submissions.get(number)
+            if submission is not None:  # otherwise it ended long ago
+                few = indexes if len(indexes) <= MOST_TOLD_TASKS else [SINGLE]
+                told += [(number, index, submission.user) for index in few]
+        for connection in list(self._watchers) if told else ():
+            connection.tell({"tell": "changed", "tasks": told})
 
     def _is_too_many(self, user: User) -> bool:
         if len(self._connections) >= MOST_CLIENTS:
@@ -167,7 +217,7 @@ class Connection:
     """A client of the queue."""
 
     def __init__(self, front: Front, user: User, reader: asyncio.StreamReader, writer: asyncio.StreamWriter) -> None:
-        self.user = user
+        self.user, self.peer = user, user.number
         self.share = share_of(user, self, self.end)
         self._front, self._reader, self._writer = front, reader, writer
         self._asked: asyncio.Queue[Asked | None] = asyncio.Queue(MOST_UNANSWERED)
@@ -277,6 +327,8 @@ class Connection:
         except Refused as refusal:
             return partial(self._refused, refusal)
         ask = given.get("ask")
+        if isinstance(ask, str) and ask in PROXY:  # at once: what comes after it is another user's already
+            return partial(self._proxied, self._front.serve_proxy(self, given))
         if ask == "log":
             return partial(self._logged, line)
         if ask in ("wait", "why"):
@@ -287,6 +339,9 @@ class Connection:
 
     async def _changed(self, given: Json) -> bytes:
         return self._held(encode(await self._answered(given)))
+
+    async def _proxied(self, answer: Json) -> AsyncIterator[bytes]:
+        yield self._held(encode(answer))
 
     async def _waited(self, line: bytes) -> AsyncIterator[bytes]:
         yield self._held(encode(await self._answered(request_of(line))))

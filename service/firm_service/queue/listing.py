@@ -7,7 +7,7 @@ from collections import Counter
 from collections.abc import Iterable, Iterator
 from dataclasses import asdict
 from itertools import groupby, islice
-from typing import Any
+from typing import Any, Protocol
 
 from ..books import Book
 from ..tables import duration
@@ -17,23 +17,43 @@ from .backlog import used
 from .columns import Line, cell_of, command_cell
 from .core import Core
 from .fields import Json
-from .rows import SINGLE, Attempt, Submission, Task
-from .states import State
+from .firm import Firm
+from .rows import SINGLE, Attempt, Need, Submission, Task
+from .states import Facts, Needed, State
 from .users import User, name_of
 
 VERSION = 1  # of the protocol
 MOST_SHOWN, MOST_LOOKED_AT = 4, 16  # needs that a reason names, and among which they are looked for
 
 
-class Lists:
-    """Rows, as of now."""
+class Known(Protocol):
+    """The sources of a task's row, beside the task."""
 
-    def __init__(self, core: Core, agents: Agents) -> None:
-        self._core, self._agents = core, agents
+    @property
+    def firm(self) -> Firm:
+        """The tenant in firm."""
+
+    def facts(self, task: Task) -> Facts:
+        """Return the facts that decide the task's state."""
+
+    def needed(self, need: Need) -> Needed:
+        """How far what a task waits for is."""
+
+
+class Unbegun(Protocol):
+    def why_not_begun(self, task: Task, machine: str) -> str:
+        """Why a task that is placed has no process."""
+
+
+class TaskRows:
+    """Rows of tasks, as of now."""
+
+    def __init__(self, known: Known, unbegun: Unbegun) -> None:
+        self._known, self._unbegun = known, unbegun
         self._counted: tuple[Book, bytes, int] | None = None  # firm's rows, at a command, with their slots
 
     def state_of(self, task: Task) -> State:
-        return states.state_of(self._core.facts(task))
+        return states.state_of(self._known.facts(task))
 
     def row(self, task: Task) -> Json:
         """A task, as `tasks` shows it."""
@@ -75,7 +95,7 @@ class Lists:
 
     def _seen(self, task: Task) -> tuple[State, str | None, str]:
         """A task's state, the machine where it is or was, and why it is not further."""
-        facts = self._core.facts(task)
+        facts = self._known.facts(task)
         state, machine = states.state_of(facts), facts.attempt_machine
         if machine is None:
             machine = facts.machine or last_machine(task)
@@ -87,8 +107,8 @@ class Lists:
         if state == State.BLOCKED:
             return f"waits for {self._waited_for(task.submission)}"
         if state == State.STARTING and machine is not None and task.open_attempt is None:
-            return self._agents.why_not_begun(task, machine)
-        if state in (State.QUEUED, State.WAITING) and (trouble := self._core.firm.trouble):
+            return self._unbegun.why_not_begun(task, machine)
+        if state in (State.QUEUED, State.WAITING) and (trouble := self._known.firm.trouble):
             return trouble
         if state == State.ENDING and not task.is_cancelled:
             return "firm has taken its place"
@@ -98,7 +118,7 @@ class Lists:
 
     def _why_without_slot(self, task: Task) -> str:
         """Why a task has no slot, at a glance; `why` tells more."""
-        rows = self._core.firm.rows
+        rows = self._known.firm.rows
         row = rows.tasks.get(task.firm) if rows is not None else None
         if rows is None or row is None:
             return "no room in firm yet"
@@ -112,10 +132,10 @@ class Lists:
     def _waited_for(self, submission: Submission) -> str:
         """The first needs that have not ended, and how many there are besides."""
         needs, place = submission.needs, submission.first_need
-        while place < len(needs) and not self._core.needed(needs[place]).live:
+        while place < len(needs) and not self._known.needed(needs[place]).live:
             place += 1
         submission.first_need = place  # what is before it has ended for ever
-        live = (need for need in needs[place : place + MOST_LOOKED_AT] if self._core.needed(need).live)
+        live = (need for need in needs[place : place + MOST_LOOKED_AT] if self._known.needed(need).live)
         shown = list(map(str, islice(live, MOST_SHOWN)))
         more = submission.open_needs - len(shown)
         return ", ".join(shown) + (f" and {more:,} more" if more > 0 else "")
@@ -132,14 +152,6 @@ class Lists:
         if state is State.QUEUED and not reason.startswith("no room"):
             yield "it is not in firm yet"
 
-    def foreign(self) -> Iterable[Json]:
-        """Tasks in firm that the queue has not submitted."""
-        for name, row in self._core.foreign().items():
-            empty = dict.fromkeys(("number", "index", "user", "agent", "submitted", "began", "ended", "seconds"))
-            shown = {"task": name, "firm": name, **empty, "job": row.job, "weight": None, "state": "foreign"}
-            rest = {"status": None, "time": None, "command": None, "attempt": 0, "reason": ""}
-            yield {**shown, "machine": row.machine, **rest}
-
     def detail(self, task: Task, attempts: list[Attempt]) -> Json:
         submission = task.submission
         spec = asdict(submission.spec)
@@ -148,6 +160,22 @@ class Lists:
         spec["after"] = [str(need) for need in submission.needs if need.is_ok]
         spec["after_any"] = [str(need) for need in submission.needs if not need.is_ok]
         return {**self.row(task), "spec": spec, "attempts": [attempt_row(attempt) for attempt in attempts]}
+
+
+class Lists(TaskRows):
+    """Rows of all kinds."""
+
+    def __init__(self, core: Core, agents: Agents) -> None:
+        super().__init__(core, agents)
+        self._core, self._agents = core, agents
+
+    def foreign(self) -> Iterable[Json]:
+        """Tasks in firm that the queue has not submitted."""
+        for name, row in self._core.foreign().items():
+            empty = dict.fromkeys(("number", "index", "user", "agent", "submitted", "began", "ended", "seconds"))
+            shown = {"task": name, "firm": name, **empty, "job": row.job, "weight": None, "state": "foreign"}
+            rest = {"status": None, "time": None, "command": None, "attempt": 0, "reason": ""}
+            yield {**shown, "machine": row.machine, **rest}
 
     def machines(self, may_see: Iterable[Task]) -> list[Json]:
         """Machines with those tasks that are there."""

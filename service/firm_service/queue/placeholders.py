@@ -22,6 +22,7 @@ from .backlog import Machines
 from .rows import MAX_FIRM_NAME, Job, Name, Task
 
 LETTERS = ("", *ascii_lowercase, *map("".join, product(ascii_lowercase, repeat=2)))
+FIRST_LETTERS = LETTERS[: 1 + len(ascii_lowercase)]
 
 
 class Placeholders:
@@ -113,6 +114,15 @@ class Placeholders:
                 self._given += 1
                 return True
         return False
+
+
+def newest_letters(task: Task, book: Book) -> str:
+    """Return the letters of the row by which a task runs, or is to run, as far as firm's rows alone tell it: of the one
+    where its attempt is, else of the newest."""
+    named = {letters: book.tasks.get(task.name.in_firm(letters)) for letters in FIRST_LETTERS}
+    rows = {letters: row for letters, row in named.items() if row is not None and row.job == task.submission.job}
+    machine = task.open_attempt.machine if task.open_attempt is not None else None
+    return max(rows, key=lambda one: (rows[one].machine == machine is not None, rows[one].line), default="")
 
 
 def open_costs(machines: Machines, book: Book) -> Iterator[int]:

@@ -69,6 +69,7 @@ class Asked:
     until: float | None = None
     name: tuple[int, int | None] | None = None
     limit: int = 10_000
+    before: tuple[float, int, int] | None = None  # end, number and index of the row after the last one
 
 
 def load(connection: sqlite3.Connection) -> Kept:
@@ -360,7 +361,11 @@ def conditions_of(asked: Asked, ended: str) -> tuple[str, list[Any]]:
     if asked.name is not None:
         pairs += [(f"{table}.number = ?", asked.name[0]), (f"{table}.idx = ?", asked.name[1])]
     chosen = [(words, value) for words, value in pairs if value is not None]
-    return "".join(f" AND {words}" for words, _ in chosen), [value for _, value in chosen]
+    words, values = "".join(f" AND {words}" for words, _ in chosen), [value for _, value in chosen]
+    if asked.before is not None:
+        words += f" AND {ended} <= ? AND ({ended}, {table}.number, {table}.idx) < (?, ?, ?)"
+        values += [asked.before[0], *asked.before]
+    return words, values
 
 
 def fetched(connection: sqlite3.Connection, words: str, values: Sequence[Any] = ()) -> list[Any]:

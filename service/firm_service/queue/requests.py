@@ -188,6 +188,13 @@ kept: {"ask": "kept", "tokens": [..]} -> {"kept": n}, once the agent has recorde
   it is registered. Only then does the queue take the rows out of firm, though the cordon may be gone. Such a run is
   ended by a tell "end", as it is cancelled or its machine drained.
 
+The API asks
+============
+
+as, of root and the queue's user: {"ask": "as", "user": 1000, "operator": false} -> {"as": ..}: what follows is hers.
+watch: {"ask": "watch"} -> {"watch": {}}, of operators. Then {"tell": "changed", "tasks": [[12, 4, 1000], ..]} comes
+  after each commit: number, index (-1: none) and user of what it has changed; of more than 100 of a submission, -1.
+
 Errors of any request: `bad-request` (no JSON, no object, nothing to be asked), `bad-field`, `too-long` (the connection
 is closed), `too-many-clients` (the same), `operator-only`, `not-written` (the disk is full or fails, or has not
 answered for 30 seconds: nothing is changed; what it is at work on has no answer until then), `not-read` (it fails, and
@@ -203,7 +210,6 @@ from array import array
 from base64 import b64encode
 from collections import defaultdict
 from collections.abc import AsyncIterator, Awaitable, Callable, Iterable, Mapping, Sequence
-from contextlib import suppress
 from dataclasses import dataclass, replace
 from functools import partial
 from typing import Any, Protocol
@@ -224,7 +230,7 @@ from .rows import SINGLE, Attempt, Name, Submission, Task, packed, unpacked
 from .states import ENDED, Change, State
 from .store import NotWritten
 from .threads import Threads
-from .users import User, is_known, look_up, name_of, number_of, presume
+from .users import User, know, name_of, number_of
 
 MOST_SUBMISSIONS, MOST_ASKED, MOST_ROWS, DEFAULT_ROWS = 10_000, 100_000, 100_000, 10_000
 # Of what has ended long ago, for one request: tasks, and bytes that the words take, where they are read.
@@ -477,13 +483,8 @@ class Requests:
         return Chosen(owner, job, wanted, names, DEFAULT_ROWS if limit is None else limit)
 
     async def know(self, user: User, numbers: Iterable[int]) -> None:
-        """Looks up names of users for one of them, which may hang: what is not known in time has its number for now."""
-        unknown = [number for number in set(numbers) if not is_known(number)]
-        if unknown:
-            with suppress(TimeoutError):
-                await self._threads.do(user.number, lambda: [*map(look_up, unknown)])
-            for number in unknown:
-                presume(number)
+        """Looks up names of users for one of them."""
+        await know(self._threads, user.number, numbers)
 
     async def _user(self, user: User, fields: Fields) -> int | None:
         """The user that a request of this one names; None where it names none."""

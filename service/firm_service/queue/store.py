@@ -91,6 +91,7 @@ SAVE = """\
 UPDATE task SET (is_held, is_cancelled, failures, lost, outcome, status, reason, ended, attempts, sum)
 = (?, ?, ?, ?, ?, ?, ?, ?, ?, ?) WHERE number = ? AND idx = ?"""
 Change = tuple[str, Sequence[tuple[Any, ...]]]  # a statement, and the values of each time it is made
+Changed = dict[int, set[int]]  # indexes of tasks, by the submission's number
 Result = TypeVar("Result")
 
 
@@ -110,6 +111,7 @@ class Store:
         self._is_ahead = False  # memory has what a commit that failed has lost
         self.on_failure: Callable[[], None] = lambda: None
         self.on_damage: Callable[[Fault], None] = lambda fault: None
+        self.on_commit: Callable[[Changed], None] = lambda changed: None
         self._writer = ThreadPoolExecutor(1, "store")
         self._reader = ThreadPoolExecutor(1, "reader")
         self._lister = ThreadPoolExecutor(1, "lister")
@@ -123,6 +125,8 @@ class Store:
         self._number = self._last = self._live = 0  # fields of the next commit's `Point`
         self._seals: dict[tuple[str, str], int] = {}  # of agents, marks and the lease, by table and key
         self._open: list[Change] = []  # what the next commit writes
+        self._changed: Changed = {}  # the tasks of these changes
+        self._changing: Changed = {}  # the same of the commit that is under way
         self._spent: dict[int, tuple[int, float, float]] = {}  # the same of spending, by user
         self._next: asyncio.Future[None] | None = None  # that commit
         self._current: asyncio.Future[None] | None = None  # the one that is under way
@@ -265,6 +269,7 @@ class Store:
             rows = [(number, place, need.number, need.index, int(need.is_ok)) for place, need in enumerate(needs)]
             self._write(ADD["need"], sealed("need", rows))
         self._add_tasks(submission)
+        self._changed[number] = set(submission.tasks)
         self._last = max(self._last, number)
 
     def _add_tasks(self, submission: Submission) -> None:
@@ -290,6 +295,7 @@ class Store:
         self._write(SAVE, [(*row[2:], *row[:2]) for row in rows])
         for task, row in zip(changed, rows):
             task.seal = self._count(task.seal, row[-1] if task.is_live else 0)
+            self._changed.setdefault(task.submission.number, set()).add(task.index)
 
     def save_attempt(self, attempt: Attempt) -> None:
         """Writes an attempt as it is now."""
@@ -298,6 +304,7 @@ class Store:
         last = (attempt.ended, attempt.seconds, plain(attempt.outcome), attempt.status, attempt.reason, attempt.output)
         (row,) = sealed("attempt", [(*first, *last, attempt.host, int(attempt.is_kept), attempt.runs_as)])
         self._write(REPLACE["attempt"], [row])
+        self._changed.setdefault(attempt.name.number, set()).add(attempt.name.index)
         attempt.seal = self._count(attempt.seal, row[-1] if attempt.is_open else 0)
 
     def save_agent(self, name: str, agent_id: str, machines: dict[str, int]) -> None:
@@ -363,6 +370,7 @@ class Store:
         if self._current is not None or self._next is None:
             return
         changes, self._open = self._open, []
+        self._changing, self._changed = self._changed, {}
         changes.append((REPLACE["spent"], sealed("spent", self._spent.values())))
         self._spent.clear()
         self._number += 1
@@ -393,6 +401,7 @@ class Store:
         error = done.exception()
         if error is None:
             current.set_result(None)
+            self.on_commit(self._changing)
             self._hand_over()
             return
         self._require_whole(error)
@@ -401,6 +410,7 @@ class Store:
         self.why_bad = f"{self.path}: {error}"
         last, self._next = self._next, None
         self._open.clear()
+        self._changed.clear()
         self._spent.clear()
         for future in (current, last):
             if future is not None:

@@ -6,9 +6,12 @@ import os
 import pwd
 import re
 import socket
+from collections.abc import Iterable
+from contextlib import suppress
 from dataclasses import dataclass
 
 from ..sight import ROOT, Peer
+from .threads import Threads
 
 MOST_NAME = 16  # letters, of a job in firm
 MOST_KNOWN = 65_536  # users whose names are kept
@@ -74,6 +77,16 @@ def is_known(number: int) -> bool:
 def presume(number: int) -> None:
     """Has a user no other name than the number, until a look-up has an end."""
     _names.setdefault(number, str(number))
+
+
+async def know(threads: Threads, user: int, numbers: Iterable[int]) -> None:
+    """Look up names of users for one of them, which may hang: one that is not known in time has its number for now."""
+    unknown = [number for number in set(numbers) if not is_known(number)]
+    if unknown:
+        with suppress(TimeoutError):
+            await threads.do(user, lambda: [*map(look_up, unknown)])
+        for number in unknown:
+            presume(number)
 
 
 def number_of(name: str) -> int | None:

@@ -3,7 +3,6 @@
 from __future__ import annotations
 
 import asyncio
-import re
 import time
 from collections import defaultdict
 from collections.abc import AsyncIterator, Iterator, Sequence
@@ -21,7 +20,7 @@ from prometheus_client.registry import Collector
 
 from ..address import LOOPBACK, Address
 from ..faults import Faults
-from ..web import PAGE, Gate, Pages, Route
+from ..web import Gate, Pages, Route, page_text
 from .agents import Agents
 from .core import Core
 from .day import Day, day_of
@@ -40,15 +39,6 @@ COMMAND_LETTERS = 80
 # Seconds before a day is read again: at least; this multiple of the time that reading took; at most.
 DAY_AGE_SECONDS, READ_SHARE, LONGEST_DAY_AGE = 10.0, 50, 3_600.0
 TEMPLATE = Path(__file__).parents[1] / "queue.html"
-
-
-def page_text() -> str:
-    """The page, with the style and the helpers of firmd's."""
-    text, own = TEMPLATE.read_text("utf-8"), PAGE.read_text("utf-8")
-    for mark, pattern in (("{{style}}", r"<style>\n(.*?)</style>"), ("{{helpers}}", r"// Helpers\.\n(.*?)// End of")):
-        (part,) = re.findall(pattern, own, re.S)
-        text = text.replace(mark, part)
-    return text
 
 
 def head_of(command: Sequence[str]) -> str:
@@ -135,7 +125,7 @@ class QueueSite(Pages):
 
     def __init__(self, parts: Parts, faults: Faults) -> None:
         # Browsers reach the socket by a port of the loopback that ssh or a proxy forwards.
-        super().__init__(Address(LOOPBACK, 0), page_text(), faults, asyncio.Lock())
+        super().__init__(Address(LOOPBACK, 0), page_text(TEMPLATE), faults, asyncio.Lock())
         self._parts, self._lists = parts, Lists(parts.core, parts.agents)
         self._registry = CollectorRegistry()
         self._registry.register(QueueCollector(parts.core, parts.agents, parts.tenant))

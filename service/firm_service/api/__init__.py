@@ -1,0 +1,1 @@
+"""The API: HTTP and JSON for users, operators, programs and browsers."""
