@@ -12,7 +12,7 @@ from string import ascii_lowercase
 
 from harness.checks import require
 from harness.deployed import Book, Spec, Submission, Task, backlog, books, rows
-from firm_service.queue.placeholders import Placeholders
+from firm_service.queue.placeholders import Placeholders, newest_letters
 from queue_kills import Plan, Submitter, judge_all, kill_one
 from queue_kit import FOREVER, LIMIT_SECONDS, Case, Client, Setup, Size, StandIn, asked_of_firm
 from queue_tables import book_of
@@ -266,6 +266,8 @@ def table_of_rows() -> None:
         placeholders = of(book, machines)
         row = placeholders.choose(task, placeholders.rows_of(task.name, task, book))
         require((task.firm, row) == (expected, book.tasks.get(expected)), f"{letters} {found} {attempt}: {task.firm}")
+        if machines is not OPEN:  # a reader of firm's rows alone doesn't know which machines are
+            require(newest_letters(task, book) == task.letters, f"{letters} {found} {attempt}: another row to readers")
 
 
 def of(book: Book, machines: backlog.Machines) -> Placeholders:

@@ -218,7 +218,7 @@ def words_are_judged(found: Cluster) -> None:
         (
             ["echo", "--hold"],
             2,
-            "an option stands behind 'echo'; it belongs before the command, or -- does: firm-submit ..",
+            "an option stands behind 'echo'; it belongs before the command, or -- does: firmctl ..",
         ),
         ([], 2, "name a command"),
         (["--file", "/nonexistent"], 2, "cannot read /nonexistent"),

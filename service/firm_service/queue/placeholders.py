@@ -121,8 +121,13 @@ def newest_letters(task: Task, book: Book) -> str:
     where its attempt is, else of the newest."""
     named = {letters: book.tasks.get(task.name.in_firm(letters)) for letters in FIRST_LETTERS}
     rows = {letters: row for letters, row in named.items() if row is not None and row.job == task.submission.job}
-    machine = task.open_attempt.machine if task.open_attempt is not None else None
-    return max(rows, key=lambda one: (rows[one].machine == machine is not None, rows[one].line), default="")
+    attempt = task.open_attempt
+
+    def rank(letters: str) -> tuple[bool, int]:
+        row = rows[letters]
+        return attempt is not None and row.machine == attempt.machine, row.line
+
+    return max(rows, key=rank, default="")
 
 
 def open_costs(machines: Machines, book: Book) -> Iterator[int]:
