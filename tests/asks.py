@@ -673,24 +673,22 @@ def past_rounds_are_bounded() -> None:
             sys.executable = python
 
 
-def snapshots_go() -> None:
+def snapshots_go(setup: Setup) -> None:
     """A snapshot that goes while a past round is looked for, with the lines behind it, is no damage of the journal."""
-    with tempfile.TemporaryDirectory(prefix="firm-") as name:
-        folder, real = Path(name), past.starts
-        journal = folder / "journal"
-        journal.mkdir()
-        (folder / "roster.csv").write_bytes(ROSTER)
-        (journal / "00000001.lines").write_bytes(b"alpha machine m 1\nalpha round\n")
-        (folder / "id").write_text("0123456789abcdef\n")
-        gone = past.Start(service_states.Opening(folder / "gone", True), records.Base(7, 9, 99, 0), b"")
-        opened = past.Start(service_states.Opening(folder / "roster.csv"), records.BEGINNING, b"")
-        found = iter([[gone], [opened]])
+    with setup.daemon(roster=ROSTER) as daemon:
+        with daemon.start().client() as client:
+            for line in (b"alpha machine m 1", b"alpha round"):
+                client.ask(line)
+        daemon.stop()
+        gone = past.Start(service_states.Opening(daemon.state / "gone", True), records.Base(7, 9, 99, 0), b"")
+        opened = past.Start(service_states.Opening(daemon.state / "roster.csv"), records.BEGINNING, b"")
+        found, real = iter([[gone], [opened]]), past.starts
         past.starts = lambda folder: iter(next(found))
         try:
-            answer = past.before_now(folder, TENANT, 2)
+            answer = past.before_now(daemon.state, TENANT, 2)
         finally:
             past.starts = real
-        require((answer["line"], book_of(answer["text"]).machines) == (1, {"m": 1}), answer)
+    require((answer["line"], book_of(answer["text"]).machines) == (1, {"m": 1}), answer)
 
 
 async def ask_at_once(folder: Path) -> None:
@@ -722,13 +720,13 @@ QUICK: list[Callable[[], None]] = [
     programs_are_bounded,
     questions_take_turns,
     past_rounds_are_bounded,
-    snapshots_go,
 ]
 OVER_FIRMD: list[Callable[[Setup], None]] = [
     lines_do_what_was_said,
     drains_by_firmctl,
     least_weights,
     past_rounds_are_kept,
+    snapshots_go,
     past_rounds_by_firmctl,
     questions_are_refused,
 ]

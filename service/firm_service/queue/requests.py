@@ -70,7 +70,6 @@ tasks: {"ask": "tasks", "user": null|NAME, "job": null, "states": null|[..], "ta
   reason says why it is not further: `waits for 11`, `no agent has the machine m3`, `agent a1 is silent for 12 s`,
   `tried again in 3 s`, `no free slot`, ..; of an ended one why: `signal 9`, `no such folder: /x`, ..
   With "start" each row has "start": t|null, at which the queue estimates that a waiting task starts.
-
 ps: {"ask": "ps"} -> {"ps": TEXT, "more": 0}: the table that `firmctl ps` prints of the same, up to 100,000 rows.
 
 task: {"ask": "task", "task": "12_4"} -> {"task": {ROW.., "spec": {the submission's fields}, "attempts": [ATTEMPT, ..]}}
