@@ -119,7 +119,7 @@ def turns(setup: Setup) -> None:
         for _ in range(8):
             client.submit(*FOREVER)
         case.until(lambda: len(case.world.running()) == 5, "the other machine is full", SOON_SECONDS)
-        time.sleep(QUIET_SECONDS)
+        time.sleep(3 * QUIET_SECONDS)  # what was given again before it was full may change places with others once
         before, processes = commands_of(case), len(case.world.processes)
         time.sleep(5 * QUIET_SECONDS)
         require(commands_of(case) - before <= 4, f"{commands_of(case) - before} commands")

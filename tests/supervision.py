@@ -238,7 +238,7 @@ def leaves_its_group() -> None:
         case.until(lambda: case.events("running") and case.text("a.log"), "a runs")
         old = case.processes()["a"]
         group = claims_of(case)[0]["group"]
-        require(Path(f"{group}/cgroup.procs").read_text() == "", "it has left its cgroup")
+        case.until(lambda: Path(f"{group}/cgroup.procs").read_text() == "", "it has left its cgroup")
         os.kill(case.supervisor("a", 1), signal.SIGKILL)
         case.until(lambda: case.text("a.log").count("begin") == 2, "a begins again")
         require(not any(map(is_there, old)), "what the supervisor left is still there")
