@@ -16,6 +16,7 @@ import os
 import re
 import shutil
 import signal
+import socket
 import ssl
 import subprocess
 import sys
@@ -444,6 +445,26 @@ def try_ask(case: Case, ask: str, fields: Json) -> Json:
         return client.try_ask(ask, **fields)
 
 
+def closed_folders(setup: Setup) -> None:
+    """A socket for everybody gives no rights to a user whom an outer folder keeps from it. A tenant that firm has not
+    is not there for others."""
+    if os.geteuid():
+        raise Skipped("it needs root, to be another user")
+    with site(setup) as served, closing(socket.socket(socket.AF_UNIX)) as lines:
+        folder = served.case.folder / "outer" / "inner"
+        folder.mkdir(parents=True)
+        lines.bind(str(folder / "lines"))
+        (folder / "lines").chmod(0o666)
+        served.kill()
+        served.options.append(f"--lines=other={folder / 'lines'}")
+        served.start()
+        none, away = (404, "no-such-tenant"), (503, "not-there")
+        for outer, inner, refusal in ((0o755, 0o755, away), (0o755, 0o700, none), (0o700, 0o755, none)):
+            folder.parent.chmod(outer)
+            folder.chmod(inner)
+            asked_as(ANN, served, "GET", "/v1/tenants/other").refused(*refusal)
+
+
 def tokens(setup: Setup) -> None:
     """Over TLS a token or a certificate gives a user, a role and tenants, until its line is removed."""
     with site(setup) as served:
@@ -620,7 +641,8 @@ def methods_and_kinds(served: Site) -> None:
             line = f"{twice}\r\n".encode()
             connection.sendall(b"GET /v1/status HTTP/1.1\r\nHost: localhost\r\n" + 2 * line + b"\r\n")
             require(b" 400 " in connection.recv(100), f"{twice}, twice")
-    require(served.ask("HEAD", "/v1/status").status == 200, "HEAD")
+    found = served.ask("HEAD", "/v1/status")
+    require((found.status, found.headers["x-content-type-options"]) == (200, "nosniff"), f"HEAD: {found}")
 
 
 # Connections, ends, and the page.
@@ -748,6 +770,7 @@ def main() -> int:
         logs,
         events,
         rights,
+        closed_folders,
         tokens,
         bad_requests,
         mixed,
