@@ -41,6 +41,7 @@ OPERATIONS = ("get", "post", "put", "delete", "patch", "head")
 NO_TASK = {"tasks": ["9999"]}
 MANY = 1_200  # tasks, more than a page has
 TLS_PORT = "8443"  # of the page's lines
+STREAMS = 40  # more than a user may have
 END_OF_STREAM = 28  # curl's status at --max-time
 CURL = """\
 #!/bin/sh
@@ -293,7 +294,8 @@ def all_pages(served: Site, kind: str, query: str) -> Iterator[Json]:
 
 
 def logs(setup: Setup) -> None:
-    """A log that is followed has what is written until its task ends, and then ends."""
+    """A log that is followed has what is written until its task ends, and then ends; one that its client has left takes
+    no room."""
     with site(setup) as served:
         served.submit("x")
         agent = run_one(served.case, "1")
@@ -304,6 +306,14 @@ def logs(setup: Setup) -> None:
             with open(served.case.folder / "output", "a") as output:
                 output.write("more\n")
             require(answer.read(5) == b"more\n", "what is written meanwhile")
+            for _ in range(STREAMS):
+                with closing(connected(served.socket)) as gone:
+                    path = served.of("tasks/1/log?follow=true")
+                    gone.sendall(f"GET {path} HTTP/1.1\r\nHost: localhost\r\n\r\n".encode())
+                    answered = b""
+                    while b"said" not in answered and b"429" not in answered:
+                        answered += gone.recv(1_000)
+            served.case.until(lambda: served.ask("GET", served.of("tasks/1/log")).status == 200, "room again")
             end_one(agent)
             require(answer.read() == b"", "its end")
         for path, status, name in (
