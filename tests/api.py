@@ -16,6 +16,7 @@ import os
 import re
 import shutil
 import signal
+import socket
 import ssl
 import subprocess
 import sys
@@ -40,6 +41,7 @@ OPERATIONS = ("get", "post", "put", "delete", "patch", "head")
 NO_TASK = {"tasks": ["9999"]}
 MANY = 1_200  # tasks, more than a page has
 TLS_PORT = "8443"  # of the page's lines
+STREAMS = 40  # more than a user may have
 END_OF_STREAM = 28  # curl's status at --max-time
 CURL = """\
 #!/bin/sh
@@ -292,7 +294,8 @@ def all_pages(served: Site, kind: str, query: str) -> Iterator[Json]:
 
 
 def logs(setup: Setup) -> None:
-    """A log that is followed has what is written until its task ends, and then ends."""
+    """A log that is followed has what is written until its task ends, and then ends; one that its client has left takes
+    no room."""
     with site(setup) as served:
         served.submit("x")
         agent = run_one(served.case, "1")
@@ -303,6 +306,14 @@ def logs(setup: Setup) -> None:
             with open(served.case.folder / "output", "a") as output:
                 output.write("more\n")
             require(answer.read(5) == b"more\n", "what is written meanwhile")
+            for _ in range(STREAMS):
+                with closing(connected(served.socket)) as gone:
+                    path = served.of("tasks/1/log?follow=true")
+                    gone.sendall(f"GET {path} HTTP/1.1\r\nHost: localhost\r\n\r\n".encode())
+                    answered = b""
+                    while b"said" not in answered and b"429" not in answered:
+                        answered += gone.recv(1_000)
+            served.case.until(lambda: served.ask("GET", served.of("tasks/1/log")).status == 200, "room again")
             end_one(agent)
             require(answer.read() == b"", "its end")
         for path, status, name in (
@@ -442,6 +453,26 @@ def proxy(setup: Setup) -> None:
 def try_ask(case: Case, ask: str, fields: Json) -> Json:
     with case.client() as client:
         return client.try_ask(ask, **fields)
+
+
+def closed_folders(setup: Setup) -> None:
+    """A socket for everybody gives no rights to a user whom an outer folder keeps from it. A tenant that firm has not
+    is not there for others."""
+    if os.geteuid():
+        raise Skipped("it needs root, to be another user")
+    with site(setup) as served, closing(socket.socket(socket.AF_UNIX)) as lines:
+        folder = served.case.folder / "outer" / "inner"
+        folder.mkdir(parents=True)
+        lines.bind(str(folder / "lines"))
+        (folder / "lines").chmod(0o666)
+        served.kill()
+        served.options.append(f"--lines=other={folder / 'lines'}")
+        served.start()
+        none, away = (404, "no-such-tenant"), (503, "not-there")
+        for outer, inner, refusal in ((0o755, 0o755, away), (0o755, 0o700, none), (0o700, 0o755, none)):
+            folder.parent.chmod(outer)
+            folder.chmod(inner)
+            asked_as(ANN, served, "GET", "/v1/tenants/other").refused(*refusal)
 
 
 def tokens(setup: Setup) -> None:
@@ -620,7 +651,8 @@ def methods_and_kinds(served: Site) -> None:
             line = f"{twice}\r\n".encode()
             connection.sendall(b"GET /v1/status HTTP/1.1\r\nHost: localhost\r\n" + 2 * line + b"\r\n")
             require(b" 400 " in connection.recv(100), f"{twice}, twice")
-    require(served.ask("HEAD", "/v1/status").status == 200, "HEAD")
+    found = served.ask("HEAD", "/v1/status")
+    require((found.status, found.headers["x-content-type-options"]) == (200, "nosniff"), f"HEAD: {found}")
 
 
 # Connections, ends, and the page.
@@ -748,6 +780,7 @@ def main() -> int:
         logs,
         events,
         rights,
+        closed_folders,
         tokens,
         bad_requests,
         mixed,

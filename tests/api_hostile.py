@@ -9,6 +9,7 @@ from __future__ import annotations
 
 import argparse
 import json
+import os
 import random
 import re
 import socket
@@ -25,8 +26,8 @@ from api import run_one
 from api_kit import Connection, Site, certificate, connected, port_of, site
 from firmd_kit import memory_kilobytes
 from harness import program
-from harness.checks import Check, Suite, require, run_script, run_suites
-from queue_kit import LIMIT_SECONDS, Setup
+from harness.checks import Check, Skipped, Suite, require, run_script, run_suites
+from queue_kit import ANN, LIMIT_SECONDS, Setup, as_user_does
 from queue_page import hostile
 
 FUZZED, QUICK_SECONDS, LEAST = 10_000, 45.0, 300  # requests; for them with --quick, and how many they are at least
@@ -305,6 +306,29 @@ def is_refused(connection: socket.socket) -> bool:
     return True
 
 
+def crowded_queue(setup: Setup) -> None:
+    """A user who may have no further connection to the queue leaves none of firm-api's open there either."""
+    if os.geteuid():
+        raise Skipped("it needs root, to be another user")
+    with site(setup) as served:
+        files = Path(f"/proc/{served.reads_process()}/fd")
+        before = len([*files.iterdir()])
+        statuses = as_user_does(ANN, partial(asked_in_crowd, served))
+        require(statuses == [429] * ASKED, statuses)
+        more = len([*files.iterdir()]) - before
+        require(more < ASKED // 4, f"{more} more files are open after {ASKED} refusals")
+
+
+def asked_in_crowd(served: Site) -> list[int]:
+    """Hold all connections to the queue that a user may have. Return the statuses of requests beside them."""
+    held = [connected(served.case.socket) for _ in range(CLIENTS)]
+    try:
+        return [served.ask("GET", served.of("machines")).status for _ in range(ASKED)]
+    finally:
+        for connection in held:
+            connection.close()
+
+
 def slow_readers(setup: Setup) -> None:
     """A stream whose client reads nothing is closed, and takes little memory meanwhile."""
     with small_site(setup) as served:
@@ -421,7 +445,7 @@ def main() -> int:
     program.add_program(parser)
     given = parser.parse_args()
     setup = Setup(given.program, given.quick, given.seed)
-    checks = [fuzz, closed_in_time, slow_readers, many_needs, lost_queue, late_queue, tls_floods]
+    checks = [fuzz, closed_in_time, crowded_queue, slow_readers, many_needs, lost_queue, late_queue, tls_floods]
     found: dict[str, Check] = {check.__name__.replace("_", " "): partial(check, setup) for check in checks}
     for work in (slow_heads, slow_bodies, mute, pipelining, endless_heads, bombs, comers):
         found[work.__name__.replace("_", " ")] = partial(beside, work, setup)

@@ -43,8 +43,10 @@ class Peer:
         return bool(found.st_mode & (right << 3 if found.st_gid in self.groups else right))
 
     def may_connect(self, path: Path) -> bool:
+        """Whether this peer may write a socket, and search each folder above it."""
         with suppress(OSError):
-            return self.may(path, stat.S_IWOTH) and self.may(path.parent, stat.S_IXOTH)
+            if self.may(path, stat.S_IWOTH):
+                return all(self.may(folder, stat.S_IXOTH) for folder in Path(os.path.realpath(path)).parents)
         return False
 
 

@@ -12,6 +12,7 @@ import asyncio
 import logging
 import math
 import re
+import select
 import socket
 from collections import Counter
 from collections.abc import Callable, Hashable
@@ -125,6 +126,14 @@ class BoundedConnection(asyncio.BufferedProtocol):
     def is_idle(self) -> bool:
         """Whether nobody loses an answer with it."""
         return self.is_stream or not math.isinf(self.ends)
+
+    @property
+    def is_left(self) -> bool:
+        """Whether the client has closed the connection. While an answer is made nothing is read that would tell."""
+        is_tls = self.transport.get_extra_info("ssl_object") is not None
+        found = select.poll()
+        found.register(self.transport.get_extra_info("socket"), select.POLLRDHUP if is_tls else select.POLLHUP)
+        return bool(found.poll(0))
 
     def end_after(self, seconds: float) -> None:
         self.ends = asyncio.get_running_loop().time() + seconds
@@ -260,8 +269,9 @@ class BoundedConnections:
             await asyncio.sleep(AGAIN_SECONDS)
 
     def _look(self) -> None:
-        """Close connections whose time is over, some at a time."""
-        late = [gate for gate in self.open.values() if gate.ends < self._loop.time()]
+        """Close connections whose time is over, and streams that nobody reads any more, some at a time."""
+        now = self._loop.time()
+        late = [gate for gate in self.open.values() if gate.ends < now or gate.is_stream and gate.is_left]
         for gate in late[:CLOSED_AT_ONCE]:
             gate.transport.abort()
         self._loop.call_later(LOOK_SECONDS / 20 if len(late) > CLOSED_AT_ONCE else LOOK_SECONDS, self._look)

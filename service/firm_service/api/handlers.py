@@ -40,7 +40,7 @@ HEADERS = {
     "Cross-Origin-Resource-Policy": "same-origin",
     "Referrer-Policy": "no-referrer",
     "Server": "firm-api",
-    "X-Content-Type-ApiOptions": "nosniff",
+    "X-Content-Type-Options": "nosniff",
 }
 PAGE = Path(__file__).with_name("page.html")
 MAX_EVENT_ROWS, EVENT_PAUSE, QUIET_SECONDS = 500, 0.2, 15.0  # of one write of events; between two; until a comment
@@ -139,7 +139,8 @@ class Api:
     async def tenant(self, call: ApiCall) -> web.StreamResponse:
         tenant, row = self._tenant(call), self._tenant_row(call.values["tenant"], call.caller)
         if tenant.queue is None or not call.rights.queue:
-            return web.json_response({**row, "states": {"running": row["running"], "waiting": row["waiting"]}})
+            counts = summary_of(tenant.book)
+            return web.json_response({**row, "states": {key: counts[key] for key in ("running", "waiting")}})
         found = await tenant.queue.ask(call.user, "status")
         return web.json_response({**{key: found[key] for key in found if key not in ("tenant", "version")}, **row})
 

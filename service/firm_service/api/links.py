@@ -99,9 +99,7 @@ class QueueLink:
                     await found.close()
                     found = None
                 if found is None:
-                    found = await Pipeline.connect(self._path)
-                    await greet(found, user)
-                    self._pipelines[line] = found
+                    found = self._pipelines[line] = await greeted(self._path, user)
         self._used[line] = time.monotonic()
         return found
 
@@ -122,6 +120,17 @@ def read(line: bytes) -> Json:
 async def greet(link: Pipeline | Channel, user: User) -> None:
     """Have the queue take a connection as this user's."""
     read(await link.exchange(encoded({"ask": "as", "user": user.number, "operator": user.is_operator})))
+
+
+async def greeted(path: Path, user: User) -> Pipeline:
+    """Return a new connection that the queue takes as this user's. One that it refuses is closed."""
+    found = await Pipeline.connect(path)
+    try:
+        await greet(found, user)
+    except BaseException:
+        await found.close()
+        raise
+    return found
 
 
 def away(lost: Lost) -> Refused:
