@@ -444,7 +444,7 @@ def filled_journal(setup: Setup) -> None:
                 client.send(text * 300)
                 replies = [client.reply() for _ in range(300)]
             require(replies[-1] == b"! line-too-long", replies[-1])
-            for reply in (client.ask(line[:-1]), client.ask(b"alpha round" + b" " * 100)):
+            for reply in (client.ask(line[:-1]), client.ask(b"alpha round" + b" " * 200)):
                 require(reply.startswith(b"? tenant-journal-full: "), reply)
             require(len(daemon.journal()) <= 10_000, f"{len(daemon.journal())} bytes of the journal")
             for number in range(1, 51):

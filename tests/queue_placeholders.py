@@ -104,6 +104,7 @@ def full_elsewhere(setup: Setup) -> None:
         time.sleep(QUIET_SECONDS)
         require(commands_of(case) - before <= 1, f"{commands_of(case) - before} commands")
         client.ask("cancel", tasks=["2"])
+        case.until(lambda: "2" not in case.world.running(), "its slot is free")
         case.until(lambda: len(case.world.running()) == 2, "one of them runs", SOON_SECONDS)
         case.agent("a1", agent.disk, m1=4)
         case.until(lambda: len(case.world.running()) == 3, "so does the other one", SOON_SECONDS)

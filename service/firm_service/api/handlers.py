@@ -261,14 +261,15 @@ class Api:
     # Changes
 
     async def submit(self, call: ApiCall) -> web.StreamResponse:
-        key, link = call.body.get("key") or new_key(), self._queue(call)
-        made = await link.ask(call.user, "submit-all", key=key, submissions=call.body.pop("submissions"))
+        key, link = call.body.get("key"), self._queue(call)
+        words = {"key": new_key() if key is None else key, "submissions": call.body.pop("submissions")}
+        made = await link.ask(call.user, "submit-all", **words)
         is_again = bool(made and made[0].get("again"))
         return web.json_response({"submissions": made}, status=200 if is_again else 201)
 
     async def cancel(self, call: ApiCall) -> web.StreamResponse:
         ask = call.request.path.rpartition("/")[2]
-        names = {name: call.body.get(name) or [] for name in ("tasks", "jobs")}
+        names = {name: call.body[name] for name in ("tasks", "jobs") if call.body.get(name) is not None}
         return web.json_response(await self._queue(call).ask(call.user, ask, **names))
 
     hold = release = cancel
