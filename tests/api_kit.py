@@ -18,6 +18,7 @@ from dataclasses import dataclass, field
 from pathlib import Path
 from typing import Any, NamedTuple
 
+from firmd_kit import connect
 from harness.checks import Skipped, require
 from harness.deployed import SERVICE
 from harness.waiting import pause_since
@@ -81,7 +82,7 @@ def connected(place: Path | int, context: ssl.SSLContext | None = None) -> socke
         return context.wrap_socket(found, server_hostname="localhost") if context is not None else found
     found = socket.socket(socket.AF_UNIX)
     found.settimeout(LIMIT_SECONDS)
-    found.connect(str(place))
+    connect(found, place)
     return found
 
 
