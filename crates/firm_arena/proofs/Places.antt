@@ -1,4 +1,4 @@
--- What is said of each of many places: one place's part is taken out, and another put there.
+-- Statements about each of many places, and how one place's part is replaced by another.
 use mathlib.Core.Path.{◌≡◌, refl, sym, ap, ◌∙◌}
 use mathlib.Core.Logic.{inl, inr}
 use mathlib.Core.List.{[], ◌∷◌}
@@ -14,7 +14,7 @@ use Rattle.std.specs.Prelude.{◌≢◌}
 use Rattle.std.proofs.lemmas.Bool.{cases_eq}
 use Rattle.firm_arena.specs.inner.Ownership.{each_place}
 
--- the same of each place but one, of which nothing is said
+-- the same of each place but one
 abbrev pub but_for : ℕ → (ℕ → Fml) → ℕ → Fml
 but_for zero says zero = ftrue
 but_for zero says (suc i) = says (suc i)

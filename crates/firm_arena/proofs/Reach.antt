@@ -1,4 +1,4 @@
--- What a `&` to a block reaches: it is had of the block, may be copied, and may cross threads where the values may.
+-- The reach of a `&` to a block: it comes from the block, may be copied, and may cross threads where the values may.
 use Prim.Native.Nat.{ℕ, zero, suc, ◌+◌, ◌*◌}
 use mathlib.Core.List.{List}
 use seplogic.Ra.Ura.{Ura}

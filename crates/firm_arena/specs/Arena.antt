@@ -1,4 +1,4 @@
--- What a contract sees of an `Arena`: a map from ids to values of at most `capacity` entries, and a counter.
+-- The value of an `Arena` in contracts: a map from ids to values of at most `capacity` entries, and a counter.
 use Rattle.std.specs.Prelude.{◌≡◌, ◌≢◌, ℕ, ◌+◌, ◌^◌, ◌<◌, ◌≤◌, ◌==◌, ◌↔◌, List, [], ◌∷◌, map, length, Option, Some}
 use Rattle.std.specs.Prelude.{None, is_some, IsSome, count_by, slice_index_or, slice_set, replicate, Contains, refl}
 use Rattle.std.specs.Prelude.{if◌then◌else◌}

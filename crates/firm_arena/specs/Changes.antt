@@ -1,4 +1,4 @@
--- What callers may use of a changed arena: what an id finds in it, what lies at a place, and how much it holds.
+-- Laws for callers about a changed arena: the value of an id, the content of a place, and the number of values.
 use Rattle.std.proofs.Common.{◌≡◌, ◌≢◌, ℕ, ◌+◌, ◌^◌, ◌<◌, ◌≤◌, ◌==◌, ◌⊎◌, inl, inr, Bool, true, false, cond, List, []}
 use Rattle.std.proofs.Common.{◌∷◌, map, length, get_or, set, Option, Some, None, option_map, is_some, IsSome, count_by}
 use Rattle.std.proofs.Common.{replicate, refl, sym, ap, ap₂, ◌∙◌, subst, arith, length-set, eq-eqb, ne_eqb}
@@ -101,7 +101,7 @@ module _ {X : Type 0} where
   pub find-held : (a : Arena X) (id : Id) (v : X) → find a id ≡ Some v → held_at a id.place ≡ Some (id.stamp, v)
   find-held a id v found = value-held id.stamp (held_at a id.place) v found
 
-  -- what lies at a place under a stamp is found by that id
+  -- the value at a place under a stamp is that of the id
   pub held-find : (a : Arena X) (id : Id) (v : X) → held_at a id.place ≡ Some (id.stamp, v) → find a id ≡ Some v
   held-find a id v held =
       ap (value_under id.stamp) held ∙ cond-true (id.stamp == id.stamp) (Some v) None (eq-eqb id.stamp id.stamp refl)
@@ -227,7 +227,7 @@ module _ {X : Type 0} where
         | false ↦ refl
       ]
 
-  -- nothing is found at a vacant place
+  -- a vacant place has no value
   pub find-nothing : (a : Arena X) (id : Id) → held_at a id.place ≡ None → find a id ≡ None
   find-nothing a id nothing = ap (value_under id.stamp) nothing
 
@@ -349,7 +349,7 @@ module _ {X : Type 0} where
             (ne_eqb other.place id.place elsewhere)
       ]
 
-  -- a value taken is found no more, and what every other id finds stays
+  -- a value taken has no id any more, and every other id keeps its value
   pub find-without_own : (a : Arena X) (id : Id) → find (without a id.place) id ≡ None
   find-without_own a id =
       find-without a id.place id ∙ cond-true (id.place == id.place) None (find a id) (eq-eqb id.place id.place refl)
@@ -366,7 +366,7 @@ module _ {X : Type 0} where
             cond-false (other.place == id.place) None (find a other) (ne_eqb other.place id.place elsewhere)
       ]
 
-  -- a value put is found under its id, and what every other id finds stays
+  -- a value put belongs to its id, and every other id keeps its value
   pub find-put_own : (a : Arena X) (id : Id) (v : X) → id.place < capacity_of a → id.stamp ≡ a.counter
       → find (with_put a id.place v) id ≡ Some v
   find-put_own a id v below stamp =

@@ -1,4 +1,4 @@
--- What callers may use of the words in `Arena` and `Steps`.
+-- Laws for callers about the words in `Arena` and `Steps`.
 use Rattle.std.specs.Prelude.{◌≡◌, ◌≢◌, ◌⊎◌, ℕ, zero, suc, ◌+◌, ◌^◌, ◌<◌, ◌≤◌, true, false, cond, List, [], ◌∷◌, length}
 use Rattle.std.specs.Prelude.{Option, Some, None, is_some, IsSome, count_by, Contains, refl}
 use Rattle.std.proofs.Common.{sym, ap, ◌∙◌, inl, inr, get_or, set, arith, add-zero, length-set}
@@ -37,7 +37,7 @@ some_within (o ∷ ys) zero y found = omega arith
 some_within (o ∷ ys) (suc i) y found = omega (arith, some_within ys i y found)
 
 module _ {X : Type 0} where
-  -- a value under a stamp is found under that stamp, and under no other
+  -- a value under a stamp belongs to that stamp alone
   pub value_under-same : (stamp : ℕ) (value : X) → value_under stamp (Some (stamp, value)) ≡ Some value
   value_under-same stamp value =
       elim (eqb_tells stamp stamp) [ inl same ↦ rw same.0 | inr differs ↦ absurd (differs.1 refl) ]
@@ -82,7 +82,7 @@ module _ {X : Type 0} where
       ap (λ p. value_under id.stamp (get_or (set a.held place slot) p None)) same
       ∙ ap (value_under id.stamp) (get_or-set_same a.held place slot None within)
 
-  -- under another id than the one at its place nothing is found
+  -- another id than the one at its place has no value
   pub find-other_stamp : (a : Arena X) (id other : Id) → IsSome (find a id) → other ≢ id → other.place ≡ id.place
       → find a other ≡ None
   find-other_stamp a id other there differs same =

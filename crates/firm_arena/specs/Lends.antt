@@ -1,4 +1,4 @@
--- What an arena ends as, where a `&mut` to one of its values is returned.
+-- The arena after a `&mut` to one of its values ends.
 use Rattle.std.specs.Prelude.{Option}
 use Rattle.std.specs.Borrow.{LendsIf, Fml, RattleType, MutBor}
 use Rattle.firm_arena.specs.declared.Id.{Id}

@@ -1,4 +1,4 @@
--- What the calls of an arena do to it, one after the other.
+-- The effect of a sequence of calls on an arena.
 use Rattle.std.specs.Prelude.{ℕ, List, [], ◌∷◌, is_some, if◌then◌else◌}
 use Rattle.firm_arena.specs.declared.Id.{Id}
 use Rattle.firm_arena.specs.Arena.{Arena, find, with_put, without, with_value}

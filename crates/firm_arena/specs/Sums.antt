@@ -1,4 +1,4 @@
--- What callers may use of sums over the entries of an arena: what a change of a slot does to them.
+-- Laws for callers about sums over the entries of an arena: the effect of a change of one slot.
 use Rattle.std.proofs.Common.{inl, inr, ◌≡◌, ℕ, zero, suc, ◌+◌, ◌<◌, Option, Some, None, List, [], ◌∷◌, map, length}
 use Rattle.std.proofs.Common.{get_or, set, arith, refl, ap, subst}
 use Rattle.std.specs.List.{sum_by}

@@ -1,4 +1,4 @@
--- What no public clause cites: how a block of memory is owned and lent, and how its slots keep an arena's map.
+-- For proofs inside the crate: how a block of memory is owned and lent, and how its slots represent an arena's map.
 pub mod Slot
 pub mod SlotLends
 pub mod Block

@@ -53,7 +53,7 @@ impl<T> Block<T> {
         Block::allocate(alloc, capacity)
     }
 
-    /// `new`, of a size that was found to fit.
+    /// `new`, for a size that fits.
     fn allocate(alloc: &Global, capacity: u32) -> Result<Block<T>, AllocError>
         requires { FitsInBlock T.row capacity }
         ensures { IfOk result (λ block. block ≡ replicate capacity None) }

@@ -206,8 +206,8 @@ impl<T> Arena<T> {
         }
     }
 
-    /// A place behind those of all values. Places that were never written are behind it too, so that a pass over the
-    /// values need not go over all places.
+    /// A place above those of all values and above no place that was never written, so a pass over the values need
+    /// not visit all places.
     pub fn used(&self) -> u32
         ensures nothing { (place : ℕ) → result ≤ place → held_at self.now place ≡ None }
         ensures within { result ≤ capacity_of self.now }
@@ -215,7 +215,7 @@ impl<T> Arena<T> {
         self.used
     }
 
-    /// How many values are held.
+    /// Number of values in the arena.
     pub fn len(&self) -> u32
         ensures value { result ≡ len_of self.now }
         ensures map { IsBoundedMap self.now }
@@ -223,7 +223,7 @@ impl<T> Arena<T> {
         self.len
     }
 
-    /// How many more values fit.
+    /// Number of values that can still be added.
     pub fn room(&self) -> u32
         ensures value { result + len_of self.now ≡ capacity_of self.now }
         ensures map { IsBoundedMap self.now }
@@ -231,7 +231,7 @@ impl<T> Arena<T> {
         self.block.capacity() - self.len
     }
 
-    /// How many values fit.
+    /// Number of values that fit in all.
     pub fn capacity(&self) -> u32
         ensures value { result ≡ capacity_of self.now }
         ensures map { IsBoundedMap self.now }

@@ -1,4 +1,4 @@
-//! What an arena keeps at a place that was written: a link of the free list, or a value under its stamp.
+//! The content of a place that was written: a link of the free list, or a value under its stamp.
 ghost use Rattle.std.specs.Prelude.{◌≡◌, ◌+◌, ◌^◌, ◌<◌, Some, None, IfSome, IfNone, slice_index_or, slice_set, IsSome};
 ghost use Rattle.std.specs.Borrow.{sem};
 ghost use Rattle.firm_arena.specs.inner.Slot.{value_in, IsFreeAt, IsHeldAt, ReadsHeld, Claims};

@@ -192,7 +192,7 @@ module _ (views : List BellSight) (id : ℕ) (v x : BellSight) (at : get_elem? v
         exact = omega (arith, waiting, took, counts);
       })
 
--- the views with a new one behind them
+-- the views with a new one after them
 module _ (views : List BellSight) (x : BellSight) where
   each_snoc : (Is : BellSight → Type 0) → Is x → Each Is views → Each Is (views ++ x ∷ [])
   each_snoc Is p all j u e = ⊎_elim (λ t. all j u t) (λ t. subst Is t p) (at_snoc views x u j e)

@@ -15,17 +15,17 @@ use std::hint::spin_loop;
 use std::marker::Model;
 use std::sync::Wait;
 
-// How many times a worker looks for a round in vain before it rests. The last one awake goes on for some microseconds:
+// Number of looks in vain of a worker before it rests. The last one awake goes on for some microseconds:
 // in a stream of small rounds, each wake would cost as much. No worker yields: on a busy machine, one yield takes
 // longer than all the looks and the sleep.
 const LOOKS_BEFORE_REST: u32 = 16;
 
 const LOOKS_OF_LAST: u32 = 512;
 
-// How many rounds the queue has room for.
+// Number of rounds that fit the queue.
 const ROOM: u64 = 8;
 
-// How many of them may wait before each further one wakes a worker.
+// Number of rounds that may wait before each further one wakes a worker.
 const MOST_UNCALLED: u64 = 4;
 
 /// Wakes workers. A round wakes one at once only if all rest or `MOST_UNCALLED` rounds already wait. Otherwise the
@@ -258,7 +258,7 @@ impl Caller {
     }
 }
 
-/// What workers do.
+/// The stages of a worker.
 impl Bell {
     /// A worker that has just come.
     pub fn listener(&self) -> Listener

@@ -8,7 +8,7 @@
 //!
 //! # What is proved
 //!
-//! Each step on the bell's words keeps the rule of `specs/Bell.antt`, and makes of the seat that takes it what
+//! Each step on the bell's words keeps the rule of `specs/Bell.antt`, and changes the seat that takes it as
 //! `specs/Steps.antt` says. The rounds that wait are those that were counted and not taken. If more wait than are being
 //! put, then no worker rests, a wake is left, one is owed, or a caller or a woken worker has still to call one; and
 //! while one is owed, some caller has still to ring. For each wake that is left the kernel is called. Once the bell is

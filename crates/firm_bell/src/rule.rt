@@ -3,7 +3,7 @@
 use atomic_table::{Play, Seat, Table, TableRule};
 use std::alloc::Global;
 
-// Eight words fill a cache line, and each word below has a line of its own.
+// Eight words fill a cache line, so each word below has its own line.
 
 /// Counts the rounds that wait in the queue or are being put.
 pub(crate) const WAITING: usize = 0;

@@ -1,4 +1,4 @@
--- What attempts rule out, and what a choice rests on.
+-- Choices that attempts rule out, and the premises of a choice.
 use Rattle.std.proofs.Common.{◌≡◌, ℕ, suc, ◌+◌, ◌<◌, ◌≤◌, true, false, cond, eqb, List, ◌∷◌, ◌++◌, ◌⊎◌, []}
 use Rattle.std.proofs.Common.{append_assoc, length, Some, None, Option, refl, sym, ap, subst, arith, ⊎_elim}
 use Rattle.std.proofs.lemmas.Bool.{cases_Bool, cases_eq, cond-true, cond-false, eqb-true, eq-eqb, ne_eqb}

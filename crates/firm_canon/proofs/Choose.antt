@@ -1,4 +1,4 @@
--- Which choices are left for the next task: what each refusal of the search rules out.
+-- The choices left for the next task: those that each refusal of the search rules out.
 use Rattle.std.proofs.Common.{◌≡◌, ℕ, suc, ◌<◌, ◌≤◌, Bool, true, false, cond, List, length, arith, refl}
 use Rattle.std.proofs.Common.{sym, ap, ◌∙◌, ◌⊎◌, Option}
 use Rattle.firm_rules.specs.declared.rounds.Choice.{Choice}

@@ -1,4 +1,4 @@
--- Where the arcs of a task lead.
+-- The heads of a task's arcs.
 use Rattle.std.proofs.Common.{◌≡◌, ℕ, ◌<◌, Option, Some, None, length, refl, sym, ap, subst, ◌∙◌}
 use Rattle.std.specs.Prelude.{◌≢◌, IfSome, IfNone, IsSome}
 use Rattle.std.proofs.lemmas.Bool.{false≢true}

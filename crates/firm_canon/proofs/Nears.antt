@@ -1,4 +1,4 @@
--- What one task puts on its arcs: one unit in all.
+-- The flow of one task on its arcs: one unit in all.
 use Rattle.std.proofs.Common.{◌≡◌, ℕ, ◌+◌, ◌*◌, ◌<◌, ◌≤◌, ◌==◌, Bool, true, false, cond, eqb, ltb, List, ◌⊎◌, inl, inr}
 use Rattle.std.proofs.Common.{length, get_or, arith, refl, sym, ap, subst, ◌∙◌, ⊎_elim, Option, Some, None}
 use Rattle.std.specs.List.{list_any, position, position_or_len}

@@ -1,4 +1,4 @@
--- What holds of every arc of the network, arc by arc.
+-- Properties of every arc of the network, arc by arc.
 use Rattle.std.proofs.Common.{◌≡◌, ℕ, zero, suc, ◌*◌, ◌<◌, ◌≤◌, true, false, cond, eqb, ltb, List, [], ◌∷◌, ◌++◌}
 use Rattle.std.proofs.Common.{length, arith, sym, subst, ⊎_elim, Option, Some, None}
 use Rattle.std.specs.List.{All}

@@ -1,4 +1,4 @@
--- The longer prefix is kept.
+-- The longer prefix is preserved.
 use Rattle.std.proofs.Common.{◌≡◌, ℕ, ◌+◌, ◌<◌, List, [], ◌∷◌, ◌++◌, length, refl, sym, ap, subst, arith}
 use Rattle.firm_paths.specs.Network.{Arc, AreValid}
 use Rattle.firm_flow.specs.Flow.{IsWithinBounds, cost_of, carried}
@@ -15,7 +15,7 @@ use Rattle.firm_canon.proofs.Take.{added, lows_one, take_choice}
 use Rattle.firm_canon.proofs.Shown.{network_same}
 use Rattle.firm_canon.proofs.Tries.{view_is}
 
--- once the lower bounds hold the choice, the longer prefix is kept
+-- once the lower bounds hold the choice, the longer prefix is preserved
 pub kept_one : (v new : View) (price : ℕ → ℕ) (p : List Choice) (o : Choice) → Keeps v price p
     → length p < length v.case.tasks → IsChosen v p o
     → Shows new → IsSameCase v new → ((k : Key) → IsKeyOf v.case k → flows new k ≡ flows v k)

@@ -1,4 +1,4 @@
--- What is known of a net that shows a network is known of the network, and back.
+-- Facts carried over between a net and the network that it represents.
 use Rattle.std.proofs.Common.{◌≡◌, ℕ, zero, suc, ◌*◌, ◌<◌, ◌≤◌, List, [], ◌∷◌, ◌++◌, length, get_or, Some, refl, sym}
 use Rattle.std.proofs.Common.{ap, ap₂, ◌∙◌, arith, subst}
 use Rattle.std.specs.Prelude.{map, Contains}

@@ -47,7 +47,7 @@ goes_both old now new first then most one two fits = record {
 pub goes_more : (old now new : Choosing) (most : ℕ) → GoesOn old now most → GoesOn now new 0 → GoesOn old new most
 goes_more old now new most one two = goes_both old now new most 0 most one two (omega arith)
 
--- where so many searches may be made, more may
+-- a bound on searches may be raised
 pub goes_within : (old new : Choosing) (less most : ℕ) → GoesOn old new less → less ≤ most → GoesOn old new most
 goes_within old new less most goes fits = record {
   same = goes.same;

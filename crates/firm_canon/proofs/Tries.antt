@@ -1,4 +1,4 @@
--- What a turn keeps.
+-- Properties that a turn preserves.
 use Rattle.std.proofs.Common.{◌≡◌, ℕ, ◌*◌, List, [], ◌∷◌, ◌++◌, refl, sym, ap, subst, ◌∙◌, arith}
 use Rattle.std.specs.Prelude.{map}
 use Rattle.firm_net.specs.Net.{Net, IsArc, row_at}

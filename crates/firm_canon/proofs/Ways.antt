@@ -1,4 +1,4 @@
--- What is known where no way was found: the arc carries more in no flow as cheap, and where it is the next task's, no
+-- If there is no way, the arc carries more in no flow as cheap, and where it is the next task's, no
 -- unit is at its head that the task could follow.
 use Rattle.std.proofs.Common.{◌≡◌, ℕ, ◌+◌, ◌<◌, ◌≤◌, Bool, true, false, cond, List, [], length}
 use Rattle.std.proofs.Common.{Some, Option, arith, refl, sym, ap, subst, ◌∙◌, ◌⊎◌, inl, inr, ⊎_elim}
@@ -98,7 +98,7 @@ module _ (v : View) (price : ℕ → ℕ) (p : List Choice) (keeps : Keeps v pri
   abbrev cost_at : Node → ℕ
   cost_at node = price (spot_of v node)
 
-  -- the row that is found under a key
+  -- the row under a key
   pub named_is : (key : Key) (arc : ArcId) (row : Row) → IsKeyOf v.case key → arc ≡ v.arc key
       → row_at v.net arc ≡ Some row → named v (at key) ≡ arc_of (v.arc key) row
   named_is key arc row own is there =

@@ -1,4 +1,4 @@
--- How many searches were made, and how many looks they took.
+-- Numbers of searches and of their looks.
 use Rattle.std.specs.Prelude.{ℕ, ◌+◌, ◌*◌, ◌^◌, ◌≤◌}
 use Rattle.firm_paths.specs.Workspace.{Workspace, HasSearched}
 

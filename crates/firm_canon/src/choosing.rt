@@ -68,7 +68,7 @@ impl Choosing<'_> {
         flow_on(self.graph.net(), arc) > 0
     }
 
-    /// Begins a choice: the ways back are searched for once they are asked for.
+    /// Begins a choice: the ways back are searched for on demand.
     fn begin(&mut self)
         requires ready { IsReady self.old }
         ensures goes_on { GoesOn self.old self.new 1 }
@@ -78,7 +78,7 @@ impl Choosing<'_> {
         self.searched = false;
     }
 
-    /// Where the ways back end: at the next task or, where its unit is at the hub, at the hub.
+    /// The end of the ways back: the next task or, if its unit is at the hub, the hub.
     fn root(&self, at_hub: bool) -> NodeId
         requires ready { IsReady self.now }
         requires next { length (prefix self.now) < length (view self.now).case.tasks }
@@ -95,7 +95,7 @@ impl Choosing<'_> {
         row.tail()
     }
 
-    /// Searches for the ways back, if none were searched for: up to the one from this node, if there is one.
+    /// Searches for the ways back, unless that was done: up to the one from this node, if any.
     fn search_back(&mut self, node: NodeId, at_hub: bool)
         requires ready { IsReady self.old }
         requires next { length (prefix self.old) < length (view self.old).case.tasks }

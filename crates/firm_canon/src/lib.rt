@@ -1,6 +1,6 @@
 //! The choice of a round: `first_best` gives the first of a tenant's cheapest legal placements. It solves one
-//! minimum-cost flow, then fixes task after task; it lists no placements. A tenant asks it for the rounds for which no
-//! proposal was shown (`proposals.rt` of firm_tenant).
+//! minimum-cost flow, then fixes task after task; it lists no placements. A tenant calls it for the rounds whose
+//! proposal was not shown to be right (`proposals.rt` of firm_tenant).
 //!
 //! # What is proved
 //!
@@ -23,8 +23,8 @@
 //!   the unit is at the hub, one search finds the ways to the hub; those to the task end with the unit's own way back.
 //!   The machines are then tried in order. Neither search begins before an arc without a unit is met that is tight and
 //!   has room; it ends at that arc's head or, if there is no way from there, has found all ways.
-//! - **What a search leaves out.** The nodes that it did not find are a set that no tight residual arc leaves. So no
-//!   flow as cheap carries more on an arc that leads into the set, and no least placement goes that way.
+//! - **What a search leaves out.** The nodes that a search does not reach are a set that no tight residual arc leaves.
+//!   So no flow as cheap carries more on an arc that leads into the set, and no least placement goes that way.
 //! - **Spent machines.** A machine to which the hub can send no more than is held stays so, since each choice leaves
 //!   fewer flows. Those before the first other one are passed without a look.
 //! - **One is found.** The hub sends some machine a unit that is not held. If that is the task's own machine, or one

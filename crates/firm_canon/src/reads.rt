@@ -1,4 +1,4 @@
-//! What is read of a graph, by the places of its case.
+//! Reads of a graph by the places of its case.
 ghost use Rattle.std.specs.Prelude.{◌≡◌, ◌≢◌, ◌<◌, ◌≤◌, ◌==◌, ℕ, true, false, length, Some, IfSome, IfNone};
 ghost use Rattle.std.specs.List.{position};
 ghost use Rattle.firm_net.specs.Row.{Row};
@@ -47,7 +47,7 @@ pub(crate) fn arcs_are_counted(graph: &Graph)
     graph.net();
 }
 
-/// How many tasks there are.
+/// Number of tasks.
 pub(crate) fn task_count(graph: &Graph) -> usize
     ensures rows { result ≡ length graph.now.rows.tasks }
     ensures case { result ≡ length (view_of graph.now).case.tasks }
@@ -55,7 +55,7 @@ pub(crate) fn task_count(graph: &Graph) -> usize
     graph.rows().task_count()
 }
 
-/// How many machines there are.
+/// Number of machines.
 pub(crate) fn machine_count(graph: &Graph) -> u32
     ensures rows { result ≡ length graph.now.rows.machines }
     ensures case { result ≡ length (view_of graph.now).case.slots }

@@ -7,7 +7,7 @@ use firm_paths::{Prices, Scratch};
 use firm_rules::Choice;
 use std::alloc::{AllocError, Global};
 
-/// The placement of the round, with prices and scratch of its own.
+/// The placement of the round, with new prices and scratch.
 pub fn placement_of(alloc: Global, graph: &mut Graph) -> Result<Vec<Choice>, AllocError>
     ensures { IfOk result (λ placement. placement.items ≡ round_placement (case_of graph.old.rows)) }
 {

@@ -5,7 +5,7 @@ use firm_net::{Net, NodeId};
 use firm_paths::{Prices, Scratch};
 use std::alloc::{AllocError, Global};
 
-/// What one unit from each source to the sink costs at least; `None` where a source is cut off.
+/// The least cost of one unit from each source to the sink; `None` if a source is cut off.
 pub fn least_cost(
     alloc: Global,
     net: &mut Net,

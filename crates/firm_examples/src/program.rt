@@ -1,7 +1,7 @@
 use firm_program::{Fault, FileSystem, Named, read_roster, read_state};
 use std::alloc::Global;
 
-/// How many tenants a service has that opens with a file.
+/// Number of tenants of a service that opens with a file.
 pub fn tenants_named<R: FileSystem>(
     rt: &R,
     alloc: Global,

@@ -5,7 +5,7 @@ use firm_rules::Ticket;
 use std::alloc::Global;
 use std::sync::Wait;
 
-/// Solves one round, if one is there, and tells which.
+/// Solves the next round, if any, and returns its ticket.
 pub fn solve_one<R: Wait>(
     rt: &R,
     alloc: Global,

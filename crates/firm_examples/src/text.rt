@@ -1,6 +1,6 @@
 use firm_text::{Cutter, Line};
 
-/// What the first line of an input is; `None` where no line feed ends it.
+/// The first line of an input; `None` if no line feed ends it.
 pub fn first_line(input: &[u8]) -> Option<Line> {
     let mut cutter = Cutter::new();
     if cutter.feed(input).ended {

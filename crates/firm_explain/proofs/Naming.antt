@@ -1,4 +1,4 @@
--- What the words ask for, and how the program ends.
+-- The request in the words, and the end of the program.
 use Rattle.std.proofs.Common.{◌≡◌, ◌∙◌, ℕ, List, [], ap, codes, refl, subst}
 use Rattle.std.specs.Prelude.{◌^◌, Bool, true, false, IfErr, IfOk, IfSome, MatchResult, OnOk, Option, Some, None}
 use Rattle.std.specs.Prelude.{Result, Ok, Err}

@@ -1,4 +1,4 @@
--- What the words of a command line ask for.
+-- The request in the words of a command line.
 use Rattle.std.specs.Prelude.{◌≡◌, ℕ, Bool, true, false, IfSome, List, Option, Some, None, codes, pos}
 use Rattle.std.specs.Borrow.{Bor}
 use Rattle.clap.specs.Words.{App, Rule, Kinds, fault_of, matches_of, new_app, new_rule, one_of, with_rule}

@@ -1,4 +1,4 @@
--- What the program's exit status says of what it read and of the replies that it wrote, whatever it wrote of reasons.
+-- The meaning of the program's exit status for the bytes read and the replies written, whatever the reasons are.
 use Rattle.std.specs.Prelude.{◌≡◌, ℕ, List, []}
 use Rattle.firm_table.specs.Service.{Device}
 use Rattle.firm_table.specs.declared.faults.ServeFault.TheVariants.{Write}

@@ -18,7 +18,7 @@ abbrev pub rows_text : List ℕ → Book → List ℕ
 rows_text name book =
     flat_map comment_text (book_rows name book) ++ comment_text (row.Rows (length (book_rows name book)))
 
--- the same if they are asked for, else nothing
+-- the same on request, else nothing
 abbrev pub rows_asked : Bool → List ℕ → Book → List ℕ
 rows_asked true name book = rows_text name book
 rows_asked false name book = []

@@ -14,10 +14,10 @@ pub(crate) struct Crowd {
     /// The number of the first task.
     pub(crate) first: usize,
     pub(crate) tasks: u64,
-    /// What it costs to let one of them wait, at least and at most.
+    /// The least and the greatest cost of letting one of them wait.
     pub(crate) least: u64,
     pub(crate) most: u64,
-    /// How much more a machine costs one of them at least.
+    /// The least excess of a machine for one of them.
     pub(crate) more: u64,
 }
 

@@ -15,14 +15,14 @@ use firm_text::{Failed, Sink, write_all};
 use std::alloc::{AllocError, Global};
 use std::mem;
 
-/// Writes the reasons of rounds as comment lines, behind their rows if these are asked for. After a failed write it
+/// Writes the reasons of rounds as comment lines, after their rows on request. After a failed write it
 /// writes no more.
 #[derive(Drop)]
 pub(crate) struct Explainer<'w, W: Sink> {
     alloc: Global,
     writer: &'w mut W,
     request: Request,
-    // What the round asked for is about, if it is to be explained; an error if memory was refused.
+    // The case of the requested round, if it is to be explained; an error if memory was refused.
     case: Result<Option<Case>, AllocError>,
     // The lines of the rows before that round, and those of its reasons. Reused, so that the texts of all rounds take
     // only the memory of the longest.
@@ -49,7 +49,7 @@ impl<'w, W: Sink> Explainer<'w, W> {
         self.has_failed
     }
 
-    // Keeps the rows before a round, if they are asked for, and gives what the round is about.
+    // Stores the rows before a round, on request, and returns the round's case.
     fn await_round(
         &mut self,
         name: Name,
@@ -68,7 +68,7 @@ impl<'w, W: Sink> Explainer<'w, W> {
         Ok(Some(Case::of(self.alloc, rows)?))
     }
 
-    // Writes the reasons of the placement that these rows have, for a round of the case, behind the rows before it.
+    // Writes the reasons of the placement that these rows have, for a round of the case, after the rows before it.
     fn explain(&mut self, rows: &Rows, case: &Case) -> Result<(), AllocError>
         ensures { OnOk result (self.new.has_failed ≡ false
             → BeginsWith (W.written self.old.writer.now) (W.written self.new.writer.now) self.old.rows.items) }
@@ -115,7 +115,7 @@ impl<W: Sink> Watcher for Explainer<'_, W> {
     }
 }
 
-// Writes a text, and another one behind it.
+// Writes a text, followed by another one.
 fn write_both<W: Sink>(writer: &mut W, first: &[u8], second: &[u8]) -> Result<(), Failed>
     ensures { OnOk result (BeginsWith (W.written writer.old) (W.written writer.new) first.now) }
 {

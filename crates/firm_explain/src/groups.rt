@@ -30,7 +30,7 @@ impl Groups {
         Ok(groups)
     }
 
-    /// How many groups there are.
+    /// Number of groups.
     pub(crate) fn count(&self) -> u32 {
         number_of(self.groups.len())
     }
@@ -103,7 +103,7 @@ impl Members<'_> {
         at(self.of, place) == self.group
     }
 
-    /// The first machine of the lowest rent in the group; `NONE` if there is none.
+    /// The first machine of the lowest rent in the group, or `NONE`.
     pub(crate) fn lowest(&self) -> u32 {
         for machine in self.moves.lowest.iter() {
             if self.has(*machine) {
@@ -122,7 +122,7 @@ impl Members<'_> {
         }
     }
 
-    /// How many moves lead from a place to one of the group.
+    /// Number of moves that lead from a place to one of the group.
     pub(crate) fn move_count_from(&self, place: u32) -> u32 {
         let mut count = 0;
         for number in self.moves.start(place)..self.moves.end(place) {

@@ -38,11 +38,11 @@
 //! - the best other machine: private `best_machine`, from `Nearest::machine`
 //! - what one more machine saves: `saved_by_machine`
 //! - that no placement of the same cost comes before: `is_ladder`
-//! - what a placement with another choice costs more, `if T on M: N more`: `Case::is_legal`, `Case::cost_of`
+//! - the excess of a placement with another choice, `if T on M: N more`: `Case::is_legal`, `Case::cost_of`
 //!
 //! The rents of `--why` are checked as well; if they fail, `# NOT SHOWN to be least by T's rents` replaces that task's
-//! lines. Where `is_ladder` doesn't take the ladder that was found, or none was, the last line is `# first: not shown
-//! here`; a choice for which no witness was found has no line of its own. No contract covers the order and the words of
+//! lines. If `is_ladder` refuses the ladder, or there was none, the last line is `# first: not shown
+//! here`; a choice without a witness has no line. No contract covers the order and the words of
 //! the lines, the commonest rent, the least and the greatest number of a crowd, which task decided a tie, the text of a
 //! ladder, and that case and rows are of one round.
 //!
@@ -53,13 +53,13 @@
 //! `choices` finds the best other machine of each task that changes or waits, in a pass over the machines for each gap
 //! between a low and a high rent.
 //!
-//! The reasons are written on a `Page`, which remembers whether memory was refused: what writes on it returns nothing,
-//! and the watcher asks once, before it writes the page out.
+//! The reasons are written on a `Page`, which remembers whether memory was refused: writing on it returns nothing,
+//! and the watcher checks once, before it writes the page out.
 //!
-//! `ladder` parts the machines and waiting into `groups`, by what `moves` finds to cost nothing more, until each choice
-//! that is better for a task stands lower than what the task has. Of a group in which one is left, `leaving` takes off
-//! the places that no task leaves from the first such task on; where there are none, the group is parted into those
-//! places that reach one another by choices of later tasks (`parts`), by how high each has to stand (`heights`).
+//! `ladder` parts the machines and waiting into `groups`, by the moves that cost nothing more (`moves`), until each
+//! choice that is better for a task stands lower than what the task has. Of a group in which one is left, `leaving`
+//! takes off the places that no task leaves from the first such task on; if there are none, the group is parted into
+//! those places that reach one another by choices of later tasks (`parts`), by how high each has to stand (`heights`).
 //!
 //! `witness` follows, for each choice of `--why`, moves that cost nothing by the task's own rents to what the task has.
 //!

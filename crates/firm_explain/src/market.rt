@@ -1,7 +1,7 @@
 //! A round whose placement is shown to be least.
 
 ghost use Rattle.std.specs.Prelude.{◌≡◌, ◌+◌, ◌<◌, true, length};
-ghost use Rattle.firm_rules.specs.Placement.{is_legal};
+ghost use Rattle.firm_rules.specs.Placement.{is_legal, placement_cost};
 ghost use Rattle.firm_rents.specs.Rents.{AreRents, CostsAtLeast, IsBelow, Show, rent};
 ghost use Rattle.firm_rules.specs.Placement.{choice_at, task_at};
 ghost use Rattle.firm_rents.specs.TwoTables.{more_by_both};
@@ -28,6 +28,7 @@ pub(crate) struct Market<'a> {
     ghost shown_by_low: { Show case.now low placement.now },
     ghost shown_by_high: { Show case.now high placement.now },
     ghost in_order: { IsBelow low high },
+    ghost cost: { by_low.cost ≡ placement_cost case.now placement.now },
 }
 
 impl<'a> Market<'a> {
@@ -59,7 +60,7 @@ impl<'a> Market<'a> {
         }))
     }
 
-    /// The place of waiting, behind those of the machines.
+    /// The place of waiting, after those of the machines.
     pub(crate) fn waiting(&self) -> u32 {
         number_of(self.case.machine_count())
     }
@@ -95,7 +96,7 @@ impl<'a> Market<'a> {
         self.high.of_choice(choice) - self.low.of_choice(choice)
     }
 
-    /// How much more every legal placement in which the task has this choice costs at least: the greater number of the
+    /// The least excess of every legal placement in which the task has this choice: the greater number of the
     /// two tables.
     pub(crate) fn more(&self, task: usize, other: Choice) -> u64
         requires task { task < length self.now.case.now.tasks }

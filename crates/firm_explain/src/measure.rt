@@ -18,7 +18,7 @@ use std::io::{ErrorKind, Read};
 /// The word that asks for it, before its options.
 pub(crate) const MEASURE: &str = "measure";
 
-// What the words of the command line give.
+// The words of the command line by their options.
 #[derive(Clone, Copy)]
 struct Given<'a> {
     roster: Option<&'a str>,
@@ -26,12 +26,12 @@ struct Given<'a> {
     way: Way,
 }
 
-// What is written, and how rounds are found.
+// The form of the output, and the way to rounds.
 #[derive(Clone, Copy)]
 struct Way {
-    // Whether each round has a line behind the replies.
+    // Set to write a line for each round after the replies.
     counts: bool,
-    // Whether tenants' lines alone are answered, and rounds are found by searches, without proposals.
+    // Set to answer tenants' lines alone, and to find rounds by searches, without proposals.
     search: bool,
 }
 
@@ -171,7 +171,7 @@ fn serve<I: Source, W: Sink>(
     }
 }
 
-// What is still to be written once the tenants have answered the input again: their replies, unless the service wrote
+// Text to be written once the tenants have answered the input again: their replies, unless the service wrote
 // them, and the lines of their rounds.
 fn replayed(
     alloc: Global,

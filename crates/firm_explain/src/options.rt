@@ -14,12 +14,12 @@ use firm_rules::{Name, Slots};
 use std::alloc::{AllocError, Global};
 use std::convert::AsStr;
 
-// What the help says after the options.
+// The end of the help, after the options.
 const MEASURING: &str = "\
 firm_explain measure answers without reasons, on one thread, and can tell how
 much each round took: see firm_explain measure --help.";
 
-/// What the words of the command line give.
+/// The words of the command line by their options.
 #[derive(Drop)]
 pub(crate) struct Given<'a> {
     /// The path of the roster's file, as it stands, if it is given.
@@ -38,7 +38,7 @@ pub(crate) struct Given<'a> {
     pub(crate) rows: bool,
 }
 
-/// What is asked of the rounds that are explained.
+/// The options about explained rounds.
 #[derive(Clone, Copy)]
 pub(crate) struct Request {
     /// The tenant whose rounds are explained; `None` for those of all.
@@ -63,7 +63,7 @@ impl Request {
     }
 }
 
-/// The file to open with, and what is asked of the rounds.
+/// The file to open with, and the options about explained rounds.
 #[derive(Drop)]
 pub(crate) struct Asked<'a> {
     pub(crate) named: Named<'a>,
@@ -71,7 +71,7 @@ pub(crate) struct Asked<'a> {
 }
 
 impl<'a> Asked<'a> {
-    /// What these words ask for. The fault says that they name not one file to open with, or that the word for a
+    /// The request in these words. The fault says that they name not one file to open with, or that the word for a
     /// tenant or a task is no name.
     pub(crate) fn of(given: &Given<'a>) -> Result<Asked<'a>, Fault>
         ensures asked { MatchResult result (λ asked. AsksFor given.now asked.named) (MisasksFor given.now) }

@@ -5,8 +5,8 @@ use firm_text::put_reply;
 use itoa::Buffer;
 use std::alloc::{AllocError, Global};
 
-/// A text that grows piece by piece. Once memory is refused it takes no more, and `finish` tells of it: those who write
-/// need not look after each piece.
+/// A text that grows piece by piece. Once memory is refused it takes no more, and `finish` reports it: writers
+/// need not check after each piece.
 #[derive(Drop)]
 pub(crate) struct Page {
     pub(crate) alloc: Global,
@@ -38,7 +38,7 @@ impl Page {
         }
     }
 
-    /// Takes off all text, for which the memory is kept.
+    /// Takes off all text, and keeps the memory for more.
     pub(crate) fn clear(&mut self) {
         self.text.clear();
     }
@@ -80,7 +80,7 @@ impl Page {
         self.put(name.as_bytes());
     }
 
-    /// Adds the name of the machine at a place, if there is one.
+    /// Appends the name of the machine at a place, if any.
     pub(crate) fn put_machine(&mut self, rows: &Rows, place: usize) {
         if let Some(machine) = rows.machine_at(place) {
             self.put_name(machine.name);
@@ -93,7 +93,7 @@ impl Page {
         self.put_machine(rows, place as usize);
     }
 
-    /// Adds a word and the name of the task of this number, if there is one.
+    /// Appends a word and the name of the task of this number, if any.
     pub(crate) fn put_task(&mut self, word: &[u8], rows: &Rows, number: usize) {
         self.put(word);
         if let Some(task) = rows.task_at(number) {

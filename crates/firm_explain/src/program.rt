@@ -18,7 +18,7 @@ use std::convert::AsStr;
 /// The program's name, before its faults.
 pub(crate) const NAME: &str = "firm_explain";
 
-/// What is written to: replies and the help, reasons, and faults. Replies and reasons may go to one device.
+/// The outputs: replies and the help, reasons, and faults. Replies and reasons may go to one device.
 #[derive(Drop)]
 pub struct Sinks<O: Sink, C: Sink, F: Sink> {
     pub replies: O,

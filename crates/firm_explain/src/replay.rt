@@ -22,8 +22,8 @@ struct Replayed {
 }
 
 impl Replay {
-    /// The tenants before the first line, in the order of their places. Their rounds are found as the service finds
-    /// them, or by searches alone.
+    /// The tenants before the first line, in the order of their places. Their rounds are found as in the service,
+    /// or by searches alone.
     pub(crate) fn open(
         alloc: Global,
         opening: Opening<'_>,
@@ -89,7 +89,7 @@ impl Replay {
 }
 
 impl Replayed {
-    // Adds the reply to a command; a round's line is kept.
+    // Appends the reply to a command; a round's line is recorded.
     fn answer(&mut self, page: &mut Page, command: Command) {
         let reply = self.tenant.step(page.alloc, command);
         page.put_reply(self.name, &reply);

@@ -1,4 +1,4 @@
-//! All choices of one task, with rents of its own.
+//! All choices of one task, with its own rents.
 
 ghost use Rattle.std.specs.Prelude.{◌<◌, length};
 ghost use Rattle.firm_rents.specs.Rents.{CostsAtLeast, Show};
@@ -70,7 +70,7 @@ fn put_by_rents(page: &mut Page, market: &Market<'_>, number: usize, rents: &Ren
     put_witnesses(page, market, number, rents, &rivals);
 }
 
-// What else changes where the task has each other choice.
+// The other changes of a placement in which the task has each other choice.
 fn put_witnesses(
     page: &mut Page,
     market: &Market<'_>,
@@ -148,7 +148,7 @@ fn rivals_of(
     Ok(rivals)
 }
 
-// How much more every legal placement in which the task has this choice costs at least, by these rents.
+// The least excess of every legal placement in which the task has this choice, by these rents.
 fn more_by(market: &Market<'_>, rents: &Rents, number: usize, other: Choice) -> u64
     requires task { number < length market.now.case.now.tasks }
     requires shown { Show market.now.case.now rents.now market.now.placement.now }
@@ -180,7 +180,7 @@ fn choice_of(rival: Rival) -> Choice {
     }
 }
 
-// What stands between two choices: how much more the one before costs, unless the next costs as much.
+// Text between two choices: the excess of the one before, unless the next costs as much.
 fn put_end_of(page: &mut Page, before: Option<Rival>, next: Option<Rival>) {
     match (before, next) {
         (Some(last), Some(rival)) if rival.is_like(last) => return page.put(b", "),

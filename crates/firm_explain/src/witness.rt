@@ -1,6 +1,9 @@
 //! Witnesses: of the placements in which a task has another choice one that costs least, described by what else
 //! changes; if it costs no more, also by what puts the round's before it.
 
+ghost use Rattle.std.specs.Prelude.{◌≡◌, ◌+◌, true, IsTrue};
+ghost use Rattle.firm_rules.specs.Placement.{is_legal, placement_cost};
+
 use crate::market::Market;
 use crate::moves::Moves;
 use crate::numbers::{NONE, at, set};
@@ -68,7 +71,7 @@ impl<'a> Witnesses<'a> {
         found_one
     }
 
-    /// Adds the line on another choice that costs this much more; nothing where no such placement was found.
+    /// Appends the line on another choice with this excess; nothing if no such placement was found.
     pub(crate) fn put(&self, page: &mut Page, market: &Market<'_>, other: Choice, more: u64) {
         let Ok(mut placement) = Vec::from_slice(page.alloc, market.placement) else {
             return page.refuse();
@@ -100,7 +103,11 @@ impl<'a> Witnesses<'a> {
     }
 
     // Adds the other choice, its additional cost, the changes of other tasks, and for a tie the task that decides.
-    fn put_line(&self, page: &mut Page, market: &Market<'_>, placement: &[Choice], more: u64) {
+    fn put_line(&self, page: &mut Page, market: &Market<'_>, placement: &[Choice], more: u64)
+        requires legal { is_legal market.now.case.now placement.now ≡ true }
+        requires more { placement_cost market.now.case.now placement.now
+            ≡ placement_cost market.now.case.now market.now.placement.now + more }
+    {
         put_placed(page, market, b"# if ", placement, self.task);
         page.put_number(b": ", more);
         page.put(b" more");
@@ -150,7 +157,11 @@ fn put_earlier(page: &mut Page, market: &Market<'_>, task: usize, other: Choice)
 }
 
 // Whether a placement is legal, and costs this much more than the round's.
-fn costs_more(market: &Market<'_>, placement: &[Choice], more: u64) -> bool {
+fn costs_more(market: &Market<'_>, placement: &[Choice], more: u64) -> bool
+    ensures legal { IsTrue result → is_legal market.now.case.now placement.now ≡ true }
+    ensures more { IsTrue result → placement_cost market.now.case.now placement.now
+        ≡ placement_cost market.now.case.now market.now.placement.now + more }
+{
     placement.len() == market.case.task_count()
         && market.case.is_legal(placement)
         && market.case.cost_of(placement) == market.by_low.cost.saturating_add(more)

@@ -1,4 +1,4 @@
--- Where a set is left by no residual arc of reduced cost 0, no flow as cheap carries more on an arc that enters it.
+-- If no residual arc of reduced cost 0 leaves a set, no flow as cheap carries more on an arc that enters it.
 use Rattle.std.proofs.Common.{◌≡◌, ℕ, ◌+◌, ◌*◌, ◌<◌, ◌≤◌, Bool, true, false, cond, List, get_or, arith, refl, sym, ap}
 use Rattle.std.proofs.Common.{subst, inl, inr, ◌⊎◌, ⊎_elim}
 use Rattle.std.specs.List.{All, sum_by, Contains}

@@ -1,2 +1,2 @@
--- What no public clause cites: the words in which functions inside the crate keep what they keep.
+-- For proofs inside the crate: the invariants of its functions.
 pub mod Push

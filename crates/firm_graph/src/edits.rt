@@ -12,10 +12,11 @@ ghost use Rattle.firm_graph.specs.Graph.{slot_spans, preferred_spans};
 ghost use Rattle.firm_net.specs.Edits.{Span, IsEdit, span_of};
 ghost use Rattle.firm_graph.specs.inner.Steps.{Holds};
 
-use crate::ids::MachineIds;
+use crate::ids::{MachineIds, TaskParts};
 use crate::preferred::PreferredArcs;
 use firm_net::{ArcId, ArcRow, Net, NodeId};
 use firm_rules::{Limits, slot_cost};
+use firm_sequence::Sequence;
 
 /// Adds a node to a net with room for it.
 pub(crate) fn put_node(net: &mut Net) -> NodeId
@@ -107,6 +108,16 @@ pub(crate) fn push_reserved<T: Drop>(list: &mut Vec<T>, value: T)
     ensures len { vec_len list.new ≡ vec_len list.old + 1 }
 {
     let Ok(()) = list.push(value) else {
+        unreachable!()
+    };
+}
+
+/// Adds the parts of a task to a sequence with room for them.
+pub(crate) fn push_task(tasks: &mut Sequence<TaskParts>, parts: TaskParts)
+    requires { 0 < tasks.old.room }
+    ensures items { tasks.new.items ≡ tasks.old.items ++ parts ∷ [] }
+{
+    let Ok(()) = tasks.push(parts) else {
         unreachable!()
     };
 }

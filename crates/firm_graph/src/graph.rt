@@ -27,8 +27,8 @@ ghost use Rattle.firm_graph.specs.declared.network.Node.TheVariants.{Sink, Hub, 
 ghost use Rattle.firm_graph.specs.declared.network.Key.TheVariants.{Through, Wide, Stay, Wait, Prefer};
 
 use crate::edits::{
-    SlotArcs, away_cost, drop_node, link, link_preferred, link_slots, push_reserved, put_node,
-    unlink, unlink_preferred, unlink_slots,
+    SlotArcs, away_cost, drop_node, link, link_preferred, link_slots, push_reserved, push_task,
+    put_node, unlink, unlink_preferred, unlink_slots,
 };
 use crate::growth::{grow_jobs, grow_machines, grow_tasks};
 use crate::ids::{GraphRefusal, JobParts, MachineIds, Stand, TaskArcs, TaskParts, find_machine};
@@ -39,6 +39,7 @@ use firm_paths::{Prices, Scratch};
 use firm_rules::{
     Choice, Limits, Name, NewTask, Preferred, Rows, Slots, Weight, legality_is_judged,
 };
+use firm_sequence::Sequence;
 use std::alloc::{AllocError, Global};
 use std::marker::Model;
 
@@ -50,7 +51,7 @@ pub struct Graph {
     sink: NodeId,
     machines: Vec<MachineIds>,
     jobs: Vec<JobParts>,
-    tasks: Vec<TaskParts>,
+    tasks: Sequence<TaskParts>,
     sources: Vec<NodeId>,
     asked: u64,
 }
@@ -107,7 +108,7 @@ impl Graph {
             sink,
             machines: Vec::new(alloc),
             jobs: Vec::new(alloc),
-            tasks: Vec::new(alloc),
+            tasks: Sequence::new(alloc),
             sources: Vec::new(alloc),
             asked: 0,
         })
@@ -240,7 +241,7 @@ impl Graph {
             preferred,
         };
         push_reserved(&mut self.sources, node);
-        push_reserved(&mut self.tasks, TaskParts { node, arcs });
+        push_task(&mut self.tasks, TaskParts { node, arcs });
         self.asked += 1;
         Ok(())
     }
@@ -426,7 +427,7 @@ impl Graph {
             → slice_index_or result.preferred k other ≡ (view_of self.now).arc (Prefer place k) }
         ensures graph { IsGraph self.now }
     {
-        self.tasks[place].arcs
+        self.tasks.at(place).arcs
     }
 
     /// The arc from the hub to the machine at a place.
@@ -549,7 +550,7 @@ impl Graph {
             runs: machine.is_some(),
             waited,
         };
-        let parts = &self.tasks[place];
+        let parts = self.tasks.at(place);
         place_task(&mut self.net, &self.rows, parts, place, stand);
         self.rows.place_task(place, machine, waited);
     }

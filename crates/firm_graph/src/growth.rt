@@ -9,6 +9,7 @@ ghost use Rattle.firm_rules.specs.Sound.{AreSound};
 use crate::ids::{JobParts, MachineIds, TaskParts};
 use firm_net::{ArcId, NodeId};
 use firm_rules::{Name, NewTask, Rows, Slots, Weight};
+use firm_sequence::Sequence;
 use std::alloc::{AllocError, Allocator};
 
 /// Adds the row of a job, with room for its parts. The error comes for lack of memory alone, and leaves all as it was.
@@ -33,7 +34,7 @@ pub(crate) fn grow_jobs<A: Allocator>(
 /// Adds the row of a task, with room for its parts and its node. The error comes for lack of memory alone, and leaves
 /// all as it was.
 pub(crate) fn grow_tasks<A: Allocator>(
-    parts: &mut Vec<TaskParts, A>,
+    parts: &mut Sequence<TaskParts, A>,
     sources: &mut Vec<NodeId, A>,
     rows: &mut Rows<A>,
     task: &NewTask,
@@ -45,13 +46,13 @@ pub(crate) fn grow_tasks<A: Allocator>(
     requires fits { FitsLimits (with_task rows.old task.now.job task.now.name task.now.preferred) }
     ensures parts { parts.new.items ≡ parts.old.items }
     ensures sources { sources.new.items ≡ sources.old.items }
-    ensures room { OnOk result (vec_len parts.new < vec_capacity parts.new) }
+    ensures room { OnOk result (0 < parts.new.room) }
     ensures source_room { OnOk result (vec_len sources.new < vec_capacity sources.new) }
     ensures ok { OnOk result (rows.new ≡ with_task rows.old task.now.job task.now.name task.now.preferred) }
     ensures err { OnErr result (rows.new ≡ rows.old) }
     ensures sound { OnOk result (AreSound rows.new) }
 {
-    parts.reserve(1)?;
+    parts.make_room()?;
     sources.reserve(1)?;
     rows.add_new_task(task)
 }

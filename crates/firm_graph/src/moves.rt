@@ -15,6 +15,7 @@ use crate::edits::{away_cost, lead, rate, rate_preferred, unlink};
 use crate::ids::{MachineIds, Stand, TaskParts};
 use firm_net::{Net, NodeId};
 use firm_rules::{Choice, Name, Rows};
+use firm_sequence::Sequence;
 
 /// Gives the arcs of the task at a place the ends, capacities and costs of one that stands so.
 pub(crate) fn place_task(net: &mut Net, rows: &Rows, parts: &TaskParts, place: usize, stand: Stand)
@@ -35,16 +36,22 @@ pub(crate) fn place_task(net: &mut Net, rows: &Rows, parts: &TaskParts, place: u
 }
 
 /// Takes the arcs to the machine of a name out of the preferences of all tasks.
-pub(crate) fn forget_machine(net: &mut Net, rows: &Rows, tasks: &mut [TaskParts], name: Name)
-    requires tasks { length tasks.old ≡ length rows.now.tasks }
+pub(crate) fn forget_machine(
+    net: &mut Net,
+    rows: &Rows,
+    tasks: &mut Sequence<TaskParts>,
+    name: Name,
+)
+    requires tasks { length tasks.old.items ≡ length rows.now.tasks }
     requires preferred { AllZip (λ task parts. length parts.arcs.preferred ≡ length task.preferred) rows.now.tasks
-        tasks.old }
-    ensures nodes { map (λ parts. parts.node) tasks.new ≡ map (λ parts. parts.node) tasks.old }
-    ensures forgotten { (g : GraphRow) → Mirrors g → g.net ≡ net.old → g.rows ≡ rows.now → g.tasks ≡ tasks.old
-        → Mirrors (refitted g (forgetting_rows g.rows name) net.new tasks.new) }
+        tasks.old.items }
+    ensures nodes { map (λ parts. parts.node) tasks.new.items ≡ map (λ parts. parts.node) tasks.old.items }
+    ensures forgotten { (g : GraphRow) → Mirrors g → g.net ≡ net.old → g.rows ≡ rows.now → g.tasks ≡ tasks.old.items
+        → Mirrors (refitted g (forgetting_rows g.rows name) net.new tasks.new.items) }
 {
     for place in 0..tasks.len() {
-        tasks[place] = forget_at(net, rows, tasks[place], place, name);
+        let parts = forget_at(net, rows, *tasks.at(place), place, name);
+        tasks.set(place, parts);
     }
 }
 
@@ -86,14 +93,20 @@ fn place_among(names: &[Name], name: Name) -> Option<usize>
 
 /// Gives the arcs of the tasks that run on the machine of a name, which no task prefers any longer, those of tasks that
 /// wait.
-pub(crate) fn evict_tasks(net: &mut Net, rows: &Rows, tasks: &[TaskParts], hub: NodeId, name: Name)
-    requires tasks { length tasks.now ≡ length rows.now.tasks }
+pub(crate) fn evict_tasks(
+    net: &mut Net,
+    rows: &Rows,
+    tasks: &Sequence<TaskParts>,
+    hub: NodeId,
+    name: Name,
+)
+    requires tasks { length tasks.now.items ≡ length rows.now.tasks }
     ensures evicted { (g : GraphRow) → Mirrors g → g.net ≡ net.old → g.rows ≡ forgetting_rows rows.now name
-        → g.tasks ≡ tasks.now → g.hub ≡ hub
+        → g.tasks ≡ tasks.now.items → g.hub ≡ hub
         → Mirrors (moved g (record rows.now { tasks = map (evicted name) rows.now.tasks }) net.new) }
 {
-    for (place, parts) in tasks.iter().enumerate() {
-        evict_task(net, rows, parts, place, Eviction { name, hub });
+    for place in 0..tasks.len() {
+        evict_task(net, rows, tasks.at(place), place, Eviction { name, hub });
     }
 }
 
@@ -136,15 +149,15 @@ pub(crate) fn settle_tasks(
     net: &mut Net,
     rows: &Rows,
     heads: &Heads<'_>,
-    tasks: &[TaskParts],
+    tasks: &Sequence<TaskParts>,
     choices: &[Choice],
 )
     requires machines { length heads.now.machines.now ≡ length rows.now.machines }
-    requires tasks { length tasks.now ≡ length rows.now.tasks }
+    requires tasks { length tasks.now.items ≡ length rows.now.tasks }
     requires one_each { length choices.now ≡ length rows.now.tasks }
     requires places { All (IsPlace (length rows.now.machines)) choices.now }
     ensures settled { (g : GraphRow) → Mirrors g → g.net ≡ net.old → g.rows ≡ rows.now
-        → g.machines ≡ heads.now.machines.now → g.tasks ≡ tasks.now → g.hub ≡ heads.now.hub
+        → g.machines ≡ heads.now.machines.now → g.tasks ≡ tasks.now.items → g.hub ≡ heads.now.hub
         → Mirrors (moved g (rows_after g.rows choices.now) net.new) }
 {
     rows.limits();
@@ -153,7 +166,7 @@ pub(crate) fn settle_tasks(
             continue;
         }
         let stand = stand_of(rows, heads, place, *choice);
-        settle_task(net, rows, &tasks[place], place, stand);
+        settle_task(net, rows, tasks.at(place), place, stand);
     }
 }
 

@@ -1,4 +1,4 @@
--- What holds of each element of a list, as a loop takes one off its front, or puts one at its back.
+-- A property of each element of a list, as a loop takes one off its front, or puts one at its back.
 use Rattle.std.proofs.Common.{◌≡◌, ◌∙◌, zero, suc, List, [], ◌∷◌, ◌++◌, All, map, ap, sym, subst, arith, append_assoc}
 use Rattle.std.proofs.lemmas.List.Elements.{All-append}
 

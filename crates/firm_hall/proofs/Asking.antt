@@ -1,4 +1,4 @@
--- How many rounds a command adds to those that were asked.
+-- The number of rounds that a command adds to those requested.
 use Rattle.std.proofs.Common.{◌≡◌, ℕ, ◌+◌, ◌<◌, ◌≤◌, refl, arith, ⊎_elim}
 use Rattle.std.specs.Prelude.{Bool, true, false, ◌⊎◌, if◌then◌else◌}
 use Rattle.std.proofs.lemmas.Bool.{lt-leb}
@@ -23,7 +23,7 @@ one_round command reply = by (is_round command) (is_worn reply.outcome)
     by true false = omega arith
     by false worn = omega arith
 
--- only a round that is refused memory may not be asked
+-- only a round that is refused memory may go unrequested
 pub asks_least : (command : Command) (reply : Reply) (asked : Bool) → asks command reply asked ≤ round_in command reply
 asks_least command reply asked = by (is_memory reply) asked (round_in command reply)
   where

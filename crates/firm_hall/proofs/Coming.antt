@@ -1,4 +1,4 @@
--- A round that comes back, and a command that waited for it, leave what was told.
+-- A round that comes back, and a command that waited for it, preserve the claims.
 use Rattle.std.proofs.Common.{◌≡◌, ◌≢◌, ℕ, ◌+◌, ◌<◌, List, length, set, get_or, refl, sym, ap}
 use Rattle.std.proofs.Common.{◌∙◌, subst, arith}
 use Rattle.std.specs.Prelude.{Bool, map, Option, Some, None, true, false}
@@ -68,7 +68,7 @@ module _ (opening : Opened) (register : List Entry) (desk_states after : List De
       (sym (ap (λ (r : Reckoned). reckon marks r (filled place reply answers)) start ∙ done.1))
       (told done.0)
 
-  -- a round is asked, or all is as it was
+  -- a round is requested, or nothing changes
   pub same_told : map book_at after ≡ map book_at desk_states → weigh asked_at after ≡ weigh asked_at desk_states
       → (text : List ℕ) (written now : Option (List ℕ))
       → TellsParts opening register desk_states answers output text written now

@@ -1,4 +1,4 @@
--- What stands at the places, as a desk comes home, answers or asks.
+-- The states of the places, as a desk comes home, answers or requests a round.
 use Rattle.std.proofs.Common.{◌≡◌, ◌≢◌, ℕ, zero, suc, ◌+◌, ◌<◌, List, [], ◌∷◌, ◌++◌, length, set, get_or, sym}
 use Rattle.std.proofs.Common.{ap, ◌∙◌, subst, arith}
 use Rattle.std.specs.Prelude.{false, map, Option}

@@ -178,7 +178,7 @@ pub nothing_written : (old : ServingIs) (now : Option (List ℕ)) → Begins old
 nothing_written old now opening text written told =
     begun opening old.register old.desk_states old.answers old.output text written now told
 
--- the first answer is put behind the output
+-- the first answer is put after the output
 pub popped_stands : (queue : QueueId) (register : List Entry) (desk_states : List DeskState) (held after : HeldIs)
     (first : HeldAnswer) → Stands (serving_is queue register desk_states held) → held.answers ≡ first ∷ after.answers
     → FirstIsKnown held.answers → Stands (serving_is queue register desk_states after)

@@ -1,4 +1,4 @@
--- What the operator asks for is done, and told.
+-- The operator's request is obeyed, and claimed.
 use Rattle.std.proofs.Common.{◌≡◌, ℕ, ◌+◌, ◌<◌, List, [], ◌∷◌, ◌++◌, length, set, get_or, refl, sym, ap, ◌∙◌, subst}
 use Rattle.std.proofs.Common.{arith}
 use Rattle.std.specs.Prelude.{Bool, true, false, map, Option, Some, None, Ok, Err}
@@ -36,7 +36,7 @@ use Rattle.firm_hall.proofs.Fitting.{counts_at}
 use Rattle.firm_hall.proofs.DeskStates.{asked_set, books_set, desk_states_set}
 use Rattle.firm_hall.proofs.Taking.{Tells, changed_told, known_told}
 
--- what is held once the operator has its reply: one line more is told
+-- the held answers once the operator has its reply: one line more is claimed
 abbrev pub Told : Opened → List Entry → List Entry → List DeskState → List DeskState → List HeldAnswer → List ℕ
     → OperatorLine → OperatorReply → Type 0
 Told opening register later desk_states after answers output request reply =

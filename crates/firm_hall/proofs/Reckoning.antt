@@ -1,4 +1,4 @@
--- What the held answers come to, as one is added, becomes known, or a book changes for which none waits.
+-- The fold over the held answers, as one is added, becomes known, or a book changes for which none waits.
 use Rattle.std.proofs.Common.{◌≡◌, ◌≢◌, ℕ, zero, suc, ◌+◌, ◌<◌, List, [], ◌∷◌, ◌++◌, length, set, get_or}
 use Rattle.std.proofs.Common.{refl, sym, ap, ◌∙◌, arith, append_assoc, eq-eqb}
 use Rattle.std.specs.Prelude.{true, false, ◌==◌, Option, Some, None}
@@ -21,7 +21,7 @@ use Rattle.firm_held.specs.declared.held.HeldAnswer.TheVariants.{Known, Waiting}
 differs : {X : Type 0} (place other : ℕ) → (place == other) ≡ false → place ≡ other → X
 differs place other out e = let both : true ≡ false = sym (eq-eqb place other e) ∙ out in absurd (cc)
 
--- what is reckoned, with this book at a place and so many more rounds asked
+-- the fold with this book at a place and this many more rounds requested
 abbrev pub put_at : ℕ → Option Book → ℕ → Reckoned → Reckoned
 put_at place book more before =
     record { books = set before.books place book; text = before.text; asked = before.asked + more }

@@ -1,4 +1,4 @@
--- What serving comes to.
+-- The result of serving.
 use Rattle.std.proofs.Common.{◌≡◌, ℕ, zero, suc, List, [], ◌∷◌, ◌++◌, length, refl, sym, ap, subst, ◌∙◌, append-nil}
 use Rattle.std.proofs.Common.{length-append, arith, inl}
 use Rattle.std.specs.Prelude.{Bool, false, Option}

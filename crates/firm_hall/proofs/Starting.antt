@@ -62,7 +62,7 @@ pub some_stay : (stay : Option Stay) (book : Book) → Some book ≡ option_map 
 some_stay None book e = cc
 some_stay (Some stay) book e = refl
 
--- what is told of each place is told of what stands there
+-- the claim about each place holds of its state
 module _ {B : Type 0} (f : DeskState → B) (of_place : Place → B) where
   pub states_as : (id : QueueId) (at : ℕ) (places : List Place)
       → ((k : ℕ) (place : Place) → f (opening_state id k place) ≡ of_place place)
@@ -104,7 +104,7 @@ books_open id places =
     states_as book_at (λ (place : Place). option_map book_of place.stay) id 0 places
     (λ k place. book_open id k place.admissions (option_map book_of place.stay))
 
--- nothing was asked yet
+-- nothing was requested yet
 none_asked : (id : QueueId) (at admissions : ℕ) (book : Option Book) → asked_at (opened_at id at admissions book) ≡ 0
 none_asked id at admissions None = refl
 none_asked id at admissions (Some book) = refl

@@ -61,7 +61,7 @@ one_told one_more opening register later_register before after line s text text_
     tells_more one_more (state_after opening register before) (tenants_are later_register after.books) after.text line
     before.asked after.asked text text_after written now more s.answer s.adds told
 
--- one more line is told
+-- one more line is claimed
 abbrev pub Tells : Opened → List Entry → List Entry → List DeskState → List DeskState → List HeldAnswer
     → List HeldAnswer → List ℕ → Line → Type 0
 Tells opening register later_register desk_states after answers later output line =
@@ -202,7 +202,7 @@ pub record Took (old new : ServingIs) (line : Line) : Type 0 where
   pub stands : Stands new
   pub takes : Takes old new line
 
--- an answer that waits for nothing, behind the others
+-- an answer that waits for nothing, after the others
 pub known_stands : (queue : QueueId) (register : List Entry) (desk_states : List DeskState) (held : HeldIs)
     (answer : LineAnswer)
     → Stands (serving_is queue register desk_states held)

@@ -1,4 +1,4 @@
--- What is told, as one line more is answered, and as rounds come back.
+-- The claims, as one line more is answered, and as rounds come back.
 use Rattle.std.proofs.Common.{◌≡◌, ℕ, ◌+◌, ◌≤◌, List, [], ◌∷◌, ◌++◌, drop, length, take, refl, sym, ap, ◌∙◌, subst}
 use Rattle.std.proofs.Common.{arith}
 use Rattle.std.proofs.Common.{append_assoc}
@@ -40,7 +40,7 @@ refusals_more (a ∷ answers) answer =
     let rest : refusals_in (answers ++ answer ∷ []) ≡ refusals_in answers + refusal_in answer =
     refusals_more answers answer in omega arith
 
--- what one line more adds to the rounds that were asked
+-- the number of rounds that one line more requests
 pub record AddsAnswer (asked later : ℕ) (line : Line) (answer : LineAnswer) : Type 0 where
   pub least : later ≤ asked + round_of line answer
   pub most : asked + round_of line answer ≤ later + refusal_in answer

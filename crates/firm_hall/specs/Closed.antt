@@ -1,4 +1,4 @@
--- What is known once a hall is closed.
+-- Facts about a closed hall.
 use Rattle.std.specs.Prelude.{◌≡◌, ℕ, ◌+◌, ◌<◌, ◌≤◌, ◌^◌, ◌&&◌, ◌==◌, cond, List, length}
 use Rattle.firm_rules.specs.declared.tickets.Ticket.{Ticket}
 use Rattle.firm_rounds.specs.Rounds.{weigh, numbered}
@@ -22,9 +22,9 @@ is_ticket one other = cond ((one.place == other.place) && (one.number == other.n
 abbrev pub taken_count : List PopIs → ℕ
 taken_count reports = weigh (λ r. length r.got) reports
 
--- Each ticket asked at the desks and at the places without a tenant stands in the reports and the jobs left, as often
--- as it was asked: however tickets are weighed, both weigh the same. Each was asked at most once, so it stands there
--- exactly once.
+-- Each ticket requested at the desks and at the places without a tenant stands in the reports and the jobs left, as
+-- often as it was requested: however tickets are weighed, both weigh the same. Each was requested at most once, so it
+-- stands there exactly once.
 pub record IsClosed (desks : List DeskIs) (empty : List PlaceIs) (reports : List PopIs)
     (jobs : List JobIs) : Type 0 where
   pub as_often : (h : Ticket → ℕ)

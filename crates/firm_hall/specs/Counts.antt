@@ -1,4 +1,4 @@
--- How many rounds the lines of an input ask.
+-- The number of rounds that the lines of an input request.
 use Rattle.std.specs.Prelude.{◌≡◌, ℕ, ◌+◌, ◌≤◌, Bool, true, false, List, [], ◌∷◌, if◌then◌else◌}
 use Rattle.firm_rules.specs.declared.commands.Command.{Command}
 use Rattle.firm_rules.specs.declared.replies.Reply.{Reply}
@@ -58,12 +58,12 @@ abbrev pub refusals_in : List LineAnswer → ℕ
 refusals_in [] = 0
 refusals_in (answer ∷ answers) = refusal_in answer + refusals_in answers
 
--- This many rounds were asked: all that the lines ask for, except some that were refused memory.
+-- This many rounds were requested: all that the lines ask for, except some that were refused memory.
 pub record Counted (asked : ℕ) (lines : List MarkedLine) (answers : List LineAnswer) : Type 0 where
   pub least : asked ≤ rounds_in lines answers
   pub most : rounds_in lines answers ≤ asked + refusals_in answers
 
--- What Ok says of a service: what was written is the output for all that was read; and this many rounds were asked, all
+-- The meaning of Ok: what was written is the output for all that was read; and this many rounds were requested, all
 -- that the lines ask for if no reply of a tenant says that memory was refused.
 pub record ServedWithFrom (opened : Opened) (most : ℕ) (reader writer : Device) (asked : ℕ) : Type 0 where
   pub served : ServedFrom opened most reader writer

@@ -1,4 +1,4 @@
--- What contracts see of a desk, and what a command makes of it.
+-- The values of desks in contracts, and the effect of a command on a desk.
 use Rattle.std.specs.Prelude.{◌≡◌, ℕ, Bool, ◌+◌, ◌*◌, ◌<◌, ◌≤◌, ◌^◌, ◌⊎◌}
 use Rattle.firm_rules.specs.Book.{Book}
 use Rattle.firm_rules.specs.declared.commands.Command.{Command}
@@ -10,7 +10,8 @@ use Rattle.firm_tenant.specs.Step.{step, is_memory}
 use Rattle.firm_text.specs.Registers.{most_admissions}
 use Rattle.firm_rounds.specs.Passes.{QueueId, no_queue}
 
--- a place of a hall: the hall's queue, which place it is, how many rounds were asked there and how often it was given
+-- a place of a hall: the hall's queue, the number of the place, its numbers of rounds requested and of times it was
+-- given
 pub record PlaceIs : Type 0 where
   pub queue : QueueId
   pub place : ℕ
@@ -60,13 +61,13 @@ pub record IsRefused (before : DeskIs) (reply : Reply) (after : DeskIs) : Type 0
 abbrev pub rounds_of : ℕ → ℕ
 rounds_of tenants = tenants * 2 ^ 40
 
--- a place was given at most as often as it may be, and no more rounds were asked there than its tenants may ask
+-- a place was given at most as often as it may be, and no more rounds were requested there than its tenants may request
 pub record PlaceCountsFit (put admissions : ℕ) : Type 0 where
   pub few : admissions ≤ most_admissions
   pub asked : put ≤ rounds_of admissions
 
--- a tenant was given no more commands than its life allows, and no more rounds were asked than it was given commands,
--- apart from those that the tenants before it may have asked
+-- a tenant was given no more commands than its life allows, and no more rounds were requested than it was given
+-- commands, apart from those that the tenants before it may have requested
 pub record IsLive (put admissions : ℕ) (book : Book) : Type 0 where
   pub asked : put + rounds_of 1 ≤ rounds_of admissions + book.given
   pub given : book.given ≤ book.rows.limits.life

@@ -1,4 +1,4 @@
--- What is returned if a hall is not closed or still held a round.
+-- The faults of closing a hall.
 use Rattle.std.specs.Prelude.{◌≡◌, ◌+◌, ◌<◌, ◌⊎◌, List, map, length}
 use Rattle.firm_rounds.specs.Passes.{QueueIs, PopIs, spent_pop}
 use Rattle.firm_hall.specs.Desks.{DeskIs, PlaceIs, spent_desk, spent_place}
@@ -6,7 +6,7 @@ use Rattle.firm_hall.specs.Closed.{IsClosed}
 use Rattle.firm_hall.specs.declared.close.CloseFault.{CloseFault}
 use Rattle.firm_hall.specs.declared.close.CloseFault.TheVariants.{Missing, Left}
 
--- a desk, an empty desk or a report is missing, and everything is given back unchanged; or some tickets that were asked
+-- a desk, an empty desk or a report is missing, and everything is given back unchanged; or some requested tickets
 -- are in no report but in jobs, and the hall has ended
 abbrev pub IsCloseFault : QueueIs → List DeskIs → List PopIs → List PlaceIs → CloseFault → Type 0
 IsCloseFault hall desks reports empty (Missing same ds rs es) =

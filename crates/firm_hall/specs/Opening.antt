@@ -5,8 +5,8 @@ use Rattle.firm_text.specs.Rosters.{RosterRow}
 use Rattle.firm_rounds.specs.Passes.{QueueId}
 use Rattle.firm_hall.specs.Desks.{DeskIs, desk_is, PlaceIs, place_is}
 
--- from this place on, a desk for each row of the roster, with the opening book of the row's limits; no round was asked
--- there, and the place was given once
+-- from this place on, a desk for each row of the roster, with the opening book of the row's limits; no round was
+-- requested there, and the place was given once
 abbrev pub opening_desks : QueueId → ℕ → List RosterRow → List DeskIs
 opening_desks queue place [] = []
 opening_desks queue place (tenant ∷ rest) =

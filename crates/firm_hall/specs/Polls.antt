@@ -1,4 +1,4 @@
--- What polling an asked round gives.
+-- The result of polling a requested round.
 use Rattle.std.specs.Prelude.{◌≡◌}
 use Rattle.firm_rules.specs.declared.commands.Command.TheVariants.{Round}
 use Rattle.firm_hall.specs.Desks.{DeskIs, IsStep}

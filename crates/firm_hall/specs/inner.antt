@@ -1,5 +1,5 @@
--- What no public clause cites: what held answers come to, how places, desks and shares are kept, and how far a
--- service has come.
+-- For proofs inside the crate: the fold over the held answers, the states of places, desks and shares, and the progress
+-- of a service.
 pub mod Reckoned
 pub mod DeskStates
 pub mod Serving

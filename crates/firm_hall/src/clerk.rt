@@ -70,7 +70,7 @@ impl<'h, R: Wait> HallClerk<'h, R> {
         ensures hall { IfOk result (λ clerk. clerk.setting.hall.now ≡ setting.entry.hall.now) }
         ensures opening { IfOk result (λ clerk. opened clerk.opening ≡ opened opening.entry) }
     {
-        // A law: before the first line nothing is told.
+        // A law: before the first line nothing is claimed.
         answers_add_up();
         let desk_states = open_states(setting.alloc, opening, passes)?;
         let desks = Vec::with_capacity(setting.alloc, PLACES)?;

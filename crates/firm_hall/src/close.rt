@@ -16,10 +16,10 @@ use crate::workers::Report;
 use firm_rounds::{Closing, Job, Queue};
 use std::sync::Wait;
 
-/// What was done in total.
+/// Totals of a service.
 #[derive(Clone, Copy, PartialEq, Eq)]
 pub struct Totals {
-    /// How many rounds workers took.
+    /// Number of rounds that workers took.
     pub rounds: u64,
 }
 

@@ -1,4 +1,4 @@
-//! What stands at a tenant's place while the hall serves.
+//! The state of a tenant's place while the hall serves.
 ghost use Rattle.std.specs.Prelude.{◌≡◌, ◌≢◌, ◌+◌, ◌<◌, ◌≤◌, ◌^◌, IsSome, Some, false, true, vec_capacity, vec_len};
 ghost use Rattle.firm_rounds.specs.Passes.{QueueId};
 ghost use Rattle.firm_hall.specs.inner.DeskStates.{IsAdmitted, IsAway, IsBack, IsFree, IsHome, IsHomeOf, IsRetired};
@@ -16,7 +16,7 @@ use std::alloc::Global;
 use std::mem;
 use std::sync::Wait;
 
-/// What stands at a place.
+/// The state of a place.
 pub(crate) enum DeskState {
     /// The tenant is at home; possibly commands wait for it.
     Home(Desk, bool),
@@ -236,7 +236,7 @@ impl DeskState {
         }
     }
 
-    // Puts a desk with the others, or an empty one with the empty ones. Returns how many rounds were asked there.
+    // Puts a desk with the others, or an empty one with the empty ones. Returns the number of rounds requested there.
     pub(crate) fn put_away(self, desks: &mut Vec<Desk>, empty: &mut Vec<EmptyDesk>) -> u64
         requires back { NoneIsAway self }
         requires room { vec_len desks.old < vec_capacity desks.old }

@@ -70,7 +70,7 @@ impl Model for Asked {
     ghost invariant = { λ a. IsLiveAway a.place.put a.place.admissions a.side.book };
 }
 
-/// What polling an asked round gives.
+/// The result of polling a requested round.
 #[derive(Drop)]
 pub enum AskedPoll {
     /// The desk is back with the round's reply.
@@ -110,7 +110,7 @@ impl Desk {
         self.tenant.step(alloc, command)
     }
 
-    /// Asks for the tenant's round, which goes to a worker of the hall. If life or memory is lacking, returns the desk
+    /// Requests the tenant's round, which goes to a worker of the hall. Without life or memory, returns the desk
     /// with that refusal.
     pub fn ask<R: Wait>(self, rt: &R, alloc: Global, hall: &Hall) -> Result<Asked, (Desk, Reply)>
         requires { self.queue ≡ hall.now.id }

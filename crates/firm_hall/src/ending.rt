@@ -2,7 +2,7 @@
 use crate::desks::Desk;
 use crate::empty::EmptyDesk;
 
-/// What a service leaves: its desks, all home, its empty ones, and how many rounds were asked at all of them.
+/// The result of a service: its desks, all home, its empty ones, and the number of rounds requested at all of them.
 #[derive(Drop)]
 pub(crate) struct Ended {
     pub(crate) desks: Vec<Desk>,

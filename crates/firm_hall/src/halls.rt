@@ -19,7 +19,7 @@ use std::marker::Model;
 use std::sync::Arc;
 use std::sync::atomic::{AtomicBool, Ordering};
 
-/// What desks and workers share. Contracts see which queue it has, and how many desks and workers.
+/// State shared by desks and workers. Contracts see its queue, and its numbers of desks and workers.
 pub struct Hall {
     // Workers without a round sleep until its bell wakes them, for a round or for good.
     pub(crate) queue: Queue,
@@ -118,7 +118,7 @@ impl Hall {
         self.answers.notify_one();
     }
 
-    // How many desks there are, and how many workers.
+    // Numbers of desks and of workers.
     pub(crate) fn counts(&self) -> (usize, usize)
         ensures { (result.0 ≡ self.now.puts) × (result.1 ≡ self.now.pops) }
     {
@@ -160,7 +160,7 @@ fn open_hall(
     Ok((hall, desks, passes, empty))
 }
 
-// What stands at the places of these passes: the tenants of the roster have the first ones. Apart from the hall, which
+// The states of the places of these passes: the tenants of the roster have the first ones. Apart from the hall, which
 // each way out of here would drop.
 fn open_places(
     alloc: Global,

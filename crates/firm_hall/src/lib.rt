@@ -26,15 +26,15 @@
 //! # How it works
 //!
 //! A command of a tenant whose round is away, or a round for which the queue has no room, waits among the held answers
-//! (firm_held), in the place of its own answer: there each tenant has a queue of its own, and the lines of others are
-//! answered meanwhile. What the held answers come to is one fold over them (`reckon` in `specs/inner/Reckoned.antt`).
+//! (firm_held), in the place of its own answer: each tenant has a queue there, and the lines of others are
+//! answered meanwhile. One fold over the held answers (`reckon` in `specs/inner/Reckoned.antt`) gives their result.
 //!
 //! The clerk waits in one loop alone (`waiting.rt`): for input, while an answer is missing and a read would wait
 //! (`Source::is_ready`); for the turn of a line; and at the end for all answers. A line has its turn when fewer than
 //! 1,024 answers are held, the changes of held rounds have fewer than 4 MB of text and, if it retires a tenant, no
-//! command of that one waits. At each look the tenants that are back are given what waited for them (`returning.rt`).
-//! Each time before it rests, the clerk has written all answers that are known with none missing before them: a clause
-//! of the one function that rests (`Serving::rest`). The writer is flushed at the end alone.
+//! command of that one waits. At each look the tenants that are back are given the commands that waited for them
+//! (`returning.rt`). Before each rest, the clerk has written all answers that are known with none missing before them:
+//! a clause of the one function that rests (`Serving::rest`). The writer is flushed at the end alone.
 //!
 //! A worker without a round looks 16 times, the last one awake 512 times, the clerk 1,024 times, or 16 where
 //! rounds come late or none has come yet (`patience.rt`). Then they sleep:

@@ -1,7 +1,7 @@
-//! How long the clerk looks for rounds before it sleeps.
+//! Number of looks of the clerk for rounds before it sleeps.
 use firm_tray::LOOKS_BEFORE_SLEEP;
 
-// How many looks a short wait has.
+// Number of looks of a short wait.
 const FEW_LOOKS: u32 = 16;
 
 // While several rounds are away, once one came late, the wait is long again after this many.
@@ -22,16 +22,16 @@ pub(crate) struct Looks {
     pub(crate) most: u32,
 }
 
-/// What the rounds that came back tell of the next one. To look on for a round that comes soon spares the way to sleep
-/// and back; where rounds take longer, it only takes a processor from the workers. No clause speaks of it: it may cost
-/// time, and nothing else.
+/// A forecast of the next round by those that came back. To look on for a round that comes soon spares the way to sleep
+/// and back; where rounds take longer, it only takes a processor from the workers. No clause speaks of it: it can cost
+/// time alone.
 #[derive(Clone, Copy)]
 pub(crate) struct Patience {
     // Of the last look; `None` once a round that came back has judged the wait.
     last: Option<Looks>,
-    // How many rounds came back since one came within a long wait; a new clerk begins with `FEWEST_LATE`.
+    // Number of rounds that came back since one came within a long wait; a new clerk begins with `FEWEST_LATE`.
     since: u32,
-    // How many there are before the next long wait for a round that is away alone.
+    // Number of rounds before the next long wait for a round that is away alone.
     next: u32,
 }
 
@@ -50,7 +50,7 @@ impl Patience {
         next: FIRST_LONG_WAIT,
     };
 
-    /// How many looks in vain come before a sleep, while several rounds are away or one is.
+    /// Number of looks in vain before a sleep, while several rounds are away or one is.
     pub(crate) fn most_looks(self, are_several: bool) -> u32 {
         let is_long = if are_several {
             self.since % LONG_WAITS_OF_SEVERAL == 0

@@ -31,7 +31,7 @@ impl Model for Place {
 }
 
 impl Place {
-    // A place that was given so often, and where no round was asked yet.
+    // A place that was given this often, and where no round was requested yet.
     pub(crate) fn given_before(pass: PutPass, admissions: u32) -> Place
         requires unused { pass.put ≡ 0 }
         requires few { admissions ≤ most_admissions }
@@ -66,8 +66,8 @@ impl Place {
         self.pass.next()
     }
 
-    // How many rounds were asked. Each of at most 32,768 tenants asks no more rounds than it is given commands, at most
-    // 2^40.
+    // Number of rounds requested. Each of at most 32,768 tenants requests no more rounds than it is given commands, at
+    // most 2^40.
     pub(crate) fn asked(&self) -> u64
         ensures count { result ≡ self.now.put }
         ensures few { result ≤ 2 ^ 55 }

@@ -1,4 +1,4 @@
-//! What stands at the places of a hall before the first line.
+//! The states of a hall's places before the first line.
 ghost use Rattle.std.specs.Prelude.{◌≡◌, ◌<◌, All, IfOk, length};
 ghost use Rattle.firm_text.specs.Rosters.{most_places};
 ghost use Rattle.firm_table.specs.Openings.{place_opened, places_opened};
@@ -14,7 +14,7 @@ use firm_table::Opening;
 use firm_text::PLACES;
 use std::alloc::{AllocError, Global};
 
-// What stands at each place before the first line.
+// The state of each place before the first line.
 pub(crate) fn open_states(
     alloc: Global,
     opening: Opening<'_>,
@@ -37,7 +37,7 @@ pub(crate) fn open_states(
     Ok(states)
 }
 
-// What stands at a place before the first line: the desk of its tenant, or an empty one.
+// The state of a place before the first line: the desk of its tenant, or an empty one.
 fn open_state(
     alloc: Global,
     opening: Opening<'_>,

@@ -26,16 +26,16 @@ use std::thread::Threads;
 /// Answers the lines of an input of at most `most` bytes, 2^32 at most, for the tenants of the roster, which are
 /// admitted first, and for those that the operator admits later, up to 64 at a time. 1 to 8 workers solve their rounds,
 /// each on its own thread and each round after passing the gate. Answers are written in the order of their lines. A
-/// line for a tenant whose round is away waits for that round, and those of others behind it are answered meanwhile.
+/// line for a tenant whose round is away waits for that round, and later lines of others are answered meanwhile.
 /// The service itself waits for a round only if the next line retires its tenant, if 1,024 answers are held or the
 /// changes of held rounds have 4 MB of text, at the end of the input, or before a read for which the reader is not
 /// ready; meanwhile it writes each answer once it and those before it are known. Flushes the writer only at the end, so
 /// a buffering writer holds replies back until then.
 ///
-/// On `Ok` a read has found the end of the input, and what was written is the output for all of it. After a fault it is
-/// a prefix of the output for the bytes that were read. `Read` and `Write` mean that a call of the reader or the writer
-/// failed, `TooLong` that the input has more than `most` bytes, and `Memory` that the service was refused memory of its
-/// own or a worker could not be started. All workers are joined first.
+/// On `Ok` a read has reached the end of the input, and what was written is the output for all of it. After a fault it
+/// is a prefix of the output for the bytes that were read. `Read` and `Write` mean that a call of the reader or the
+/// writer failed, `TooLong` that the input has more than `most` bytes, and `Memory` that the service was refused memory
+/// of its own or a worker could not be started. All workers are joined first.
 pub fn serve<S: Source, W: Sink, R: Threads + Wait + Sync, G: Gate + Sync>(
     rt: &R,
     alloc: Global,
@@ -105,7 +105,7 @@ pub fn serve_from<S: Source, W: Sink, R: Threads + Wait + Sync, G: Gate + Sync>(
     let Ok(team) = Team::open(rt, alloc, &hall, gate, passes) else {
         return Err(ServeFault::Memory);
     };
-    // The clerk, which owns most, is opened behind all else that can fail.
+    // The clerk, which owns most, is opened after all else that can fail.
     let Ok(clerk) = HallClerk::open(setting, opening, places) else {
         return Err(ServeFault::Memory);
     };

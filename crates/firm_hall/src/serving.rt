@@ -46,7 +46,7 @@ pub(crate) struct Serving {
     pub(crate) desk_states: Vec<DeskState>,
     pub(crate) held: Held,
     pub(crate) unsettled: Unsettled,
-    // How long those that wait are looked for.
+    // Number of looks for those that wait.
     pub(crate) patience: Patience,
     ghost asks_there: { asker.queue ≡ hall.value.id },
 }
@@ -89,7 +89,7 @@ impl Serving {
         drop(held);
     }
 
-    /// Waits for the turn, if it has not come.
+    /// Waits for the turn, unless it has come.
     pub(crate) fn take_turn<R: Wait, W: Sink>(
         &mut self,
         setting: &Setting<'_, R>,
@@ -133,7 +133,7 @@ impl Serving {
         }
     }
 
-    // Gives a command to the tenant of this name, if it is there.
+    // Gives a command to the tenant of this name, if any.
     fn command<R: Wait>(&mut self, setting: &Setting<'_, R>, name: Name, command: Command)
         requires open { IsOpen setting.now.hall.now.id self.old }
         requires room { length self.old.answers < most_answers_held }
@@ -289,8 +289,8 @@ impl Serving {
     }
 }
 
-// Puts all known answers up to the first that waits after the text to be written. Whatever stands at the places stands
-// then too, and as much is told.
+// Appends all known answers up to the first that waits to the text to be written. Places and claims stay
+// as they are.
 fn put_known(held: &mut Held) -> Result<(), AllocError>
     ensures stands { (queue : QueueId) (register : List Entry) (desk_states : List DeskState)
         → Stands (serving_is queue register desk_states held.old)

@@ -1,10 +1,10 @@
-//! What serving relies on and no line changes.
+//! The premises of serving, which no line changes.
 use crate::halls::Hall;
 use firm_table::Opening;
 use std::alloc::Global;
 use std::sync::Wait;
 
-/// What a service runs on: the runtime and the memory, what it opens with, and its 1 to 8 workers, each of which passes
+/// The resources of a service: the runtime and the memory, its opening, and its 1 to 8 workers, each of which passes
 /// the gate before it solves a round.
 #[derive(Drop)]
 pub struct Setup<'s, R, G> {

@@ -9,7 +9,7 @@ use std::snapshot::Snapshot;
 use std::sync::Wait;
 use std::thread::{Promise, PromisedHandle, Scope, Threads};
 
-/// What a worker's thread promises: its report is of this hall.
+/// The promise of a worker's thread: its report is of this hall.
 #[derive(Drop)]
 pub(crate) struct OfHall(pub(crate) Snapshot<Hall>);
 

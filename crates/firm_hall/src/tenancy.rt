@@ -1,4 +1,4 @@
-//! Which tenant has which place: tenants are admitted and leave. Nothing here waits.
+//! The tenants of the places: tenants are admitted and leave. Nothing here waits.
 ghost use Rattle.std.specs.Prelude.{◌≡◌};
 ghost use Rattle.firm_text.specs.Registers.{place_in};
 ghost use Rattle.firm_text.specs.declared.operator.OperatorLine.TheVariants.{Admit, Retire};

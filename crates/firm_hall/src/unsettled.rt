@@ -1,4 +1,4 @@
-//! Which places a look has to visit.
+//! The places that a look has to visit.
 ghost use Rattle.std.specs.Prelude.{◌<◌};
 ghost use Rattle.firm_text.specs.Rosters.{most_places};
 
@@ -27,7 +27,7 @@ impl Unsettled {
         };
     }
 
-    // Whether there is more than one place.
+    // Set if there is more than one place.
     pub(crate) fn are_several(&self) -> bool {
         self.bits & self.bits.wrapping_sub(1) != 0
     }

@@ -18,21 +18,21 @@ use std::alloc::Global;
 use std::hint::spin_loop;
 use std::sync::{Arc, Wait};
 
-// A look that goes over all places counts as so many at one tray, since it takes as long.
+// A look at all places counts as this many at one tray, since it takes as long.
 const LOOKS_OF_SEVERAL: u32 = 16;
 
-// After each so many looks in vain, some microseconds, a worker is woken for the rounds in the queue if a wake is owed.
+// After this many looks in vain, some microseconds, a worker is woken for the rounds in the queue if a wake is owed.
 const LOOKS_BEFORE_RING: u32 = 256;
 
-/// What the clerk waits for.
+/// The event that the clerk waits for.
 pub(crate) trait Awaited {
-    /// What no look changes.
+    /// The part that no look changes.
     ghost Kept: { Type 0 };
 
     /// Its value for this.
     ghost kept: { Self → Self.Kept };
 
-    /// What holds once it has come.
+    /// The claim once it has come.
     ghost has_come: { Self.Kept → ServingIs → Type 0 };
 
     /// Whether it has come. If not, what makes it come notifies `answers` of the hall, or the waker.
@@ -87,7 +87,7 @@ impl Awaited for Turn {
 }
 
 impl<S: Source> Awaited for Input<'_, S> {
-    // Which reader it is, what it has left, and whether a read has failed.
+    // The reader, its remaining bytes, and whether a read has failed.
     ghost Kept = { ℕ × (Option (List ℕ) × Bool) };
 
     ghost kept = { λ input. (input.reader.ghost_name, (S.left input.reader.now, S.read_failed input.reader.now)) };
@@ -191,7 +191,7 @@ impl Serving {
             spin_loop();
             return next;
         };
-        // While it sleeps, no round of its own waits unheard.
+        // Wakes a worker for queued rounds before the sleep.
         self.asker.ring(setting.hall);
         announced.sleep(setting.rt, &self.asker);
         0

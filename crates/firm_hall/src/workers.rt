@@ -11,11 +11,11 @@ use std::alloc::Global;
 use std::marker::Model;
 use std::sync::Wait;
 
-// How much memory a worker takes and frees as it starts, in bytes: enough for a list of 2,000 changes, and below the
+// Bytes that a worker takes and frees as it starts: enough for a list of 2,000 changes, and below the
 // 128 KiB from which glibc maps each block anew, so that the thread's arena keeps the pages.
 const WARM_BYTES: usize = 120 * 1_024;
 
-/// What a worker does between taking a round and solving it.
+/// A worker's step between taking a round and solving it.
 pub trait Gate {
     /// Called by the worker that took this ticket's round, before it solves the round.
     fn pass(&self, ticket: Ticket);
@@ -42,7 +42,7 @@ impl Model for WorkerPass {
     ghost view = { λ p. p.taken };
 }
 
-/// What a worker did. Contracts see its hall and the tickets it took, in order; at run time it keeps only their number.
+/// A worker's report. Contracts see its hall and the tickets it took, in order; at run time it has only their number.
 #[derive(Drop)]
 pub struct Report {
     taken: PopPass,
@@ -62,7 +62,7 @@ impl Model for Report {
 }
 
 impl Report {
-    /// How many rounds the worker took. Takes no memory.
+    /// Number of rounds that the worker took. Takes no memory.
     pub fn count(&self) -> u64
         ensures { result ≡ length self.now.got }
     {
@@ -137,7 +137,7 @@ fn warm_up(alloc: Global) {
     let _ = vec![in alloc; 1u8; WARM_BYTES];
 }
 
-// Solves the round behind the gate, and tells the clerk. That may take long, so the worker has made the call that it
+// Solves the round after the gate, and notifies the clerk. That may take long, so the worker has made the call that it
 // owed.
 fn solve<G: Gate>(alloc: Global, hall: &Hall, job: Job, gate: &G, taken: &PopPass)
     requires { taken.now.owes_call ≡ false }

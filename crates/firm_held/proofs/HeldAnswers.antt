@@ -1,4 +1,4 @@
--- Which answer is the first that waits for a place, and what becomes of it.
+-- The first answer that waits for a place, and the list after it is known.
 use Rattle.std.proofs.Common.{◌≡◌, ℕ, zero, suc, ◌+◌, ◌<◌, ◌≤◌, List, [], ◌∷◌, length, take, set, get_or}
 use Rattle.std.proofs.Common.{refl, sym, ap, ◌∙◌, subst, arith, add-one}
 use Rattle.std.specs.Prelude.{true, false, Option, Some, None, MatchOption}
@@ -61,7 +61,7 @@ found_first place command zero (answer ∷ rest) default none low is = is
 found_first place command (suc at) (answer ∷ rest) default none low is =
     (none.0, found_first place command at rest default none.1 (omega arith) is)
 
--- what a look at one answer tells of it
+-- the result of a look at one answer
 pub looked_at : (place : ℕ) (at : ℕ) (answers : List HeldAnswer) (seen default : HeldAnswer) (found : Option Command)
     → seen ≡ get_or answers at default → at < length answers
     → MatchOption found (waits_for place seen ≡ false) (λ command. IsWaiting place command seen)

@@ -18,7 +18,7 @@ use Rattle.firm_held.specs.declared.held.HeldAnswer.TheVariants.{Known, Waiting}
 abbrev pub most_answers_held : ℕ
 most_answers_held = 1024
 
--- and no further one while the changes of held rounds have so many bytes of text
+-- and no further one while the changes of held rounds have this many bytes of text
 abbrev pub most_bytes_held : ℕ
 most_bytes_held = 4000000
 
@@ -26,7 +26,7 @@ most_bytes_held = 4000000
 abbrev pub bytes_of_change : Change → ℕ
 bytes_of_change change = length (flat_map spaced (change_words change))
 
--- and all changes of a round; no more than so many count
+-- and all changes of a round; at most this many count
 abbrev pub bytes_of_changes : List Change → ℕ
 bytes_of_changes changes = min (sum_by bytes_of_change changes) 4294967296
 

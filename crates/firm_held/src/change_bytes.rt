@@ -1,4 +1,4 @@
-//! How many bytes of text the changes of rounds have.
+//! Bytes of text of the changes of rounds.
 ghost use Rattle.std.specs.Prelude.{◌≡◌, ◌≤◌, length};
 ghost use Rattle.firm_text.specs.Replies.{spaced};
 ghost use Rattle.firm_held.specs.Held.{bytes_of_change, bytes_of_changes, bytes_of_line, bytes_of_reply};
@@ -6,7 +6,7 @@ ghost use Rattle.firm_held.specs.Held.{bytes_of_change, bytes_of_changes, bytes_
 use firm_rules::{Change, Name, Outcome, Reply};
 use firm_table::LineAnswer;
 
-/// The changes of a round count as at most so many bytes, far more than they have.
+/// The changes of a round count as at most this many bytes, far more than they have.
 const MOST_BYTES_COUNTED: u64 = 4_294_967_296;
 
 // The bytes of the changes in a known answer.

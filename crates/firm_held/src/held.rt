@@ -22,7 +22,7 @@ use std::marker::Model;
 /// At most this many answers are held.
 const MOST_ANSWERS_HELD: usize = 1_024;
 
-/// While the changes of held rounds have so many bytes of text, no further answer is to be held. A reply's other words
+/// While the changes of held rounds have this many bytes of text, no further answer may be held. A reply's other words
 /// have a few hundred bytes at most.
 const MOST_BYTES_HELD: u64 = 4_000_000;
 
@@ -40,7 +40,7 @@ pub enum HeldAnswer {
 pub struct Held {
     answers: VecDeque<HeldAnswer>,
     output: Vec<u8>,
-    // How many bytes of text the changes in the known answers have.
+    // Number of bytes of text of the changes in the known answers.
     bytes: u64,
 }
 
@@ -92,7 +92,7 @@ impl Held {
         MOST_BYTES_HELD <= self.bytes
     }
 
-    /// How many answers are held.
+    /// Number of answers held.
     pub fn len(&self) -> usize
         ensures { result ≡ length self.now.answers }
     {
@@ -138,7 +138,7 @@ impl Held {
         self.answers[at].command_of(place)
     }
 
-    /// Which answer is the first that waits for the place.
+    /// The index of the first answer that waits for the place.
     pub fn first_of(&self, place: usize) -> usize
         requires { (command : Command) × FirstIs place command self.now.answers }
         ensures { (command : Command) → FirstIs place command self.now.answers
@@ -215,7 +215,7 @@ impl HeldAnswer {
         }
     }
 
-    // How many bytes of text the changes in it have.
+    // Number of bytes of text of the changes in it.
     fn bytes(&self) -> u64
         ensures { result ≡ bytes_of_answer self.now }
     {

@@ -1,4 +1,4 @@
--- What a contract sees of a source that reads ahead.
+-- The value of a source that reads ahead in contracts.
 use Rattle.std.specs.Prelude.{ℕ, Bool, List, Option}
 
 -- the bytes that are left, where its reader tells them, and whether a read has failed so far

@@ -1,15 +1,15 @@
 //! Standard input as a source that knows whether a read would wait: since no call of the library says so, a second
 //! thread reads ahead.
 //!
-//! A `ReadAhead` tells the bytes that its reader tells: `open` says that all of them are left, and by the clauses of
+//! A `ReadAhead` claims the bytes that its reader claims: `open` says that all of them are left, and by the clauses of
 //! `Source` a read gives the front of what is left, and `is_ready` leaves it as it was (`specs/ReadAhead.antt`). Which
 //! answer `is_ready` gives is open, and so is whether the waker is notified.
 //!
 //! # What is proved
 //!
 //! - `open`: a source with all bytes of its reader left, of which no read has failed; its only error is refused memory
-//! - `ReadAhead::read`, `is_ready`: no byte of the reader is lost, and none told twice; a failed read stays known
-//! - `PieceReader`, private: the bytes of a piece are passed on before those behind it (`specs/inner/Pieces.antt`)
+//! - `ReadAhead::read`, `is_ready`: each byte of the reader is passed on exactly once; a failed read stays failed
+//! - `PieceReader`, private: the bytes of a piece are passed on before those after it (`specs/inner/Pieces.antt`)
 //! - each step of the source and its thread keeps their rule (`specs/Rule.antt`)
 //!
 //! # How it works

@@ -12,7 +12,7 @@ use std::marker::Model;
 /// The most bytes that are read ahead.
 const PIECE: usize = 4_096;
 
-/// What was read ahead and not passed on: nothing, a piece (an empty one is the end of the input), or a failure.
+/// Input that was read ahead and not passed on: nothing, a piece (an empty one is the end of the input), or a failure.
 #[derive(Drop)]
 pub(crate) enum Ahead {
     Nothing,

@@ -1,4 +1,4 @@
-//! A source that knows whether a read would wait: when asked, a thread of its own reads one piece ahead.
+//! A source that knows whether a read would wait: on request, a separate thread reads one piece ahead.
 
 ghost use Rattle.std.specs.Prelude.{◌≡◌, false, [], IfOk, None};
 ghost use Rattle.std.specs.Arc.{arc_value};
@@ -47,7 +47,7 @@ impl<'r, R, T: Read> Model for ReadAhead<'r, R, T> {
         × StandsAt s.seat.me s.reader };
 }
 
-/// A source over the reader, with a thread that sleeps until it is asked to read. Fails only if memory is refused; if
+/// A source over the reader, with a thread that sleeps until a read is requested. Fails only if memory is refused; if
 /// no thread can be started, the source can't tell whether a read would wait.
 pub fn open<'r, R: Threads + Wait + Clone + Drop + Send + 'static, T: Read + Drop + Send + 'static>(
     rt: &'r R,

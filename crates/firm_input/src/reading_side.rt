@@ -1,4 +1,4 @@
-//! The thread's side: it reads a piece each time it is asked to.
+//! The thread's side: it reads a piece on each request.
 use crate::turns::{ASKED, Board, CLOSED, READ, ReturnsReader, SourceSeat, TakesReader};
 use crossbeam_utils::sync::EventCount;
 use std::alloc::Global;
@@ -6,7 +6,7 @@ use std::io::Read;
 use std::marker::Model;
 use std::sync::{Arc, Mutex, Wait};
 
-/// What the source and its thread share.
+/// State shared by the source and its thread.
 #[derive(Drop)]
 pub(crate) struct Handover<T: Read> {
     pub(crate) board: Board<T>,
@@ -39,7 +39,7 @@ impl<T: Read> Model for ReadingSide<T> {
 }
 
 impl<T: Read + Drop> ReadingSide<T> {
-    /// Reads a piece each time it is asked to, until the source is closed.
+    /// Reads a piece on each request, until the source is closed.
     pub(crate) fn read_when_asked<R: Wait>(self, rt: &R) {
         let mut side = self;
         for _ in rt.forever() {
@@ -54,7 +54,7 @@ impl<T: Read + Drop> ReadingSide<T> {
         }
     }
 
-    // Looks at the word, and reads a piece if it is asked to.
+    // Looks at the word, and reads a piece if requested.
     fn look<R: Wait>(&mut self, rt: &R) -> u64 {
         let table = &self.handover.board.shared;
         let turn = table.load::<TakesReader>(&mut self.seat, 0);
@@ -74,7 +74,7 @@ impl<T: Read + Drop> ReadingSide<T> {
 }
 
 impl<T: Read> Handover<T> {
-    // Notifies the waker, if there is one.
+    // Notifies the waker, if any.
     fn notify<R: Wait>(&self, rt: &R) {
         let waker = self.waker.lock(rt).take();
         if let Some(waker) = waker {

@@ -1,6 +1,6 @@
-//! The turns of a source and its thread. The word is 0 while the source has its reader, 1 while the thread is asked to
-//! read, 2 once it has read, and 3 once the source is closed; the slot holds the reader on its way. A seat is what one
-//! side knows.
+//! The turns of a source and its thread. The word is 0 while the source has its reader, 1 while a read is requested,
+//! 2 once the thread has read, and 3 once the source is closed; the slot holds the reader on its way. A seat is the
+//! knowledge of one side.
 use crate::pieces::PieceReader;
 use atomic_table::{Play, Seat, Split, Table, TableRule};
 use std::alloc::Global;
@@ -10,7 +10,7 @@ use std::io::Read;
 /// The source has its reader.
 pub(crate) const HOME: u64 = 0;
 
-/// The thread is asked to read.
+/// A read is requested of the thread.
 pub(crate) const ASKED: u64 = 1;
 
 /// The thread has read.
@@ -30,7 +30,7 @@ pub enum Stage {
     Takes,
 }
 
-/// What a seat knows: its stage, and the bytes that were left when the reader was handed over. Never constructed.
+/// A seat's knowledge: its stage, and the bytes that were left when the reader was handed over. Never constructed.
 pub struct Sight {
     pub stage: Stage,
     pub left: Option<LinkedList<u8>>,
@@ -70,7 +70,7 @@ impl<T: Read> Play<Option<PieceReader<T>>, Sight> for Lends {
     ghost then = { lends };
 }
 
-/// The thread looks, and takes the reader if it is asked to read.
+/// The thread looks, and takes the reader if a read is requested.
 pub struct TakesReader;
 
 impl<T: Read> Play<Option<PieceReader<T>>, Sight> for TakesReader {

@@ -20,7 +20,7 @@ pub struct Class {
     pub number: u32,
 }
 
-/// Rents in levels: for each machine an amount, at most 2^40, and behind it the numbers of a class. Waiting has an
+/// Rents in levels: for each machine an amount, at most 2^40, followed by the numbers of a class. Waiting has an
 /// amount of 0.
 #[derive(Drop)]
 pub struct LevelRents {

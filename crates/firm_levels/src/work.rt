@@ -1,10 +1,10 @@
 //! Looks and searches of a proposal and of its check, counted as they are made.
-ghost use Rattle.std.specs.Prelude.{◌≡◌, ◌+◌, ◌≤◌, IsTrue};
-ghost use Rattle.firm_levels.specs.Work.{GoesOn};
+ghost use Rattle.std.specs.Prelude.{◌≡◌, ◌+◌, ◌≤◌, ◌⊎◌, false, IsTrue};
+ghost use Rattle.firm_levels.specs.Work.{GoesOn, after, refused};
 
 use std::marker::Model;
 
-/// How many searches and looks are allowed.
+/// Numbers of searches and looks that are allowed.
 #[derive(Clone, Copy, PartialEq, Eq)]
 pub struct Allowance {
     pub searches: u64,
@@ -32,12 +32,14 @@ impl Model for Work {
       searches = w.searches;
       looks = w.looks;
       most = (w.most.searches, w.most.looks);
+      is_short = w.is_short;
     } };
 
     ghost invariant = { λ w. IsWithin (record {
       searches = w.searches;
       looks = w.looks;
       most = (w.most.searches, w.most.looks);
+      is_short = w.is_short;
     }) };
 }
 
@@ -45,7 +47,7 @@ impl Work {
     /// Nothing done yet.
     pub fn new(most: Allowance) -> Work
         ensures most { result.most ≡ (most.searches, most.looks) }
-        ensures none { (result.searches ≡ 0) × (result.looks ≡ 0) }
+        ensures none { (result.searches ≡ 0) × (result.looks ≡ 0) × (result.is_short ≡ false) }
     {
         Work {
             searches: 0,
@@ -55,7 +57,7 @@ impl Work {
         }
     }
 
-    /// How many searches were counted. Each took a look to begin, and a sweep is one.
+    /// Number of searches counted. Each took a look to begin, and a sweep is one.
     pub fn searches(&self) -> u64
         ensures searches { result ≡ self.now.searches }
         ensures most { result ≤ self.now.most.0 }
@@ -63,7 +65,7 @@ impl Work {
         self.searches
     }
 
-    /// How many looks were counted.
+    /// Number of looks counted.
     pub fn looks(&self) -> u64
         ensures looks { result ≡ self.now.looks }
         ensures most { result ≤ self.now.most.1 }
@@ -71,7 +73,7 @@ impl Work {
         self.looks
     }
 
-    /// How many looks are left.
+    /// Number of looks left.
     #[inline(always)]
     pub fn left(&self) -> u64
         ensures { result + self.now.looks ≡ self.now.most.1 }
@@ -81,7 +83,9 @@ impl Work {
 
     /// Whether a search, a look or a pass was refused.
     #[inline(always)]
-    pub fn is_short(&self) -> bool {
+    pub fn is_short(&self) -> bool
+        ensures { result ≡ self.now.is_short }
+    {
         self.is_short
     }
 
@@ -89,7 +93,8 @@ impl Work {
     #[inline(always)]
     pub fn look(&mut self) -> bool
         ensures work { GoesOn self.old self.new }
-        ensures counted { IsTrue result → self.new.looks ≡ self.old.looks + 1 }
+        ensures counted { IsTrue result → self.new ≡ after self.old 0 1 }
+        ensures refused { result ≡ false → (self.new ≡ refused self.old) × (self.old.looks ≡ self.old.most.1) }
     {
         let is_left = self.looks < self.most.looks;
         if is_left {
@@ -106,7 +111,10 @@ impl Work {
         ensures work { GoesOn self.old self.new }
         ensures counted { self.new.looks ≡ self.old.looks + result }
         ensures few { result ≤ entries }
-        ensures all { self.old.looks + entries ≤ self.old.most.1 → result ≡ entries }
+        ensures all { self.old.looks + entries ≤ self.old.most.1
+            → (result ≡ entries) × (self.new ≡ after self.old 0 entries) }
+        ensures none { self.old.most.1 + 1 ≤ self.old.looks + entries
+            → (result ≡ 0) × (self.new ≡ refused self.old) }
     {
         let looks = u64::from(entries);
         if self.left() < looks {
@@ -120,7 +128,10 @@ impl Work {
     /// Whether a search may begin, which is then counted, with a look.
     pub fn begin_search(&mut self) -> bool
         ensures work { GoesOn self.old self.new }
-        ensures counted { IsTrue result → self.new.looks ≡ self.old.looks + 1 }
+        ensures counted { IsTrue result → self.new ≡ after self.old 1 1 }
+        ensures refused { result ≡ false
+            → (self.new ≡ refused self.old)
+            × ((self.old.looks ≡ self.old.most.1) ⊎ (self.old.searches ≡ self.old.most.0)) }
     {
         let is_left = self.looks < self.most.looks && self.searches < self.most.searches;
         if is_left {

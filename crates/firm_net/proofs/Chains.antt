@@ -72,7 +72,7 @@ KeptSide side links new n ids =
     → (kept : Link) × (find new a.id ≡ Some kept) × (neighbours_of side kept ≡ neighbours_of side link)
     × (end_of side kept.row ≡ n)
 
--- a list whose arcs are kept is the same list
+-- a list with the same arcs is the same list
 pub chain-kept : (side : Side) (links new : Arena Link) (n : NodeId) (before from : Option ℕ) (ids : List ArcId)
     → KeptSide side links new n ids → IsChain side links n before from ids → IsChain side new n before from ids
 chain-kept side links new n before from [] kept chain = chain
@@ -180,7 +180,7 @@ touched side links o f id link touches found =
       | inr other ↦ (link, find-at_option_other links o f id other ∙ found, refl, refl)
     ]
 
--- so the lists of the other side are kept
+-- so the lists of the other side stay the same
 pub kept-opposite : (side : Side) (links : Arena Link) (o p : Option ℕ) (f g : Link → Link) → Touches side f
     → Touches side g
     → (n : NodeId) (ids : List ArcId) → KeptSide (opposite side) links (at_option (at_option links o f) p g) n ids

@@ -1,4 +1,4 @@
--- What each change of a net takes away from it and brings to it.
+-- The nodes and arcs that each change removes from a net and adds to it.
 use Rattle.std.proofs.Common.{◌≡◌, ℕ, ◌+◌, ◌<◌, Some, None, [], ◌∷◌, arith, refl, sym, ap, ◌∙◌, length-set}
 use Rattle.std.specs.List.{sum_by}
 use Rattle.std.proofs.lemmas.List.Sums.{sum_by-cons}

@@ -1,4 +1,4 @@
--- What each change of a net leaves: the other rows and nodes, and how many there are.
+-- The unchanged part of each change of a net: the other rows and nodes, and their numbers.
 use Rattle.std.proofs.Common.{◌≡◌, ◌≢◌, ℕ, ◌+◌, ◌-◌, ◌<◌, ◌↔◌, [], ◌∷◌, refl, ap, ◌∙◌, arith, Some, None, IsSome}
 use Rattle.firm_arena.specs.Arena.{Arena, find, held_at, capacity_of, changed_at}
 use Rattle.firm_arena.specs.declared.Id.{Id}

@@ -35,7 +35,7 @@ not-first side links n before from (b ∷ rest) a la (lb, stands, chain) found a
     λ same. absent (subst (λ (c : ArcId). Contains (b ∷ rest) c) (sym same) (contains-here b rest)) in
     places-apart links a b la lb found stands.found other (same_Some a.id.place b.id.place (sym e ∙ stands.starts))
 
--- a list whose first arc gets another arc before it, where the links new of the others are kept
+-- a list whose first arc gets another arc before it, where the links of the others stay the same
 joined : (side : Side) (links : Arena Link) (n : NodeId) (first : Option ℕ) (ids : List ArcId) (a : ArcId) (la : Link)
     → EachOnce ids → (Contains ids a → ⊥) → find links a.id ≡ Some la → IsChain side links n None first ids
     → IsChain side (links_from side a.id.place first links) n (Some a.id.place) first ids
@@ -196,7 +196,7 @@ behind-of side links n before from (x ∷ rest) a la once (lx, stands, chain) ha
           ]
     ]
 
--- the chain behind the arc that leaves, where the arc is its first
+-- the chain after the arc that leaves, where the arc is its first
 left-first : (side : Side) (links : Arena Link) (n : NodeId) (x : ArcId) (lx : Link) (rest : List ArcId)
     → EachOnce rest → ((b : ArcId) → Contains rest b → (neighbours_of side lx).previous ≢ Some b.id.place)
     → IsChain side links n (Some x.id.place) (neighbours_of side lx).next rest
@@ -253,7 +253,7 @@ of-member side links n from ids chain z has p e =
     let there = chain-found side links n None from ids chain z has in
     (z, there.0, e, there.1, there.2)
 
--- the chain without the arc that leaves: it begins behind it where the arc is the first, and else as before
+-- the chain without the arc that leaves: it begins after it where the arc is the first, and else as before
 left : (side : Side) (links : Arena Link) (n : NodeId) (before from : Option ℕ) (ids : List ArcId) (a : ArcId)
     (la : Link)
     → EachOnce ids → ((b : ArcId) → Contains ids b → before ≢ Some b.id.place)

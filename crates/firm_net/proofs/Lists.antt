@@ -39,7 +39,7 @@ without_arc-absent a (b ∷ rest) absent =
           ∙ ap (λ (l : List ArcId). b ∷ l) (without_arc-absent a rest (λ h. absent (contains-there b rest a h)))
     ]
 
--- the arc behind the first one, where it stands first once
+-- the list after its first arc, where that arc occurs once
 pub without_arc-first : (a : ArcId) (rest : List ArcId) → (Contains rest a → ⊥) → without_arc a (a ∷ rest) ≡ rest
 without_arc-first a rest absent = without_arc-skips a rest ∙ without_arc-absent a rest absent
 

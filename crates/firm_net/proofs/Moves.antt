@@ -1,4 +1,4 @@
--- What links and nodes show after each change of a net.
+-- Links and nodes after each change of a net.
 use Rattle.std.proofs.Common.{◌≡◌, ◌+◌, ◌^◌, ℕ, ◌<◌, List, [], ◌∷◌, Contains, refl, sym, ap, ◌∙◌, subst, Option, Some}
 use Rattle.std.proofs.Common.{None, IsSome}
 use Rattle.std.proofs.lemmas.Option.{none-some, same_Some}
@@ -54,7 +54,7 @@ moved-remove_node links nodes n is shows node no_out no_in =
     (shows-unnode links nodes (nodes_shown links nodes) n.id.place shows) refl
     (net-without_node (shown_net links nodes) n is node no_out no_in)
 
--- the facts of a list, for the lists that are found
+-- the facts of a list, for the lists of a node
 pub once-found : (side : Side) (nodes : Arena Lists) (n : NodeId) (lists : Lists) → find nodes n.id ≡ Some lists
     → EachOnce (listing side nodes n)
     → EachOnce (side_list side lists)

@@ -1,4 +1,4 @@
--- What every net keeps, through each change.
+-- The invariant of a net, through each change.
 use Rattle.std.proofs.Common.{◌≡◌, ◌≢◌, ℕ, ◌+◌, ◌^◌, ◌<◌, ◌≤◌, ◌==◌, ◌⊎◌, inl, inr, Bool, true, false, cond, List, []}
 use Rattle.std.proofs.Common.{◌∷◌, Contains, refl, sym, ap, ap₂, ◌∙◌, subst, arith, Option, Some, None, option_map}
 use Rattle.std.proofs.Common.{IsSome, length-set}

@@ -1,4 +1,4 @@
--- What each change of a net's parts says of the net before and after.
+-- Each change of a net's parts as a relation between the nets before and after.
 use Rattle.std.proofs.Common.{◌≡◌, ◌≢◌, ℕ, ◌+◌, ◌-◌, ◌<◌, ◌≤◌, ◌⊎◌, inl, inr, ◌^◌, List, [], ◌∷◌, Contains, length}
 use Rattle.std.proofs.Common.{is_some, IfSome, Bool, true, false, cond, ◌==◌, refl, sym, ap, ap₂, ◌∙◌, subst, subst₂}
 use Rattle.std.proofs.Common.{arith, Option, Some, None, option_map, IsSome, set}
@@ -620,7 +620,7 @@ moves_head links links1 links2 links3 nodes nodes1 nodes3 old a link head n row 
           (with_head-edit net a link.row n is found_row (subst (λ (k : Net). IsNet k) end.is end.net)));
     }
 
--- what holds of a value if there is one, where there is one
+-- a property of the value of an option that has one
 pub some-and : {X : Type 0} (o : Option X) (Q : X → Type 0) → IsSome o → IfSome o Q → IsSomeAnd o Q
 some-and None Q there holds = absurd (false≢true there)
 some-and (Some x) Q there holds = holds

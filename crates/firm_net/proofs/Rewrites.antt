@@ -1,4 +1,4 @@
--- What links and nodes show after an arc's row changed, its head moved, or all flow was cleared.
+-- Links and nodes after an arc's row changed, its head moved, or all flow was cleared.
 use Rattle.std.proofs.Common.{◌≡◌, ◌≢◌, ℕ, ◌≤◌, List, ◌∷◌, Contains, set, map, replicate, zero, suc, refl, sym, ap, ◌∙◌}
 use Rattle.std.proofs.Common.{subst, subst₂, Option, Some, None}
 use Rattle.std.proofs.lemmas.Option.{same_Some}

@@ -1,4 +1,4 @@
--- What a net's links and nodes show, and what they show after each change.
+-- The rows and lists that a net's links and nodes represent, before and after each change.
 use Rattle.std.proofs.Common.{◌≡◌, ◌≢◌, ℕ, ◌+◌, ◌<◌, ◌≤◌, ◌^◌, List, [], ◌∷◌, Contains, length, refl, sym, ap, ap₂, ◌∙◌}
 use Rattle.std.proofs.Common.{subst, arith, Option, Some, None, option_map, is_some, IsSome}
 use Rattle.std.proofs.lemmas.List.Sums.{count_by-le-length}

@@ -1,4 +1,4 @@
--- What a net holds apart from its flow, and what a change takes away from it and brings to it.
+-- A net apart from its flow, and the nodes and arcs that a change removes and adds.
 use Rattle.std.specs.Prelude.{◌≡◌, ℕ, ◌+◌, ◌≤◌, ◌↔◌, List, map, length, sum_by}
 use Rattle.firm_arena.specs.Arena.{entries, capacity_of}
 use Rattle.firm_net.specs.Row.{Row}

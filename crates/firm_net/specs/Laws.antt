@@ -1,4 +1,4 @@
--- What callers may use of a net's rows: the list of what a function makes of each, and the rows after a change.
+-- Laws for callers about a net's rows: the list of a function's values, and the rows after a change.
 use Rattle.std.specs.Prelude.{◌≡◌, ◌≢◌, ◌⊎◌, ◌==◌, true, false, ℕ, ◌+◌, ◌<◌, List, [], ◌∷◌, map, length, sum_by}
 use Rattle.std.specs.Prelude.{Contains, Some, None, option_map}
 use Rattle.std.proofs.Common.{refl, sym, ap, ap₂, ◌∙◌, subst, arith, inl, inr, zero, suc, get_or, eq-eqb, ne_eqb}
@@ -90,7 +90,7 @@ empty_row nodes arcs a = find-vacant arcs 0 a.id
 pub empty_node : (nodes arcs : ℕ) (n : NodeId) → lists_at (empty_net nodes arcs) n ≡ None
 empty_node nodes arcs n = find-vacant nodes 0 n.id
 
--- a row that is changed is found under its arc
+-- a changed row belongs to its arc
 pub changed_row : (net : Net) (a : ArcId) (row : Row) (g : Row → Row) → row_at net a ≡ Some row
     → row_at (with_row net a g) a ≡ Some (g row)
 changed_row net a row g there = find-changed_own net.arcs a.id row g there

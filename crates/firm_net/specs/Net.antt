@@ -1,4 +1,4 @@
--- What a contract sees of a `Net`: a map of nodes, each with its lists of arcs, and a map of arcs.
+-- The value of a `Net` in contracts: a map of nodes, each with its lists of arcs, and a map of arcs.
 use Rattle.std.specs.Prelude.{◌≡◌, ◌≢◌, ℕ, ◌+◌, ◌-◌, ◌<◌, ◌≤◌, ◌==◌, ◌&&◌, Bool, not, List, [], ◌∷◌, filter}
 use Rattle.std.specs.Prelude.{Contains, Option, Some, None, IsSome}
 use Rattle.firm_arena.specs.Arena.{Arena, find, capacity_of, len_of, vacant, with_put, without, IsBoundedMap}
@@ -63,7 +63,7 @@ out_list = arcs_on Out
 abbrev pub in_list : Net → NodeId → List ArcId
 in_list = arcs_on In
 
--- the place of a node, where it is there
+-- the place of a node, if the net has it
 abbrev pub place_in : NodeId → Option Lists → Option ℕ
 place_in n None = None
 place_in n (Some _) = Some n.id.place

@@ -1,4 +1,4 @@
--- What a contract sees of an `ArcRow`.
+-- The value of an `ArcRow` in contracts.
 use Rattle.std.specs.Prelude.{◌≢◌, ℕ, ◌≤◌}
 use Rattle.firm_net.specs.declared.row.NodeId.{NodeId}
 

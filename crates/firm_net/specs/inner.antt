@@ -1,4 +1,4 @@
--- What no public clause cites: how a net, its rows and its walks keep what a contract sees of them.
+-- For proofs inside the crate: how a net, its rows and its walks represent their values.
 pub mod Place
 pub mod Links
 pub mod Fields

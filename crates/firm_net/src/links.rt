@@ -12,7 +12,7 @@ use firm_arena::Arena;
 use std::alloc::{AllocError, Global};
 use std::marker::Model;
 
-/// Which of the two lists of a node: the arcs out of it, or the arcs into it.
+/// One of a node's two lists: the arcs out of it, or the arcs into it.
 #[derive(Clone, Copy)]
 pub enum Side {
     Out,
@@ -58,7 +58,7 @@ impl Place {
         Place { number: place }
     }
 
-    /// The number of the place, if there is one.
+    /// The number of the place, if any.
     pub fn get(self) -> Option<u32>
         ensures { result ≡ self }
     {
@@ -232,7 +232,7 @@ fn set_neighbours(links: &mut Arena<Link>, side: Side, place: Place, neighbours:
     link.set_neighbours(side, neighbours);
 }
 
-/// Names another arc behind the one at a place, where a place is named.
+/// Links another arc after the one at a place, if a place is given.
 fn set_next(links: &mut Arena<Link>, side: Side, place: Place, next: Place)
     ensures { links.new ≡ at_option links.old place (with_next side next) }
 {
@@ -357,7 +357,7 @@ pub fn set_row(links: &mut Arena<Link>, arc: ArcId, row: ArcRow)
     link.row = row;
 }
 
-/// Sets low and flow of the arc at a place to 0, where one is there.
+/// Sets low and flow of the arc at a place to 0, if any.
 fn clear_row(links: &mut Arena<Link>, place: u32)
     ensures { links.new ≡ changed_at links.old place cleared_link }
 {

@@ -54,7 +54,7 @@ pub struct Net {
     nodes: Arena<Node>,
     links: Arena<Link>,
     added: u64,
-    // Whether low and flow of every arc are known to be 0, so that a net which is clear is not gone over again.
+    // Set if low and flow of every arc are 0, so that a clear net is not cleared again.
     clear: bool,
 }
 
@@ -97,7 +97,7 @@ impl Net {
         (self.nodes.capacity(), self.links.capacity())
     }
 
-    /// How many more nodes and arcs can be added.
+    /// Numbers of nodes and arcs that can still be added.
     pub fn room(&self) -> (u32, u32)
         ensures nodes { result.0 + node_count self.now ≡ capacity_of self.now.nodes }
         ensures arcs { result.1 + arc_count self.now ≡ capacity_of self.now.arcs }
@@ -106,7 +106,7 @@ impl Net {
         (self.nodes.room(), self.links.room())
     }
 
-    /// How many nodes and arcs were ever added.
+    /// Number of nodes and arcs ever added.
     pub fn added(&self) -> u64
         ensures value { result ≡ added_of self.now }
         ensures net { IsNet self.now }
@@ -287,7 +287,7 @@ impl Net {
         Some((ArcId { id }, link.row))
     }
 
-    /// A place behind those of all arcs, at most the limit of arcs.
+    /// A place above those of all arcs, at most the limit of arcs.
     pub fn used(&self) -> u32
         ensures below { (a : ArcId) → IsArc self.now a → a.id.place < result }
         ensures within { result ≤ capacity_of self.now.arcs }

@@ -118,7 +118,7 @@ impl ArcRow {
         self.cap
     }
 
-    /// What one unit costs, at most 3,000,000.
+    /// Cost of one unit of flow, at most 3,000,000.
     pub fn cost(self) -> u32
         ensures value { result ≡ self.cost }
         ensures row { IsRow self }

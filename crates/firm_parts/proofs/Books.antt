@@ -81,7 +81,7 @@ is_given places name at given =
       new = unnamed places name (none_of (place_in register name) both.0);
     }
 
--- a name that no place has is that of none behind the first, nor of the first
+-- a name that no place has is not the first's, nor that of any after it
 none_behind : (tenant : Option (List ℕ × Book)) (rest : List SavedPlace) (name : List ℕ)
     → book_behind tenant rest name ≡ None → book_in rest name ≡ None
 none_behind None rest name none = none

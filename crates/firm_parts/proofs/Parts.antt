@@ -82,7 +82,7 @@ seated_book (place ∷ rest) name = by place.tenant (seated_book rest name)
         (λ b. (b || is_seated rest name) ≡ is_some (cond b (Some tenant.1) (book_in rest name)))
         [ true ↦ refl | false ↦ more ]
 
--- a tenant that is kept was there
+-- a tenant of the cut state was in the state
 kept_named : (names : List (List ℕ)) (tenant : Option (List ℕ × Book)) (name : List ℕ)
     → option_map (λ (t : List ℕ × Book). t.0) (kept_tenant names tenant) ≡ Some name
     → option_map (λ (t : List ℕ × Book). t.0) tenant ≡ Some name

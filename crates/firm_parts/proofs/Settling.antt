@@ -68,7 +68,7 @@ settled_register places at tenant =
     (ap (λ (entry : Entry). entry.admissions) (get_or-map entry_of places at untouched))
     ∙ sym (map-set entry_of places at p)
 
--- the same, where an index has found the place before
+-- the same for a place that a search by index gave
 pub settled_found : (places : List SavedPlace) (at : ℕ) (found : SavedPlace) (tenant : List ℕ × Book)
     → at < length places → found ≡ get_or places at found
     → with_tenant (register_of places) at tenant.0

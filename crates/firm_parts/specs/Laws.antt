@@ -1,4 +1,4 @@
--- What cutting and joining states mean to their tenants.
+-- The meaning of cutting and joining states to their tenants.
 use Rattle.std.specs.Prelude.{◌≡◌, ℕ, List, None, Some, Ok, if◌then◌else◌}
 use Rattle.firm_rules.specs.Book.{Book}
 use Rattle.firm_rules.specs.Names.{is_among}

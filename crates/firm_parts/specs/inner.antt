@@ -1,3 +1,3 @@
--- What no public clause cites.
+-- For proofs inside the crate.
 pub mod Joining
 pub mod Seats

@@ -59,7 +59,7 @@ fn settle_all(places: &mut Vec<SavedPlace>, mut others: Vec<SavedPlace>) -> Resu
     Ok(())
 }
 
-// Gives the tenant, if there is one, the place that the register has for it.
+// Gives the tenant, if any, the place that the register has for it.
 fn settle_tenant(
     places: &mut Vec<SavedPlace>,
     register: &mut Register,

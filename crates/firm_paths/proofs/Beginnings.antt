@@ -1,4 +1,4 @@
--- What the tables of the searches are before the first.
+-- The tables of the searches before the first search.
 use Rattle.std.proofs.Common.{◌≡◌, ℕ, zero, suc, false, None, [], arith, ap, refl, inl}
 use Rattle.std.specs.Prelude.{get_or, is_some, replicate}
 use Rattle.std.proofs.lemmas.List.{get_or-replicate, length-replicate}

@@ -1,4 +1,4 @@
--- How many arcs leave or enter a node.
+-- Numbers of arcs that leave or enter a node.
 use Rattle.std.proofs.Common.{◌≡◌, ℕ, ◌+◌, ◌≤◌, Bool, true, false, cond, eqb, Option}
 use Rattle.std.proofs.Common.{Some, None, List, [], ◌∷◌, length, arith, refl, sym, ap, subst, ◌∙◌, ⊎_elim}
 use Rattle.std.specs.Prelude.{Contains, is_some, not, ◌&&◌}

@@ -1,4 +1,4 @@
--- What the search by labels gives: prices that are valid again, a path, or a set that shows that there is none.
+-- The result of the search by labels: valid prices, and a path or a set that shows that there is none.
 use Rattle.std.proofs.Common.{◌≡◌, ℕ, ◌+◌, ◌*◌, ◌-◌, ◌<◌, ◌≤◌, ◌^◌, true, false, Option, Some, None, List, [], length}
 use Rattle.std.proofs.Common.{arith, sym, ap, ◌∙◌, ⊎_elim}
 use Rattle.std.specs.Prelude.{slice_index, MatchOption}

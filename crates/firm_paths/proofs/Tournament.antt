@@ -1,4 +1,4 @@
--- The tournament of keys: one key is set, and the least is found.
+-- The tournament of keys: setting one key, and finding the least.
 use Rattle.std.proofs.Common.{◌≡◌, ℕ, zero, suc, ◌+◌, ◌*◌, ◌/◌, ◌<◌, ◌≤◌, List, length, set, arith, refl, sym, ap}
 use Rattle.std.proofs.Common.{inl, inr, ◌⊎◌, ⊎_elim, subst}
 use Rattle.std.specs.Prelude.{slice_index}

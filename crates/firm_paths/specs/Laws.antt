@@ -1,4 +1,4 @@
--- What the list of a net's arcs has to do with the net's rows, and how counts of searches add up.
+-- Laws about the list of a net's arcs and the net's rows, and about sums of counts of searches.
 use Rattle.std.specs.Prelude.{◌≡◌, ℕ, ◌+◌, length, Some, All, Contains}
 use Rattle.std.proofs.Common.{sym, subst, get_or}
 use Rattle.std.proofs.lemmas.List.{get_or_default}
@@ -22,7 +22,7 @@ abbrev pub EachRowIsListed : Type 0
 EachRowIsListed =
     (net : Net) (id : ArcId) (row : Row) → row_at net id ≡ Some row → Contains (arcs_of net) (arc_of id row)
 
--- a row that was changed is found under its id
+-- a changed row belongs to its id
 abbrev pub ChangedRowIsFound : Type 0
 ChangedRowIsFound =
     (net : Net) (id : ArcId) (row : Row) (change : Row → Row) → row_at net id ≡ Some row

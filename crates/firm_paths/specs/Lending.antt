@@ -1,4 +1,4 @@
--- What a `Scratch` is once the path that borrows it is gone.
+-- The `Scratch` after the path that borrows it ends.
 use Rattle.std.specs.Prelude.{◌≡◌, ℕ, ⊤}
 use Rattle.std.specs.Borrow.{follows_so, MutBor, Fml}
 use mathlib.Core.Option.{none}

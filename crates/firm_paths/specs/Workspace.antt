@@ -1,4 +1,4 @@
--- What a contract sees of a `Scratch`, and how searches are counted.
+-- The value of a `Scratch` in contracts, and its counts of searches.
 use Rattle.std.specs.Prelude.{◌≡◌, ℕ, List, ◌+◌, ◌-◌, ◌*◌, ◌^◌, ◌<◌, ◌≤◌}
 use Rattle.firm_paths.specs.declared.search.Visit.{Visit}
 

@@ -1,4 +1,4 @@
--- What no public clause cites: the words in which functions inside the crate keep what they keep.
+-- For proofs inside the crate: the invariants of its functions.
 pub mod Search
 pub mod Spread
 pub mod Walk

@@ -94,7 +94,7 @@ impl Prices {
         self.base = base;
     }
 
-    /// How many places have a price.
+    /// Number of places that have a price.
     pub(crate) fn places(&self) -> usize
         ensures value { result ≡ length self.now.prices }
         ensures limit { length self.now.prices ≡ self.now.limits.0 }
@@ -114,7 +114,7 @@ fn rebase(less: &mut [u64], goal: usize)
     }
 }
 
-/// What `raise` does, on what each price lacks to the base; `base` is the new one.
+/// `raise` for a table in which each price is stored as its distance below the base; `base` is the new one.
 fn raise_table(base: u64, less: &mut [u64], states: &[NodeState], visits: &[Visit], goal: usize)
     requires length { length states.now ≡ length less.old }
     requires goal { goal < length less.old }

@@ -86,21 +86,21 @@ impl Scratch {
         self.looks = 0;
     }
 
-    /// How often `begin` was called; `u64::MAX` for more than can be told.
+    /// Number of calls of `begin`; `u64::MAX` stands for that number and more.
     pub fn begins(&self) -> u64
         ensures { result ≡ self.now.begins }
     {
         self.begins
     }
 
-    /// How many searches were made since the last `begin`; `u64::MAX` for more than can be told.
+    /// Number of searches since the last `begin`; `u64::MAX` stands for that number and more.
     pub fn searches(&self) -> u64
         ensures { result ≡ self.now.searches }
     {
         self.searches
     }
 
-    /// How many looks at an arc the searches took since the last `begin`; `u64::MAX` for more than can be told.
+    /// Number of looks at an arc since the last `begin`; `u64::MAX` stands for that number and more.
     pub fn looks(&self) -> u64
         ensures { result ≡ self.now.looks }
     {

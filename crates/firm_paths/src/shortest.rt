@@ -27,8 +27,8 @@ use crate::search::{
 use firm_net::{ArcRow, Net, NodeId, Way};
 use std::alloc::{AllocError, Global};
 
-/// What the search by labels fills: the state of each place, the open nodes by their distances, the nodes in the order
-/// of their visits, and how many arcs were looked at.
+/// Tables of the search by labels: the state of each place, the open nodes by their distances, the nodes in the order
+/// of their visits, and the number of looks at arcs.
 #[derive(Drop)]
 pub struct Labels {
     pub states: Vec<NodeState>,

@@ -35,8 +35,8 @@ pub struct TightArcs<'a> {
     pub barred: &'a [ArcId],
 }
 
-/// What a search for tight paths fills, from their end on and against the arcs: whether the node of each place was
-/// seen, the nodes in the order of their visits, and how many arcs were looked at.
+/// Tables of a search for tight paths, from their end and against the arcs: whether the node of each place was
+/// visited, the nodes in the order of their visits, and the number of looks at arcs.
 #[derive(Drop)]
 pub struct Reach {
     pub seen: Vec<bool>,
@@ -214,8 +214,8 @@ impl Reach {
         self.follow_arcs(arcs, current, Way::Backward);
     }
 
-    /// Visits nodes from the root on, in the order in which they are found, until it comes to the goal, if there is
-    /// one; says as which number that was visited.
+    /// Visits nodes from the root, breadth first, up to the goal, if one is given; returns the
+    /// number of the goal's visit.
     fn breadth_first(
         &mut self,
         arcs: &TightArcs<'_>,
@@ -345,7 +345,7 @@ pub fn tight_path<'s>(
     Some(&scratch.steps[..])
 }
 
-/// The place of a node, if one is given.
+/// The place of a node, if given.
 fn place_of(net: &Net, node: Option<NodeId>) -> Option<usize>
     requires { IfSome node (λ node. IsNode net.now node) }
     ensures some { IfSome node (λ node. result ≡ Some node.id.place) }

@@ -1,4 +1,4 @@
--- What callers may use of the words in `Options`, `Files` and `Runs`.
+-- Laws for callers about the words in `Options`, `Files` and `Runs`.
 use Rattle.std.specs.Prelude.{◌≡◌, ℕ, Bool, List, [], Option, Some, None, Result, Ok, Err, MatchResult, false, true}
 use Rattle.std.specs.Prelude.{is_some, refl}
 use Rattle.std.specs.Borrow.{Bor}

@@ -1,4 +1,4 @@
--- What a program takes, what it leaves as it was, and how a service that it opens with a file ends.
+-- The inputs of a program, its unchanged devices, and the end of a service that it opens with a file.
 use Rattle.std.specs.Prelude.{◌≡◌, ℕ, false}
 use Rattle.firm_table.specs.Opened.{Opened}
 use Rattle.firm_table.specs.Service.{Device, ServedFrom, StoppedFrom}

@@ -1,4 +1,4 @@
-//! What ends a program early: its text and exit status.
+//! Faults that end a program early: text and exit status.
 
 ghost use Rattle.std.specs.Prelude.{◌≡◌};
 ghost use Rattle.firm_program.specs.Faults.{fault_of_roster, fault_of_state, status_of};
@@ -14,7 +14,7 @@ use std::fmt;
 use std::fmt::Write;
 use thiserror::Error;
 
-/// Why a program ended early; its text, behind the program's name, is the line that goes to standard error.
+/// The reason why a program ended early; its text, after the program's name, is the line that goes to standard error.
 #[derive(Debug, Drop, Error)]
 pub enum Fault {
     #[error("{0}")]
@@ -29,7 +29,7 @@ pub enum Fault {
     LongState,
     #[error("state fault {code} {name} in line {line}", code = .0.kind.code(), name = .0.kind.name(), line = .0.line)]
     State(StateFault),
-    /// A tenant can't be in the state that is asked for.
+    /// A tenant can't be in the requested state.
     #[error("tenant fault {code} {name} of {tenant:?}", code = .1.code(), name = .1.name(), tenant = .0)]
     Tenant(Name, OperatorRefusal),
     /// The service stopped, or memory was refused before it.
@@ -37,7 +37,7 @@ pub enum Fault {
     Service(ServeFault),
 }
 
-/// What is wrong with the words of the command line, though each has its form.
+/// The fault of a command line whose words each have their form.
 #[derive(Clone, Copy, Debug, Error)]
 pub enum WordsFault {
     #[error("no roster and no state: give --roster FILE or --state FILE")]
@@ -124,7 +124,7 @@ impl<T: Drop> From<AllocFailed<T>> for Fault {
     }
 }
 
-/// Writes the fault's line, behind the program's name, and returns its status. Takes no memory; a failed write changes
+/// Writes the fault's line, after the program's name, and returns its status. Takes no memory; a failed write changes
 /// nothing else.
 pub fn tell<F: Sink>(program: &str, faults: &mut F, fault: &Fault) -> u8
     ensures { result ≡ status_of fault.now }

@@ -1,10 +1,10 @@
-//! What the programs have in common: the files that they open with, the options that name them, the answers to their
+//! Shared by the programs: the files that they open with, the options that name them, the answers to their
 //! words, and their faults.
 //!
 //! A roster and a state as the lists that firm_text and firm_saved have, a `Fault`, and the kinds of fault that the
-//! kit's `clap` finds in words (`specs/Files.antt`, `Faults.antt`, `Words.antt`, `Options.antt`); what a program left
-//! as it was, and how a service ends that it opens with a file (`Runs.antt`). `Laws.antt` has what the programs' proofs
-//! use of these.
+//! kit's `clap` finds in words (`specs/Files.antt`, `Faults.antt`, `Words.antt`, `Options.antt`); a program's unchanged
+//! devices, and the end of a service that it opens with a file (`Runs.antt`). `Laws.antt` has the laws that the
+//! programs' proofs use.
 //!
 //! # What is proved
 //!
@@ -15,7 +15,7 @@
 //! - `Named::one_of`: the one path that is given; else a fault with status 2
 //! - `Fault::status`, `tell`: the status (docs/FORMATS.md) of a fault, whatever becomes of its line
 //! - `answer_words`, `refuse_words`: the status of words that ask for a text, are at fault, or find no memory; only a
-//!   text that was asked for is written
+//! requested text is written
 //!
 //! A `FileSystem` tells what its files hold (`bytes_at`). The operating system's tells nothing: that its `open` gives
 //! the bytes of the file at the path is only tested, and so is which failure of reading is refused memory. At most

@@ -2,10 +2,12 @@
 ghost use Rattle.std.specs.Prelude.{◌≡◌, ◌+◌, length, IfOk};
 ghost use Rattle.firm_levels.specs.Work.{GoesOn};
 
+use crate::column::{Column, Stack};
+use crate::index::{ClassId, Place, Time};
 use crate::memory::Memory;
-use crate::numbers::{Numbers, Stack};
-use crate::table::Table;
+use crate::round::Round;
 use firm_levels::{Class, Work};
+use firm_rules::Case;
 use std::alloc::AllocError;
 
 /// The number of the first class at each time, and of a class that is cheaper or dearer than its parent at its own.
@@ -15,113 +17,124 @@ const CHEAPER: u32 = 0;
 
 const DEARER: u32 = 2;
 
-/// A tree of classes, and the class of each place. A class is parted from its parent where a search finds no way into
-/// it or out of it.
+/// A class that splits off its parent, where a search finds no path into it or out of it: at this time it has this
+/// number.
+#[derive(Clone, Copy, Default)]
+struct Split {
+    parent: ClassId,
+    time: Time,
+    number: u32,
+}
+
+/// A tree of classes, and the class of each place.
 #[derive(Drop)]
 pub(crate) struct Classes {
-    of: Numbers,
-    parents: Stack,
-    times: Stack,
-    numbers: Stack,
+    of: Column<Place, ClassId>,
+    tree: Stack<Split>,
 }
 
 impl Classes {
     /// No classes, and room for this many tasks and machines together.
     pub(crate) fn new(memory: &mut Memory, nodes: usize) -> Classes {
-        let most = most_classes(nodes);
         Classes {
-            of: Numbers::new(memory, nodes),
-            parents: Stack::new(memory, most),
-            times: Stack::new(memory, most),
-            numbers: Stack::new(memory, most),
+            of: Column::new(memory, nodes),
+            tree: Stack::new(memory, max_classes(nodes)),
         }
     }
 
-    /// All places are of one class.
-    pub(crate) fn clear(&mut self, table: &Table, work: &mut Work)
+    /// Puts all places into one class.
+    pub(crate) fn clear(&mut self, round: &Round, work: &mut Work)
         ensures work { GoesOn work.old work.new }
     {
-        self.of.reset(table.places(), 0, work);
-        self.parents.clear();
-        self.times.clear();
-        self.numbers.clear();
-        self.add(0, 0, PAR);
+        self.of.reset(round.places(), ClassId(0), work);
+        self.tree.clear();
+        self.tree.push(Split {
+            number: PAR,
+            ..Split::default()
+        });
     }
 
-    /// How many classes there are.
     pub(crate) fn count(&self) -> u32 {
-        self.parents.count()
+        self.tree.count()
     }
 
-    #[inline(always)]
-    pub(crate) fn of(&self, place: u32) -> u32 {
+    pub(crate) fn of(&self, place: Place) -> ClassId {
         self.of.at(place)
     }
 
-    #[inline(always)]
-    pub(crate) fn are_one(&self, place: u32, other: u32) -> bool {
+    pub(crate) fn are_one(&self, place: Place, other: Place) -> bool {
         self.of.at(place) == self.of.at(other)
     }
 
-    /// Parts these places, of one class, from it at this time, from which on they are dearer or cheaper.
-    pub(crate) fn part(&mut self, places: &Stack, time: u32, is_dearer: bool, work: &mut Work)
+    /// Splits these places, of one class, off it: they are dearer or cheaper from this time on.
+    pub(crate) fn split(
+        &mut self,
+        places: &Stack<Place>,
+        time: Time,
+        is_dearer: bool,
+        work: &mut Work,
+    )
         ensures work { GoesOn work.old work.new }
     {
-        let class = self.parents.count();
-        let parent = self.of.at(places.at(0));
-        self.add(parent, time, if is_dearer { DEARER } else { CHEAPER });
-        for at in 0..work.pass(places.count()) {
-            self.of.set(places.at(at), class);
+        let number = if is_dearer { DEARER } else { CHEAPER };
+        let class = self.add(places.at(0), time, number);
+        for number in 0..work.pass(places.count()) {
+            self.of.set(places.at(number), class);
         }
     }
 
-    /// Parts a place that nothing leaves any more from its class.
-    pub(crate) fn part_one(&mut self, place: u32, time: u32) {
-        let class = self.parents.count();
-        let parent = self.of.at(place);
-        self.add(parent, time, DEARER);
+    /// Splits a place that nothing leaves any more off its class.
+    pub(crate) fn split_one(&mut self, place: Place, time: Time) {
+        let class = self.add(place, time, DEARER);
         self.of.set(place, class);
     }
 
-    fn add(&mut self, parent: u32, time: u32, number: u32) {
-        self.parents.push(parent);
-        self.times.push(time);
-        self.numbers.push(number);
+    // Adds a class below that of the place.
+    fn add(&mut self, place: Place, time: Time, number: u32) -> ClassId {
+        let class = ClassId(self.tree.count());
+        self.tree.push(Split {
+            parent: self.of.at(place),
+            time,
+            number,
+        });
+        class
     }
 
     /// Writes the class of each machine and, last, of the outside. Fails only if memory is refused, of which none is
     /// needed where there is room.
     pub(crate) fn write_places(
         &self,
-        table: &Table,
+        case: &Case,
+        round: &Round,
         places: &mut Vec<u32>,
     ) -> Result<(), AllocError>
-        ensures { IfOk result (λ _. length places.new.items ≡ table.now.machines + 1) }
+        ensures { IfOk result (λ _. length places.new.items ≡ length case.now.slots + 1) }
     {
         places.clear();
-        for machine in 0..table.machines() {
-            places.push(self.of.at(machine))?;
+        for machine in 0..case.machine_count() as u32 {
+            places.push(self.of.at(Place(machine)).0)?;
         }
-        places.push(self.of.at(table.outside()))?;
+        places.push(self.of.at(round.outside()).0)?;
         Ok(())
     }
 
     /// Writes the classes. Fails only if memory is refused, of which none is needed where there is room.
     pub(crate) fn write(&self, classes: &mut Vec<Class>) -> Result<(), AllocError> {
         classes.clear();
-        for class in 0..self.parents.count() {
+        for class in 0..self.tree.count() {
+            let split = self.tree.at(class);
             classes.push(Class {
-                parent: self.parents.at(class),
-                time: self.times.at(class),
-                number: self.numbers.at(class),
+                parent: split.parent.0,
+                time: split.time.0,
+                number: split.number,
             })?;
         }
         Ok(())
     }
 }
 
-/// The most classes there are for a number of places: each parting leaves two classes for one, and each machine is
-/// parted by itself once.
-pub(crate) fn most_classes(nodes: usize) -> usize {
+/// The most classes of a number of places: each split leaves two classes for one, and each machine is split off by
+/// itself once.
+pub(crate) fn max_classes(nodes: usize) -> usize {
     nodes.saturating_mul(2)
 }

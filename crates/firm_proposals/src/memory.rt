@@ -1,4 +1,4 @@
-//! What tables take their memory from.
+//! The memory of tables.
 ghost use Rattle.std.specs.Prelude.{◌≡◌, []};
 
 use std::alloc::{AllocError, Global};

@@ -1,192 +1,182 @@
-//! Paths over the places that bring the tasks that were left out to a slot or outside, and to the hub what it lacks.
+//! Augmenting paths: they bring unassigned tasks to a slot or outside, and to the hub the units that it lacks.
 ghost use Rattle.firm_levels.specs.Work.{GoesOn};
 
-use crate::draft::{Draft, Step, UNIT};
+use crate::column::{Column, Stack};
+use crate::heap::DistanceHeap;
+use crate::index::{ArcId, Cost, Index, Optional, Place, Task};
 use crate::memory::Memory;
-use crate::nearest::Nearest;
-use crate::numbers::{NONE, Numbers, Stack};
-use crate::table::{LEVELS, Table};
+use crate::round::{Arcs, Round, SLOT_COUNTS, Step};
 use firm_levels::Work;
 
-/// From this sweep on those that find few ways are given up for searches from one task each.
-const FEWEST_SWEEPS: u32 = 6;
-
-/// Sweeps that send fewer than one in this many tasks send few.
-const FEW: u32 = 12;
-
-/// Searches from tasks that are left out, or from the outside, to the outside or to the hub while units are lacking
-/// there.
+/// Searches from unassigned tasks, or from the outside, to the outside, or to the hub while it lacks units.
 #[derive(Drop)]
 pub(crate) struct Paths {
-    nearest: Nearest,
-    // By what step each place was reached.
-    from: Numbers,
-    by: Numbers,
-    // In which search each place was seen, and in which sweep it led nowhere.
-    seen: Numbers,
-    dead: Numbers,
+    heap: DistanceHeap,
+    // The step by which each place was reached.
+    from: Column<Place, Optional<Place>>,
+    arcs: Column<Place, Optional<ArcId>>,
+    // The last search that visited each place, and how far the last sweep there has come.
+    visited: Column<Place, u32>,
+    cursors: Column<Place, Cursor>,
     search: u32,
     sweep: u32,
-    queue: Stack,
-    settled: Stack,
-    // How many units are lacking at the hub.
-    lacks: u32,
-    // The place where the search ends, and the hub if it ends there too.
-    goal: u32,
-    hub_goal: u32,
-    // The first of them that was seen over ways that cost nothing more.
-    end: u32,
+    // The places of a path, while it is sought, and those that a search for a shortest path has settled.
+    path: Stack<Place>,
+    settled: Stack<Place>,
+    // Number of units that the hub lacks.
+    deficit: u32,
+    // The place where the search ends; it ends at the hub too while that lacks units.
+    goal: Place,
+    hub: Place,
 }
 
 impl Paths {
     /// No places, and room for this many tasks and machines together.
     pub(crate) fn new(memory: &mut Memory, nodes: usize) -> Paths {
         Paths {
-            nearest: Nearest::new(memory, nodes),
-            from: Numbers::new(memory, nodes),
-            by: Numbers::new(memory, nodes),
-            seen: Numbers::new(memory, nodes),
-            dead: Numbers::new(memory, nodes),
+            heap: DistanceHeap::new(memory, nodes),
+            from: Column::new(memory, nodes),
+            arcs: Column::new(memory, nodes),
+            visited: Column::new(memory, nodes),
+            cursors: Column::new(memory, nodes),
             search: 0,
             sweep: 0,
-            queue: Stack::new(memory, nodes),
+            path: Stack::new(memory, nodes),
             settled: Stack::new(memory, nodes),
-            lacks: 0,
-            goal: 0,
-            hub_goal: NONE,
-            end: NONE,
+            deficit: 0,
+            goal: Place::LAST,
+            hub: Place::LAST,
         }
     }
 
-    /// Nothing is seen, and this many units are lacking at the hub.
-    pub(crate) fn clear(&mut self, table: &Table, lacks: u32, work: &mut Work)
+    /// Begins a round whose hub lacks this many units.
+    pub(crate) fn clear(&mut self, round: &Round, deficit: u32, work: &mut Work)
         ensures work { GoesOn work.old work.new }
     {
-        self.seen.reset(table.places(), NONE, work);
-        self.dead.reset(table.places(), NONE, work);
+        self.heap.reset(round.places(), work);
+        self.visited.reset(round.places(), 0, work);
+        self.cursors.reset(round.places(), Cursor::default(), work);
         self.search = 0;
         self.sweep = 0;
-        self.lacks = lacks;
+        self.deficit = deficit;
+        self.hub = round.hub();
     }
 
-    /// Sends the tasks that were left out: first over ways that cost nothing more, and where none is left by the
-    /// cheapest path, which has prices rise.
-    pub(crate) fn send_rest(
+    /// Assigns the tasks that are left: in sweeps over tight arcs, and where one finds no path by the shortest path of
+    /// all, for which prices rise.
+    pub(crate) fn assign_rest(
         &mut self,
-        table: &Table,
-        draft: &mut Draft,
-        rest: &mut Stack,
+        round: &mut Round,
+        unassigned: &mut Stack<Task>,
         work: &mut Work,
     )
         ensures work { GoesOn work.old work.new }
     {
-        for sweep in 0..=table.tasks() {
-            let before = rest.count();
-            self.send_all_free(table, draft, rest, work);
-            let left = rest.count();
+        for _ in 0..=round.tasks() {
+            let before = unassigned.count();
+            self.sweep_tight(round, unassigned, work);
+            let left = unassigned.count();
             if left == 0 || work.is_short() {
                 return;
             }
-            if sweep >= FEWEST_SWEEPS && before.saturating_sub(left).saturating_mul(FEW) < before {
-                break;
+            if left == before {
+                self.assign_nearest(round, unassigned, work);
             }
-            self.send_nearest(table, draft, rest, work);
         }
-        self.send_each(table, draft, rest, work);
     }
 
-    // Sends what can be sent over ways that cost nothing more.
-    fn send_all_free(&mut self, table: &Table, draft: &mut Draft, rest: &mut Stack, work: &mut Work)
+    // Assigns the tasks that have a path of tight arcs.
+    fn sweep_tight(&mut self, round: &mut Round, unassigned: &mut Stack<Task>, work: &mut Work)
         ensures work { GoesOn work.old work.new }
     {
         if !self.begin_sweep(work) {
             return;
         }
-        for at in 0..work.pass(rest.count()) {
-            self.send_free(table, draft, rest.at(at), work);
+        for number in 0..work.pass(unassigned.count()) {
+            let task = unassigned.at(number);
+            self.begin(round.outside());
+            let charge = round.least_charge(task);
+            let from = None;
+            self.assign_tight(round, Departure { task, charge, from }, work);
         }
-        keep_rest(rest, draft, work);
+        drop_assigned(unassigned, round, work);
     }
 
-    // Sends the task that has the cheapest path of all.
-    fn send_nearest(&mut self, table: &Table, draft: &mut Draft, rest: &mut Stack, work: &mut Work)
+    // Assigns the task that has the shortest path of all, after prices have risen so that its arcs are tight.
+    fn assign_nearest(&mut self, round: &mut Round, unassigned: &mut Stack<Task>, work: &mut Work)
         ensures work { GoesOn work.old work.new }
     {
-        if !self.begin_far(table, table.outside(), work) {
+        if !self.begin_shortest(round.outside(), work) {
             return;
         }
-        for at in 0..rest.count() {
-            self.start_at(table, draft, rest.at(at), work);
+        for number in 0..unassigned.count() {
+            let task = unassigned.at(number);
+            let charge = round.least_charge(task);
+            let from = None;
+            self.reach_by_arcs(round, Departure { task, charge, from }, work);
         }
-        self.end_send(table, draft, work);
-        keep_rest(rest, draft, work);
+        if let Some(end) = self.search_shortest(round, work) {
+            self.raise_prices(round, end, work);
+            self.augment(round, end, work);
+        }
+        drop_assigned(unassigned, round, work);
     }
 
-    // Sends each task by its cheapest path.
-    fn send_each(&mut self, table: &Table, draft: &mut Draft, rest: &mut Stack, work: &mut Work)
+    /// Pulls to the hub what it lacks: first over tight arcs, and where no such path is left by the shortest path, for
+    /// which prices fall.
+    pub(crate) fn fill_deficit(&mut self, round: &mut Round, work: &mut Work)
         ensures work { GoesOn work.old work.new }
     {
-        for at in 0..rest.count() {
-            if !self.begin_far(table, table.outside(), work) {
-                break;
-            }
-            self.start_at(table, draft, rest.at(at), work);
-            self.end_send(table, draft, work);
-        }
-        keep_rest(rest, draft, work);
-    }
-
-    /// Brings to the hub what it lacks: first over ways that cost nothing more, and where none is left by the cheapest
-    /// path, which has prices fall.
-    pub(crate) fn pull_lacking(&mut self, table: &Table, draft: &mut Draft, work: &mut Work)
-        ensures work { GoesOn work.old work.new }
-    {
-        for _ in 0..=table.tasks() {
-            if !self.is_lacking() || work.is_short() || !self.begin_sweep(work) {
+        for _ in 0..=round.tasks() {
+            if self.deficit == 0 || work.is_short() || !self.begin_sweep(work) {
                 return;
             }
-            for machine in 0..work.pass(table.machines()) {
-                self.pull_slots(table, draft, machine, work);
+            for machine in 0..work.pass(round.machines()) {
+                self.pull_slots(round, Place(machine), work);
             }
-            self.pull_tasks(table, draft, work);
-            if self.is_lacking() {
-                self.pull(table, draft, work);
-            }
-        }
-    }
-
-    // Brings tasks that wait, or others in their place.
-    fn pull_tasks(&mut self, table: &Table, draft: &mut Draft, work: &mut Work)
-        ensures work { GoesOn work.old work.new }
-    {
-        for task in 0..work.pass(table.tasks()) {
-            if self.is_lacking() && draft.taken(task) == table.row(task).wait_way() {
-                self.pull_task(table, draft, task, work);
+            self.pull_tasks(round, work);
+            if self.deficit > 0 {
+                self.pull_shortest(round, work);
             }
         }
     }
 
-    // Brings units from the slots of a machine that it as well gives up.
-    fn pull_slots(&mut self, table: &Table, draft: &mut Draft, machine: u32, work: &mut Work)
+    // Pulls tasks that wait, or others in their stead.
+    fn pull_tasks(&mut self, round: &mut Round, work: &mut Work)
         ensures work { GoesOn work.old work.new }
     {
-        for _ in 0..LEVELS {
-            let is_dead = self.dead.at(machine) == self.sweep;
-            if !self.is_lacking() || is_dead || !draft.may_leave(table, machine) {
+        for number in 0..work.pass(round.tasks()) {
+            let task = Task(number);
+            if self.deficit > 0 && round.takes(task, round.row(task).wait_arc()) {
+                self.begin_at_outside(round);
+                let charge = round.charge_of(task);
+                let from = Some(round.outside());
+                self.assign_tight(round, Departure { task, charge, from }, work);
+            }
+        }
+    }
+
+    // Pulls units off a machine that is indifferent to shedding them.
+    fn pull_slots(&mut self, round: &mut Round, machine: Place, work: &mut Work)
+        ensures work { GoesOn work.old work.new }
+    {
+        for _ in 0..SLOT_COUNTS {
+            if self.deficit == 0 || self.is_exhausted(machine) || !round.can_shed(machine) {
                 return;
             }
-            self.pull_slot(table, draft, machine, work);
+            self.begin_at_outside(round);
+            self.augment_tight(round, Step::unit(round.outside(), machine), work);
         }
     }
 
-    // Whether units are lacking at the hub.
-    #[inline(always)]
-    fn is_lacking(&self) -> bool {
-        self.lacks > 0
+    // Begins a search from the outside to the hub over tight arcs.
+    fn begin_at_outside(&mut self, round: &Round) {
+        self.begin(round.hub());
+        self.visited.set(round.outside(), self.search);
     }
 
-    // Begins a sweep, if a search is left, which it says: prices have changed, so what led nowhere may lead on again. A
-    // sweep counts as one search, since no place that led nowhere is seen in it twice.
+    // Begins a sweep if a search is left, and says whether one is: prices have changed, so what was exhausted may lead
+    // on again. A sweep counts as one search, since it looks at no arc of a task at a place twice.
     fn begin_sweep(&mut self, work: &mut Work) -> bool
         ensures work { GoesOn work.old work.new }
     {
@@ -194,409 +184,433 @@ impl Paths {
         work.begin_search()
     }
 
-    // Sends a task that is left out over ways that cost nothing more, and says whether it found one.
-    fn send_free(&mut self, table: &Table, draft: &mut Draft, task: u32, work: &mut Work) -> bool
-        ensures work { GoesOn work.old work.new }
-    {
-        self.begin(table, table.outside());
-        let paid = draft.cheapest(table, table.ways_of(task), NONE).paid;
-        self.see_ways(
-            table,
-            draft,
-            Leaving {
-                task,
-                paid,
-                from: NONE,
-            },
-            work,
-        );
-        self.follow(table, draft, work)
-    }
-
-    // Brings a unit to the hub from a machine that as well gives up a slot, over ways that cost nothing more.
-    fn pull_slot(&mut self, table: &Table, draft: &mut Draft, machine: u32, work: &mut Work) -> bool
-        ensures work { GoesOn work.old work.new }
-    {
-        self.begin(table, table.hub());
-        self.seen.set(table.outside(), self.search);
-        self.see(
-            Step {
-                from: table.outside(),
-                to: machine,
-                by: UNIT,
-            },
-            work,
-        );
-        self.follow(table, draft, work)
-    }
-
-    // Brings a task that waits to the hub, or another in its place, over ways that cost nothing more.
-    fn pull_task(&mut self, table: &Table, draft: &mut Draft, task: u32, work: &mut Work) -> bool
-        ensures work { GoesOn work.old work.new }
-    {
-        self.begin(table, table.hub());
-        self.seen.set(table.outside(), self.search);
-        let paid = draft.paid_by(table, task);
-        let from = table.outside();
-        self.see_ways(table, draft, Leaving { task, paid, from }, work);
-        self.follow(table, draft, work)
-    }
-
-    fn begin(&mut self, table: &Table, goal: u32) {
+    fn begin(&mut self, goal: Place) {
         self.search = self.search.saturating_add(1);
         self.goal = goal;
-        self.hub_goal = if self.lacks > 0 { table.hub() } else { NONE };
-        self.end = NONE;
-        self.queue.clear();
+        self.path.clear();
     }
 
-    #[inline(always)]
-    fn is_end(&self, place: u32) -> bool {
-        place == self.goal || place == self.hub_goal
+    fn is_end(&self, place: Place) -> bool {
+        place == self.goal || place == self.hub && self.deficit > 0
     }
 
+    fn is_exhausted(&self, place: Place) -> bool {
+        let cursor = self.cursors.at(place);
+        cursor.sweep == self.sweep && cursor.is_exhausted
+    }
+
+    // Whether a place is new to the search, and a path may lead on from it.
     #[inline(always)]
-    fn see(&mut self, step: Step, work: &mut Work)
+    fn is_new(&self, place: Place) -> bool {
+        self.visited.at(place) != self.search && !self.is_exhausted(place)
+    }
+
+    fn reached_by(&mut self, step: Step) {
+        self.from.set(step.to, Optional::of(step.from));
+        self.arcs.set(step.to, Optional::of(step.arc));
+    }
+
+    // Assigns a task to the first of its tight arcs from which a path leads to an end. Its last arcs come first,
+    // since the outside and the hub may be ends.
+    fn assign_tight(&mut self, round: &mut Round, departure: Departure, work: &mut Work)
         ensures work { GoesOn work.old work.new }
     {
-        if !work.look() {
-            return;
-        }
-        if self.seen.at(step.to) == self.search || self.dead.at(step.to) == self.sweep {
-            return;
-        }
-        self.seen.set(step.to, self.search);
-        self.from.set(step.to, step.from);
-        self.by.set(step.to, step.by);
-        self.queue.push(step.to);
-        if self.end == NONE && self.is_end(step.to) {
-            self.end = step.to;
-        }
-    }
-
-    // Sees where a task's other ways lead that cost as much as it pays.
-    #[inline(always)]
-    fn see_ways(&mut self, table: &Table, draft: &Draft, leaving: Leaving, work: &mut Work)
-        ensures work { GoesOn work.old work.new }
-    {
-        let ways = table.ways_of(leaving.task);
-        let taken = draft.taken(leaving.task);
-        for number in ways.from..ways.to {
-            let way = table.way(number);
-            if number != taken && draft.paid(way) == leaving.paid {
-                self.see(
-                    Step {
-                        from: leaving.from,
-                        to: way.place,
-                        by: number,
-                    },
-                    work,
-                );
+        let arcs = round.arcs_of(departure.task);
+        for tried in 0..arcs.count() {
+            let Some(step) = self.tight_step(round, departure, arc_from_last(arcs, tried)) else {
+                continue;
+            };
+            if !work.look() || self.augment_tight(round, step, work) {
+                return;
             }
         }
     }
 
-    // Goes on from what was seen, breadth first, up to the first end, and makes the steps to it.
-    fn follow(&mut self, table: &Table, draft: &mut Draft, work: &mut Work) -> bool
+    // The step of a task over an arc, if that is tight and leads to a new place.
+    #[inline(always)]
+    fn tight_step(&self, round: &Round, departure: Departure, id: ArcId) -> Option<Step> {
+        let arc = round.arc(id);
+        let is_tight = round.charge(arc) == departure.charge;
+        if is_tight && self.is_new(arc.place) && !round.takes(departure.task, id) {
+            Some(departure.over(id, arc.place))
+        } else {
+            None
+        }
+    }
+
+    // Searches on from this step, depth first, augments along the path to the first end, and says whether there is one.
+    // The search goes on at each place where the sweep's last one there ended. A place from which it finds no path is
+    // exhausted, even if a place before it on the path would lead on: the next sweep finds that.
+    fn augment_tight(&mut self, round: &mut Round, first: Step, work: &mut Work) -> bool
         ensures work { GoesOn work.old work.new }
     {
-        for at in 0..table.places() {
-            if self.end != NONE || at >= self.queue.count() {
-                break;
+        let mut next = Some(first);
+        for _ in 0..work.left().saturating_add(1) {
+            match next {
+                Some(step) => {
+                    self.reached_by(step);
+                    if self.is_end(step.to) {
+                        self.augment(round, step.to, work);
+                        return true;
+                    }
+                    self.visited.set(step.to, self.search);
+                    self.path.push(step.to);
+                }
+                None => self.step_back(round),
             }
-            let place = self.queue.at(at);
-            self.see_units(table, draft, place, work);
-            self.see_tasks(table, draft, place, work);
-        }
-        if self.end != NONE {
-            self.make(table, draft, self.end, work);
-            return true;
-        }
-        for closed in 0..work.pass(self.queue.count().min(table.places())) {
-            self.dead.set(self.queue.at(closed), self.sweep);
+            let count = self.path.count();
+            if count == 0 || !work.look() {
+                return false;
+            }
+            let place = self.path.at(count.saturating_sub(1));
+            next = self.next_step(round, place, work);
         }
         false
     }
 
-    // Sees where units may go from a place for nothing.
-    fn see_units(&mut self, table: &Table, draft: &Draft, place: u32, work: &mut Work)
-        ensures work { GoesOn work.old work.new }
-    {
-        let hub = table.hub();
-        let price = draft.price(place);
-        if place < hub {
-            if draft.has_room(table, place) {
-                self.see(unit(place, table.outside()), work);
-            }
-            if draft.through(place) > 0 && price == draft.price(hub) {
-                self.see(unit(place, hub), work);
-            }
-        } else if place == hub {
-            for machine in 0..work.pass(hub) {
-                if draft.price(machine) == price {
-                    self.see(unit(hub, machine), work);
-                }
-            }
+    // Leaves the last place of the path, which is exhausted.
+    fn step_back(&mut self, round: &Round) {
+        if let Some(place) = self.path.pop() {
+            let mut cursor = self.cursor(round, place);
+            cursor.is_exhausted = true;
+            self.cursors.set(place, cursor);
         }
     }
 
-    fn see_tasks(&mut self, table: &Table, draft: &Draft, place: u32, work: &mut Work)
-        ensures work { GoesOn work.old work.new }
-    {
-        let mut task = draft.first(place);
-        for _ in 0..table.tasks() {
-            if task == NONE || self.end != NONE || !work.look() {
-                return;
-            }
-            let paid = draft.paid_by(table, task);
-            self.see_ways(
-                table,
-                draft,
-                Leaving {
-                    task,
-                    paid,
-                    from: place,
-                },
-                work,
-            );
-            task = draft.next(task);
+    // How far the sweep has come at a place.
+    #[inline(always)]
+    fn cursor(&self, round: &Round, place: Place) -> Cursor {
+        let cursor = self.cursors.at(place);
+        if cursor.sweep == self.sweep {
+            return cursor;
+        }
+        Cursor {
+            sweep: self.sweep,
+            task: Optional::of(round.first_listed(place)),
+            ..Cursor::default()
         }
     }
 
-    // Makes the steps from the search's beginning to this place.
-    fn make(&mut self, table: &Table, draft: &mut Draft, end: u32, work: &mut Work)
+    // The next step over a tight arc from this place to a new one, if any.
+    fn next_step(&mut self, round: &Round, place: Place, work: &mut Work) -> Option<Step>
         ensures work { GoesOn work.old work.new }
     {
-        if end == table.hub() {
-            self.lacks = self.lacks.saturating_sub(1);
+        let hub = round.hub();
+        if place == hub {
+            let step = self.next_machine(round, work);
+            if step.is_some() {
+                return step;
+            }
+        } else if round.is_machine(place) {
+            if round.has_room(place) && self.is_new(round.outside()) {
+                return Some(Step::unit(place, round.outside()));
+            }
+            if round.has_unit(place) && round.has_hub_price(place) && self.is_new(hub) {
+                return Some(Step::unit(place, hub));
+            }
+        }
+        self.next_task(round, place, work)
+    }
+
+    // The step of a unit from the hub to the next machine of its price.
+    fn next_machine(&mut self, round: &Round, work: &mut Work) -> Option<Step>
+        ensures work { GoesOn work.old work.new }
+    {
+        let hub = round.hub();
+        let mut cursor = self.cursor(round, hub);
+        for number in cursor.machine..round.machines() {
+            if !work.look() {
+                return None;
+            }
+            let machine = Place(number);
+            if round.has_hub_price(machine) && self.is_new(machine) {
+                cursor.machine = number;
+                self.cursors.set(hub, cursor);
+                return Some(Step::unit(hub, machine));
+            }
+        }
+        cursor.machine = round.machines();
+        self.cursors.set(hub, cursor);
+        None
+    }
+
+    // The step of the next task at a place.
+    fn next_task(&mut self, round: &Round, place: Place, work: &mut Work) -> Option<Step>
+        ensures work { GoesOn work.old work.new }
+    {
+        let mut cursor = self.cursor(round, place);
+        for _ in 0..round.tasks() {
+            let task = cursor.task.get()?;
+            if !work.look() {
+                return None;
+            }
+            let charge = round.charge_of(task);
+            let from = Some(place);
+            let step = self.step_of(round, Departure { task, charge, from }, &mut cursor);
+            if step.is_some() {
+                self.cursors.set(place, cursor);
+                return step;
+            }
+            cursor.task = Optional::of(round.next_listed(task));
+            cursor.tried = 0;
+        }
+        None
+    }
+
+    // The step of a task over the next of its arcs that can be taken.
+    #[inline(always)]
+    fn step_of(&self, round: &Round, departure: Departure, cursor: &mut Cursor) -> Option<Step> {
+        let arcs = round.arcs_of(departure.task);
+        for number in cursor.tried..arcs.count() {
+            let step = self.tight_step(round, departure, arc_from_last(arcs, number));
+            if step.is_some() {
+                cursor.tried = number.saturating_add(1);
+                return step;
+            }
+        }
+        None
+    }
+
+    // Moves a place's cursor past the task of this arc, which leaves it.
+    fn advance(&mut self, round: &Round, place: Place, arc: ArcId) {
+        let next = round.next_listed(round.arc(arc).task);
+        if let Some(cursor) = self.cursors.entry(place) {
+            cursor.task = Optional::of(next);
+            cursor.tried = 0;
+        }
+    }
+
+    // Makes the steps of the path to this place, the last first.
+    fn augment(&mut self, round: &mut Round, end: Place, work: &mut Work)
+        ensures work { GoesOn work.old work.new }
+    {
+        if end == self.hub {
+            self.deficit = self.deficit.saturating_sub(1);
         }
         let mut to = end;
-        for _ in 0..table.places() {
-            let from = self.from.at(to);
-            let by = self.by.at(to);
-            if by == NONE || !work.look() {
+        for _ in 0..round.places() {
+            let from = self.from.at(to).get();
+            let arc = self.arcs.at(to).get();
+            if from.is_none() && arc.is_none() || !work.look() {
                 return;
             }
-            draft.make(table, Step { from, to, by });
-            if from == NONE || from == table.outside() {
-                return;
+            if let Some(place) = from
+                && let Some(arc) = arc
+            {
+                self.advance(round, place, arc);
             }
-            to = from;
+            round.make(Step { from, to, arc });
+            match from {
+                Some(place) if place != round.outside() => to = place,
+                _ => return,
+            }
         }
     }
 
-    // Has the search start from this task too.
-    fn start_at(&mut self, table: &Table, draft: &Draft, task: u32, work: &mut Work)
+    // Raises the prices of places nearer than this one by how much nearer they are.
+    fn raise_prices(&self, round: &mut Round, end: Place, work: &mut Work)
         ensures work { GoesOn work.old work.new }
     {
-        let paid = draft.cheapest(table, table.ways_of(task), NONE).paid;
-        let from = NONE;
-        self.reach_ways(table, draft, Leaving { task, paid, from }, work);
+        let distance = self.heap.distance(end);
+        for number in 0..work.pass(self.settled.count().min(round.places())) {
+            let place = self.settled.at(number);
+            let rise = distance.minus(self.heap.distance(place));
+            round.set_price(place, round.price(place).plus(rise));
+        }
     }
 
-    // Sends the task that finds the cheapest path, and has prices rise by what it costs.
-    fn end_send(&mut self, table: &Table, draft: &mut Draft, work: &mut Work)
+    // Pulls a unit from the outside to the hub by the shortest path, for which prices fall until its arcs are tight.
+    fn pull_shortest(&mut self, round: &mut Round, work: &mut Work)
         ensures work { GoesOn work.old work.new }
     {
-        let end = self.find(table, draft, work);
-        if end == NONE {
+        if !self.begin_shortest(round.hub(), work) {
             return;
         }
-        self.raise_prices(table, draft, end, work);
-        self.make(table, draft, end, work);
-    }
-
-    // Has the prices of places nearer than this one rise by what they are nearer.
-    fn raise_prices(&self, table: &Table, draft: &mut Draft, end: u32, work: &mut Work)
-        ensures work { GoesOn work.old work.new }
-    {
-        let far = self.nearest.distance(end);
-        for at in 0..work.pass(self.settled.count().min(table.places())) {
-            let place = self.settled.at(at);
-            let rise = far.saturating_sub(self.nearest.distance(place));
-            draft.set_price(place, draft.price(place).saturating_add(rise));
+        let outside = round.outside();
+        self.from.set(outside, Optional::NONE);
+        self.arcs.set(outside, Optional::NONE);
+        self.heap.decrease(outside, Cost::ZERO);
+        if let Some(end) = self.search_shortest(round, work) {
+            self.lower_prices(round, end, work);
+            self.augment(round, end, work);
         }
     }
 
-    // Brings a unit to the hub from the outside by the cheapest path, and has prices fall by what it costs.
-    fn pull(&mut self, table: &Table, draft: &mut Draft, work: &mut Work)
+    // Lowers the prices of places by their distance, and by no more than that of this one.
+    fn lower_prices(&self, round: &mut Round, end: Place, work: &mut Work)
         ensures work { GoesOn work.old work.new }
     {
-        if !self.begin_far(table, table.hub(), work) {
-            return;
-        }
-        self.start_outside(table.outside());
-        let end = self.find(table, draft, work);
-        if end == NONE {
-            return;
-        }
-        self.lower_prices(table, draft, end, work);
-        self.make(table, draft, end, work);
-    }
-
-    // Has the search start from the outside.
-    fn start_outside(&mut self, outside: u32) {
-        self.from.set(outside, NONE);
-        self.by.set(outside, NONE);
-        self.nearest.bring(outside, 0);
-    }
-
-    // Has the prices of places fall by how far they are, but by no more than this one is.
-    fn lower_prices(&self, table: &Table, draft: &mut Draft, end: u32, work: &mut Work)
-        ensures work { GoesOn work.old work.new }
-    {
-        let far = self.nearest.distance(end);
-        for place in 0..work.pass(table.outside()) {
-            let fall = far.min(self.nearest.distance(place));
-            draft.set_price(place, draft.price(place).saturating_sub(fall));
+        let distance = self.heap.distance(end);
+        for number in 0..work.pass(round.outside().0) {
+            let place = Place(number);
+            let fall = distance.min(self.heap.distance(place));
+            round.set_price(place, round.price(place).minus(fall));
         }
     }
 
-    // Begins a search for a cheapest path to this place, if one is left, which it says.
-    fn begin_far(&mut self, table: &Table, goal: u32, work: &mut Work) -> bool
+    // Begins a search for a shortest path to this place if a search is left, and says whether one is.
+    fn begin_shortest(&mut self, goal: Place, work: &mut Work) -> bool
         ensures work { GoesOn work.old work.new }
     {
-        self.begin(table, goal);
-        self.nearest.clear(table.places(), work);
+        self.begin(goal);
+        self.heap.clear(work);
         self.settled.clear();
         work.begin_search()
     }
 
-    // Settles places, the nearest first, up to an end, which it gives; `NONE` if there is none.
-    fn find(&mut self, table: &Table, draft: &Draft, work: &mut Work) -> u32
+    // Settles places, the nearest first, up to an end, which it returns.
+    fn search_shortest(&mut self, round: &Round, work: &mut Work) -> Option<Place>
         ensures work { GoesOn work.old work.new }
     {
-        for _ in 0..table.places() {
-            let place = self.nearest.take();
-            if place == NONE || self.is_end(place) {
-                return place;
+        for _ in 0..round.places() {
+            let place = self.heap.take()?;
+            if self.is_end(place) {
+                return Some(place);
             }
             self.settled.push(place);
-            self.seen.set(place, self.search);
-            self.reach_units(table, draft, place, work);
-            self.reach_tasks(table, draft, place, work);
+            self.visited.set(place, self.search);
+            self.reach_by_unit(round, place, work);
+            self.reach_by_task(round, place, work);
         }
-        NONE
+        None
     }
 
-    // Reaches a place from another one that is settled, by a step that costs this much.
+    // Reaches a place from another one that is settled, by a step of this reduced cost.
     #[inline(always)]
-    fn reach(&mut self, step: Step, cost: u32, work: &mut Work)
+    fn reach(&mut self, step: Step, reduced: Cost, work: &mut Work)
         ensures work { GoesOn work.old work.new }
     {
         if !work.look() {
             return;
         }
-        let near = if step.from == NONE {
-            0
-        } else {
-            self.nearest.distance(step.from)
+        let near = match step.from {
+            Some(place) => self.heap.distance(place),
+            None => Cost::ZERO,
         };
-        let distance = near.saturating_add(cost);
-        if distance >= self.nearest.distance(step.to)
-            || distance >= self.nearest.distance(self.goal)
-            || self.seen.at(step.to) == self.search
+        let distance = near.plus(reduced);
+        if distance >= self.heap.distance(step.to)
+            || distance >= self.heap.distance(self.goal)
+            || self.visited.at(step.to) == self.search
         {
             return;
         }
-        self.from.set(step.to, step.from);
-        self.by.set(step.to, step.by);
-        self.nearest.bring(step.to, distance);
+        self.reached_by(step);
+        self.heap.decrease(step.to, distance);
     }
 
+    // Reaches the places to which a task's arcs lead.
     #[inline(always)]
-    fn reach_ways(&mut self, table: &Table, draft: &Draft, leaving: Leaving, work: &mut Work)
+    fn reach_by_arcs(&mut self, round: &Round, departure: Departure, work: &mut Work)
         ensures work { GoesOn work.old work.new }
     {
-        let ways = table.ways_of(leaving.task);
-        let taken = draft.taken(leaving.task);
-        for number in ways.from..ways.to {
-            let way = table.way(number);
-            if number != taken {
-                let step = Step {
-                    from: leaving.from,
-                    to: way.place,
-                    by: number,
-                };
-                self.reach(step, draft.paid(way).saturating_sub(leaving.paid), work);
+        let arcs = round.arcs_of(departure.task);
+        let taken = round.assigned(departure.task);
+        for number in arcs.from.0..arcs.to.0 {
+            let id = ArcId(number);
+            if Some(id) != taken {
+                let arc = round.arc(id);
+                let reduced = round.charge(arc).minus(departure.charge);
+                self.reach(departure.over(id, arc.place), reduced, work);
             }
         }
     }
 
-    fn reach_units(&mut self, table: &Table, draft: &Draft, place: u32, work: &mut Work)
+    // Reaches the places to which a unit may go from this one.
+    fn reach_by_unit(&mut self, round: &Round, place: Place, work: &mut Work)
         ensures work { GoesOn work.old work.new }
     {
-        let (hub, outside) = (table.hub(), table.outside());
-        let price = draft.price(place);
-        if place < hub {
-            if draft.load(place) < table.slots(place) {
-                let cost = draft.next_slot_cost(table, place).saturating_sub(price);
-                self.reach(unit(place, outside), cost, work);
+        let (hub, outside) = (round.hub(), round.outside());
+        let price = round.price(place);
+        if round.is_machine(place) {
+            if !round.is_full(place) {
+                let reduced = round.next_slot_cost(place).minus(price);
+                self.reach(Step::unit(place, outside), reduced, work);
             }
-            if draft.through(place) > 0 {
-                let cost = draft.price(hub).saturating_sub(price);
-                self.reach(unit(place, hub), cost, work);
+            if round.has_unit(place) {
+                let reduced = round.price(hub).minus(price);
+                self.reach(Step::unit(place, hub), reduced, work);
             }
             return;
         }
-        for machine in 0..work.pass(hub) {
-            let there = draft.price(machine);
+        for machine in 0..work.pass(round.machines()) {
+            let machine = Place(machine);
+            let there = round.price(machine);
             if place == hub {
-                self.reach(unit(hub, machine), there.saturating_sub(price), work);
-            } else if draft.load(machine) > 0 {
-                let cost = there.saturating_sub(draft.last_slot_cost(table, machine));
-                self.reach(unit(outside, machine), cost, work);
+                self.reach(Step::unit(hub, machine), there.minus(price), work);
+            } else if round.load(machine) > 0 {
+                let reduced = there.minus(round.last_slot_cost(machine));
+                self.reach(Step::unit(outside, machine), reduced, work);
             }
         }
     }
 
-    fn reach_tasks(&mut self, table: &Table, draft: &Draft, place: u32, work: &mut Work)
+    // Reaches the places to which the tasks at this one may go.
+    fn reach_by_task(&mut self, round: &Round, place: Place, work: &mut Work)
         ensures work { GoesOn work.old work.new }
     {
-        let mut task = draft.first(place);
-        for _ in 0..table.tasks() {
-            if task == NONE {
+        let mut listed = round.first_listed(place);
+        for _ in 0..round.tasks() {
+            let Some(task) = listed else {
                 return;
-            }
-            let paid = draft.paid_by(table, task);
-            self.reach_ways(
-                table,
-                draft,
-                Leaving {
-                    task,
-                    paid,
-                    from: place,
-                },
-                work,
-            );
-            task = draft.next(task);
+            };
+            let charge = round.charge_of(task);
+            let from = Some(place);
+            self.reach_by_arcs(round, Departure { task, charge, from }, work);
+            listed = round.next_listed(task);
         }
     }
 }
 
-/// A task that may leave a place, where it pays this much.
-#[derive(Clone, Copy)]
-struct Leaving {
-    task: u32,
-    paid: u32,
-    from: u32,
+/// How far a sweep has come at a place.
+#[derive(Clone, Copy, Default)]
+struct Cursor {
+    // The sweep that looked at the place last, and whether no path led on from it.
+    sweep: u32,
+    is_exhausted: bool,
+    // The first machine to which a unit from the hub may yet go.
+    machine: u32,
+    // The first task that may yet leave, and the number of its arcs that are tried.
+    task: Optional<Task>,
+    tried: u32,
 }
 
-// Forgets the tasks that are no longer left out.
-fn keep_rest(rest: &mut Stack, draft: &Draft, work: &mut Work)
+/// A task that may leave a place, where its arc has this charge.
+#[derive(Clone, Copy)]
+struct Departure {
+    task: Task,
+    charge: Cost,
+    from: Option<Place>,
+}
+
+impl Departure {
+    // The step over an arc to this place.
+    #[inline(always)]
+    fn over(self, arc: ArcId, to: Place) -> Step {
+        Step {
+            from: self.from,
+            to,
+            arc: Some(arc),
+        }
+    }
+}
+
+// The arc of this number, counted from the last.
+#[inline(always)]
+fn arc_from_last(arcs: Arcs, number: u32) -> ArcId {
+    ArcId(arcs.to.0.saturating_sub(number.saturating_add(1)))
+}
+
+// Drops the tasks that were assigned from the list.
+fn drop_assigned(unassigned: &mut Stack<Task>, round: &Round, work: &mut Work)
     ensures work { GoesOn work.old work.new }
 {
     let mut kept = 0u32;
-    for at in 0..work.pass(rest.count()) {
-        let task = rest.at(at);
-        if draft.taken(task) == NONE {
-            rest.set(kept, task);
+    for number in 0..work.pass(unassigned.count()) {
+        let task = unassigned.at(number);
+        if round.assigned(task).is_none() {
+            unassigned.set(kept, task);
             kept = kept.saturating_add(1);
         }
     }
-    rest.truncate(kept);
-}
-
-fn unit(from: u32, to: u32) -> Step {
-    Step { from, to, by: UNIT }
+    unassigned.truncate(kept);
 }

@@ -1,14 +1,14 @@
-//! What is proposed for a round.
+//! A round's proposal.
 ghost use Rattle.std.specs.Prelude.{◌≡◌, length, IfOk, OnErr};
 ghost use Rattle.firm_proposals.specs.inner.Written.{IsEmpty, IsWritten};
 
-use crate::classes::most_classes;
-use crate::draft::Draft;
-use crate::first::First;
+use crate::classes::max_classes;
+use crate::index::{Place, Task};
 use crate::memory::Memory;
-use crate::table::Table;
+use crate::order_phase::OrderPhase;
+use crate::round::Round;
 use firm_levels::LevelRents;
-use firm_rules::Choice;
+use firm_rules::{Case, Choice};
 use std::alloc::AllocError;
 
 /// A placement, rents in levels that are to show it, and the price at which tasks went to any machine.
@@ -29,7 +29,7 @@ impl Proposal {
             rents: LevelRents {
                 amounts: memory.room(nodes),
                 places: memory.room(nodes),
-                classes: memory.room(most_classes(nodes)),
+                classes: memory.room(max_classes(nodes)),
             },
             hub_price: None,
         }
@@ -38,49 +38,47 @@ impl Proposal {
     /// Writes down what was chosen. Fails only if memory is refused, of which none is needed where there is room.
     pub(crate) fn write(
         &mut self,
-        table: &Table,
-        draft: &Draft,
-        first: &First,
+        case: &Case,
+        round: &Round,
+        phase: &OrderPhase,
     ) -> Result<(), AllocError>
-        ensures written { IfOk result (λ _. IsWritten table.now self.new) }
+        ensures written { IfOk result (λ _. IsWritten case.now self.new) }
         ensures kept { OnErr result (self.new.hub_price ≡ self.old.hub_price) }
     {
-        write_placement(table, first, &mut self.placement)?;
-        write_amounts(table, draft, &mut self.rents.amounts)?;
-        let classes = first.classes();
-        classes.write_places(table, &mut self.rents.places)?;
+        write_placement(case, phase, &mut self.placement)?;
+        write_amounts(case, round, &mut self.rents.amounts)?;
+        let classes = phase.classes();
+        classes.write_places(case, round, &mut self.rents.places)?;
         classes.write(&mut self.rents.classes)?;
-        self.hub_price = Some(draft.price(table.hub()));
+        self.hub_price = Some(round.price(round.hub()).0);
         Ok(())
     }
 }
 
 fn write_placement(
-    table: &Table,
-    first: &First,
+    case: &Case,
+    phase: &OrderPhase,
     placement: &mut Vec<Choice>,
 ) -> Result<(), AllocError>
-    ensures { IfOk result (λ _. length placement.new.items ≡ table.now.tasks) }
+    ensures { IfOk result (λ _. length placement.new.items ≡ length case.now.tasks) }
 {
     placement.clear();
-    for task in 0..table.tasks() {
-        let place = first.chosen(task);
-        let choice = if place < table.hub() {
-            Choice::On(place)
-        } else {
-            Choice::Wait
+    for task in 0..case.task_count() as u32 {
+        let choice = match phase.chosen(Task(task)) {
+            Some(machine) => Choice::On(machine.0),
+            None => Choice::Wait,
         };
         placement.push(choice)?;
     }
     Ok(())
 }
 
-fn write_amounts(table: &Table, draft: &Draft, amounts: &mut Vec<u64>) -> Result<(), AllocError>
-    ensures { IfOk result (λ _. length amounts.new.items ≡ table.now.machines) }
+fn write_amounts(case: &Case, round: &Round, amounts: &mut Vec<u64>) -> Result<(), AllocError>
+    ensures { IfOk result (λ _. length amounts.new.items ≡ length case.now.slots) }
 {
     amounts.clear();
-    for machine in 0..table.machines() {
-        amounts.push(u64::from(draft.price(machine)))?;
+    for machine in 0..case.machine_count() as u32 {
+        amounts.push(u64::from(round.price(Place(machine)).0))?;
     }
     Ok(())
 }

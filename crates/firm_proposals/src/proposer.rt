@@ -1,15 +1,14 @@
-//! What proposes a round.
+//! The proposer of rounds.
 ghost use Rattle.std.specs.Prelude.{◌≡◌, ◌+◌, ◌^◌, ◌<◌, ◌≤◌, false, length, IfOk, IsTrue};
 ghost use Rattle.firm_levels.specs.Work.{GoesOn};
 ghost use Rattle.firm_proposals.specs.Proposed.{nothing_proposed, IsInForm};
 
-use crate::draft::Draft;
-use crate::first::First;
-use crate::least::Least;
+use crate::cost_phase::CostPhase;
+use crate::index::Cost;
 use crate::memory::Memory;
-use crate::numbers::NONE;
+use crate::order_phase::OrderPhase;
 use crate::proposal::Proposal;
-use crate::table::Table;
+use crate::round::Round;
 use firm_levels::{LevelRents, Work};
 use firm_rules::{Case, Choice, Limits};
 use std::alloc::{AllocError, Global};
@@ -18,10 +17,9 @@ use std::marker::Model;
 /// Tables in which rounds are proposed. They are as large as a tenant's limits ask, and take no memory after that.
 pub struct Proposer {
     limits: Limits,
-    table: Table,
-    draft: Draft,
-    least: Least,
-    first: First,
+    round: Round,
+    cost_phase: CostPhase,
+    order_phase: OrderPhase,
     proposal: Proposal,
     // How often a round was to be proposed.
     tries: u64,
@@ -32,17 +30,15 @@ impl Drop for Proposer {
     fn drop(self) {
         let Proposer {
             limits: _,
-            table,
-            draft,
-            least,
-            first,
+            round,
+            cost_phase,
+            order_phase,
             proposal,
             tries: _,
         } = self;
-        drop(table);
-        drop(draft);
-        drop(least);
-        drop(first);
+        drop(round);
+        drop(cost_phase);
+        drop(order_phase);
         drop(proposal);
     }
 }
@@ -68,15 +64,15 @@ impl Proposer {
     pub fn new(alloc: Global, limits: Limits) -> Result<Proposer, AllocError>
         ensures { IfOk result (λ proposer. proposer ≡ nothing_proposed limits) }
     {
-        let nodes = limits.nodes() as usize;
+        // The hub and the outside are places beside the machines.
+        let nodes = (limits.nodes() as usize).saturating_add(2);
         let arcs = limits.arcs() as usize;
         let mut memory = Memory::new(alloc);
         let proposer = Proposer {
             limits,
-            table: Table::new(&mut memory, nodes, arcs),
-            draft: Draft::new(&mut memory, nodes),
-            least: Least::new(&mut memory, nodes),
-            first: First::new(&mut memory, nodes, arcs),
+            round: Round::new(&mut memory, nodes, arcs),
+            cost_phase: CostPhase::new(&mut memory, nodes),
+            order_phase: OrderPhase::new(&mut memory, nodes, arcs),
             proposal: Proposal::new(&mut memory, nodes),
             tries: 0,
         };
@@ -101,18 +97,17 @@ impl Proposer {
         ensures once { self.new.tries ≤ self.old.tries + 1 }
     {
         self.tries = self.tries.saturating_add(1);
-        if !self.table.read(case, work) {
+        if !self.round.read(case, work) {
             return false;
         }
-        let hint = hint.unwrap_or(NONE);
-        self.least.find(&self.table, &mut self.draft, hint, work);
-        if work.is_short() || !self.first.choose(&self.table, &mut self.draft, work) {
+        self.cost_phase.find(&mut self.round, hint.map(Cost), work);
+        if work.is_short() || !self.order_phase.choose(&mut self.round, work) {
             return false;
         }
         if !self.counts_writing(work) {
             return false;
         }
-        let written = self.proposal.write(&self.table, &self.draft, &self.first);
+        let written = self.proposal.write(case, &self.round, &self.order_phase);
         written.is_ok()
     }
 
@@ -120,9 +115,9 @@ impl Proposer {
     fn counts_writing(&self, work: &mut Work) -> bool
         ensures work { GoesOn work.old work.new }
     {
-        let classes = self.first.classes().count();
-        let places = self.table.places().saturating_mul(2);
-        let entries = self.table.tasks().saturating_add(places);
+        let classes = self.order_phase.classes().count();
+        let places = self.round.places().saturating_mul(2);
+        let entries = self.round.tasks().saturating_add(places);
         work.pass(entries.saturating_add(classes));
         !work.is_short()
     }

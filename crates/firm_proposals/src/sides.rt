@@ -1,55 +1,57 @@
-//! The two sides of a search for a path: what leads on from its start, and what leads to its goal.
+//! The two sides of a search for a path of tight arcs: forward from its start, and backward from its goal.
 ghost use Rattle.firm_levels.specs.Work.{GoesOn};
 
 use crate::classes::Classes;
-use crate::draft::{Draft, Step, UNIT};
-use crate::links::{Link, Links, UnitLinks, Walk};
+use crate::column::{Column, Stack};
+use crate::index::{ArcId, ClassId, Index, Optional, Place};
 use crate::memory::Memory;
-use crate::numbers::{NONE, Stack};
-use crate::table::Table;
+use crate::residual::{Link, Residual, UnitArcs, Walk};
+use crate::round::{Round, Step};
 use firm_levels::Work;
 
-/// How many looks a side has at most before it is the other's turn.
-const MOST_IN_TURN: u32 = 8;
+/// How many looks a side has at most before the other side's turn.
+const MAX_TURN: u32 = 8;
 
 /// What a search looks at.
 #[derive(Clone, Copy)]
 pub(crate) struct View<'a> {
-    pub(crate) table: &'a Table,
-    pub(crate) draft: &'a Draft,
-    pub(crate) links: &'a Links,
+    pub(crate) round: &'a Round,
+    pub(crate) residual: &'a Residual,
     pub(crate) classes: &'a Classes,
     /// The number of the search, and the class of the places in it.
     pub(crate) search: u32,
-    pub(crate) class: u32,
-    /// The first task that may still move.
-    pub(crate) now: u32,
+    pub(crate) class: ClassId,
 }
 
 /// What a look of a side found.
 #[derive(Clone, Copy)]
 pub(crate) enum Found {
-    /// It goes on.
+    /// The search goes on.
     On,
-    /// There is nothing more to look at.
+    /// Nothing is left to look at.
     Closed,
-    /// A place that the other side saw too.
-    Met(u32),
+    /// A place that the other side has seen too.
+    Met(Place),
     /// No look is left.
     Short,
 }
 
-/// Machines that are looked at in turn; each round begins with the one at which the last round ended.
+impl Found {
+    pub(crate) fn goes_on(self) -> bool {
+        matches!(&self, Found::On)
+    }
+}
+
+/// Machines that are looked at in turn: each pass over them begins where the last one ended.
 #[derive(Drop)]
 struct Circle {
-    machines: Stack,
-    // The one with which the round began, and the one that is next.
+    machines: Stack<Place>,
+    // The number of the machine with which the pass began, and of the one that is next.
     start: u32,
     next: u32,
 }
 
 impl Circle {
-    // No machines, and room for this many.
     fn new(memory: &mut Memory, machines: usize) -> Circle {
         Circle {
             machines: Stack::new(memory, machines),
@@ -63,7 +65,7 @@ impl Circle {
         self.next = 0;
     }
 
-    /// Begins with the machine that was taken last; gives how many there are.
+    // Begins with the machine that was taken last; returns how many there are.
     fn begin(&mut self) -> u32 {
         let last = self.next.saturating_sub(1);
         self.start = if last < self.machines.count() {
@@ -75,26 +77,25 @@ impl Circle {
         self.machines.count()
     }
 
-    // The next machine; `NONE` in its place if it is of another class than the search. Then it is forgotten: classes
-    // that were parted stay so.
+    // The next machine, if it is of the search's class. Otherwise it is dropped: classes that were split stay so.
     #[inline(always)]
-    fn take(&mut self, view: &View) -> u32 {
+    fn take(&mut self, view: &View) -> Option<Place> {
         if self.next >= self.machines.count() {
             self.next = 0;
         }
         let machine = self.machines.at(self.next);
         self.next = self.next.saturating_add(1);
         if view.classes.of(machine) == view.class {
-            machine
+            Some(machine)
         } else {
-            self.forget();
-            NONE
+            self.drop_last_taken();
+            None
         }
     }
 
-    // Drops the machine that was taken last. One that is not yet taken in this round comes in its place, so that none
+    // Drops the machine that was taken last. One that is not yet taken in this pass comes in its place, so that none
     // is passed over or taken twice.
-    fn forget(&mut self) {
+    fn drop_last_taken(&mut self) {
         let mut gap = self.next.saturating_sub(1);
         self.next = gap;
         if gap < self.start {
@@ -103,49 +104,42 @@ impl Circle {
             self.machines.set(gap, moved);
             gap = self.start;
         }
-        let last = self.machines.pop();
-        self.machines.set(gap, last);
+        if let Some(last) = self.machines.pop() {
+            self.machines.set(gap, last);
+        }
     }
 }
 
-/// The search in which a place was seen last, and the step by which it was.
-#[derive(Clone, Copy)]
+/// The search in which a place was seen last, and the step by which it was; the place where a side begins has none.
+/// Searches are counted from 1, so a place that was not seen has 0.
+#[derive(Clone, Copy, Default)]
 struct Mark {
     search: u32,
-    before: u32,
-    by: u32,
+    before: Optional<Place>,
+    arc: Optional<ArcId>,
 }
 
-impl Mark {
-    // Not seen.
-    const NONE: Mark = Mark {
-        search: NONE,
-        before: NONE,
-        by: NONE,
-    };
-}
-
-/// The places that a side saw, the nearest first. Whether a machine leads to the hub or the outside is looked at once
-/// it is seen; these two, which have many links, are looked along where nothing else is left.
+/// The places that a side has seen, the nearest first. Whether a machine leads to the hub or the outside is looked at
+/// as soon as it is seen; the arcs of these two, which are many, come after all others.
 #[derive(Drop)]
 pub(crate) struct Side {
-    is_ahead: bool,
-    // How many looks it has before it is the other's turn.
+    is_forward: bool,
+    // How many looks it has before the other side's turn.
     turn: u32,
-    seen: Stack,
-    marks: Vec<Mark>,
+    seen: Stack<Place>,
+    marks: Column<Place, Mark>,
     // Whether the hub and the outside were seen in this search.
     saw_hub: bool,
     saw_outside: bool,
-    // The machine that was seen last, and its links of units that are not looked at.
-    last: u32,
-    units: UnitLinks,
-    // The machines that may lead on, how many of them were gone into, and the walk from the last of those.
-    near: Stack,
+    // The machine that was seen last, and its arcs of units that are not looked at.
+    last: Place,
+    units: UnitArcs,
+    // The machines that may lead on, how many of them were entered, and the walk from the last of those.
+    near: Stack<Place>,
     entered: u32,
     walk: Walk,
-    // The hub and the outside, while they are not gone into, and the walk from the last of those.
-    far: Stack,
+    // The hub and the outside, until they are entered, and the walk from the last of those.
+    far: Stack<Place>,
     far_walk: Walk,
     // Whether the next turn there goes to tasks.
     is_tasks_turn: bool,
@@ -156,21 +150,21 @@ pub(crate) struct Side {
 
 impl Side {
     /// No places, and room for this many tasks and machines together.
-    pub(crate) fn new(memory: &mut Memory, nodes: usize, is_ahead: bool) -> Side {
+    pub(crate) fn new(memory: &mut Memory, nodes: usize, is_forward: bool) -> Side {
         Side {
-            is_ahead,
+            is_forward,
             turn: 0,
             seen: Stack::new(memory, nodes),
-            marks: memory.table(Mark::NONE, nodes),
+            marks: Column::new(memory, nodes),
             saw_hub: false,
             saw_outside: false,
-            last: NONE,
-            units: UnitLinks::NONE,
+            last: Place::LAST,
+            units: UnitArcs::default(),
             near: Stack::new(memory, nodes),
             entered: 0,
-            walk: Walk::NONE,
+            walk: Walk::default(),
             far: Stack::new(memory, 2),
-            far_walk: Walk::NONE,
+            far_walk: Walk::default(),
             is_tasks_turn: false,
             at_hub: Circle::new(memory, nodes),
             at_edge: Circle::new(memory, nodes),
@@ -178,73 +172,56 @@ impl Side {
     }
 
     /// Forgets all searches, and reads between which machines and the hub or the outside units may go.
-    pub(crate) fn read(&mut self, table: &Table, draft: &Draft, links: &Links, work: &mut Work)
+    pub(crate) fn read(&mut self, round: &Round, residual: &Residual, work: &mut Work)
         ensures work { GoesOn work.old work.new }
     {
-        let end = self.marks.len().min(work.pass(table.places()) as usize);
-        self.marks[..end].fill(Mark::NONE);
+        self.marks.reset(round.places(), Mark::default(), work);
         self.at_hub.clear();
         self.at_edge.clear();
-        let hub = draft.price(table.hub());
-        for machine in 0..work.pass(table.machines()) {
-            if draft.price(machine) == hub {
+        let hub_price = round.price(round.hub());
+        for number in 0..work.pass(round.machines()) {
+            let machine = Place(number);
+            if round.price(machine) == hub_price {
                 self.at_hub.machines.push(machine);
             }
-            if links.is_at_edge(machine) {
+            if residual.is_flexible(machine) {
                 self.at_edge.machines.push(machine);
             }
         }
     }
 
-    /// The places that this search saw, the one it began with first.
-    pub(crate) fn seen(&self) -> &Stack {
+    /// The places that this search has seen, the one it began with first.
+    pub(crate) fn seen(&self) -> &Stack<Place> {
         &self.seen
     }
 
     /// Begins a search at a place.
-    pub(crate) fn begin(&mut self, view: &View, place: u32) {
+    pub(crate) fn begin(&mut self, view: &View, place: Place) {
         self.turn = 0;
         self.seen.clear();
         self.near.clear();
         self.entered = 0;
-        self.walk = Walk::NONE;
+        self.walk = Walk::default();
         self.far.clear();
-        self.far_walk = Walk::NONE;
+        self.far_walk = Walk::default();
         self.is_tasks_turn = false;
-        self.units = UnitLinks::NONE;
+        self.units = UnitArcs::default();
         self.saw_hub = false;
         self.saw_outside = false;
-        let search = view.search;
-        self.set_mark(
-            place,
-            Mark {
-                search,
-                ..Mark::NONE
-            },
-        );
+        let start = Mark {
+            search: view.search,
+            ..Mark::default()
+        };
+        self.marks.set(place, start);
         self.enter(view, place);
-        if place >= view.table.hub() {
+        if !view.round.is_machine(place) {
             self.far.clear();
             self.far_walk = self.walk_from(view, place);
         }
     }
 
-    #[inline(always)]
-    fn mark(&self, place: u32) -> Mark {
-        let mark = self.marks.get(place as usize);
-        mark.copied().unwrap_or(Mark::NONE)
-    }
-
-    #[inline(always)]
-    fn set_mark(&mut self, place: u32, mark: Mark) {
-        if let Some(item) = self.marks.get_mut(place as usize) {
-            *item = mark;
-        }
-    }
-
-    #[inline(always)]
-    fn has_seen(&self, view: &View, place: u32) -> bool {
-        self.mark(place).search == view.search
+    fn has_seen(&self, view: &View, place: Place) -> bool {
+        self.marks.at(place).search == view.search
     }
 
     /// Looks at what comes next, up to a new place that leads on. A turn has twice the looks of the one before, up to
@@ -253,28 +230,28 @@ impl Side {
     pub(crate) fn look(&mut self, view: &View, other: &Side, work: &mut Work) -> Found
         ensures work { GoesOn work.old work.new }
     {
-        self.turn = self.turn.saturating_mul(2).clamp(1, MOST_IN_TURN);
-        let place = if !self.units.are_none() {
+        self.turn = self.turn.saturating_mul(2).clamp(1, MAX_TURN);
+        let found = if !self.units.are_none() {
             self.look_at_unit(view, work)
         } else if !self.walk.is_done() || self.goes_on(view, work) {
             let mut walk = self.walk;
-            let place = self.look_along(view, &mut walk, work);
+            let found = self.look_along(view, &mut walk, work);
             self.walk = walk;
-            place
+            found
         } else if !self.far_walk.is_done() {
             let mut walk = self.far_walk;
-            let place = self.look_from_afar(view, other, &mut walk, work);
+            let found = self.look_from_afar(view, other, &mut walk, work);
             self.far_walk = walk;
-            place
+            found
         } else {
-            return self.look_far(view, work);
+            return self.enter_far(view, work);
         };
         if work.is_short() {
             return Found::Short;
         }
-        if place == NONE {
+        let Some(place) = found else {
             return Found::On;
-        }
+        };
         if other.has_seen(view, place) {
             return Found::Met(place);
         }
@@ -282,24 +259,23 @@ impl Side {
         Found::On
     }
 
-    // Looks at a link of units of the machine that was seen last; gives the place at its other end if that is new, else
-    // `NONE`.
-    fn look_at_unit(&mut self, view: &View, work: &mut Work) -> u32
+    // Looks at an arc of units of the machine that was seen last; returns the place at its other end if that is new.
+    fn look_at_unit(&mut self, view: &View, work: &mut Work) -> Option<Place>
         ensures work { GoesOn work.old work.new }
     {
         if !work.look() {
-            return NONE;
+            return None;
         }
         let from = self.last;
-        let to = self.units.next(view.table);
-        if self.mark_new(view, Step { from, to, by: UNIT }) {
-            to
+        let to = self.units.next(view.round);
+        if self.mark_new(view, Step::unit(from, to)) {
+            Some(to)
         } else {
-            NONE
+            None
         }
     }
 
-    // Goes into the next machine that leads on, and says whether there is one.
+    // Enters the next machine that leads on, and says whether there is one.
     fn goes_on(&mut self, view: &View, work: &mut Work) -> bool
         ensures work { GoesOn work.old work.new }
     {
@@ -317,99 +293,112 @@ impl Side {
         false
     }
 
-    // Looks whether the hub or the outside is left.
-    fn look_far(&mut self, view: &View, work: &mut Work) -> Found
+    // Enters the hub or the outside, if one is left.
+    fn enter_far(&mut self, view: &View, work: &mut Work) -> Found
         ensures work { GoesOn work.old work.new }
     {
         if !work.look() {
             return Found::Short;
         }
-        let place = self.far.pop();
-        if place == NONE {
-            return Found::Closed;
+        match self.far.pop() {
+            Some(place) => {
+                self.far_walk = self.walk_from(view, place);
+                Found::On
+            }
+            None => Found::Closed,
         }
-        self.far_walk = self.walk_from(view, place);
-        Found::On
     }
 
-    // Looks at the links of the hub or the outside, up to a new place that leads on, which it returns; `NONE` if there
-    // is none. Machines and tasks take turns: where thousands of machines lead nowhere, a task often leads on.
+    // Looks at the arcs of the hub or the outside, up to a new place that leads on, which it returns. Machines and
+    // tasks take turns: where thousands of machines lead nowhere, a task often leads on.
     #[inline(always)]
-    fn look_from_afar(&mut self, view: &View, other: &Side, walk: &mut Walk, work: &mut Work) -> u32
+    fn look_from_afar(
+        &mut self,
+        view: &View,
+        other: &Side,
+        walk: &mut Walk,
+        work: &mut Work,
+    ) -> Option<Place>
         ensures work { GoesOn work.old work.new }
     {
         let is_tasks_turn = self.is_tasks_turn;
         self.is_tasks_turn = !is_tasks_turn;
-        if walk.machines == 0 || (is_tasks_turn && walk.has_ways()) {
+        if walk.machines == 0 || (is_tasks_turn && walk.has_arcs()) {
             self.look_along(view, walk, work)
         } else {
-            self.look_round(view, other, walk, work)
+            self.look_at_machines(view, other, walk, work)
         }
     }
 
     // Looks at machines between which and the hub or the outside a unit may go, up to a new one that leads on, which it
-    // gives; `NONE` if there is none.
+    // returns.
     #[inline(always)]
-    fn look_round(&mut self, view: &View, other: &Side, walk: &mut Walk, work: &mut Work) -> u32
+    fn look_at_machines(
+        &mut self,
+        view: &View,
+        other: &Side,
+        walk: &mut Walk,
+        work: &mut Work,
+    ) -> Option<Place>
         ensures work { GoesOn work.old work.new }
     {
         let from = walk.place;
-        let is_hub = from == view.table.hub();
+        let is_hub = from == view.round.hub();
         for _ in 0..self.turn {
             if walk.machines == 0 || !work.look() {
-                return NONE;
+                return None;
             }
             walk.machines = walk.machines.saturating_sub(1);
-            let to = if is_hub {
+            let taken = if is_hub {
                 self.at_hub.take(view)
             } else {
                 self.at_edge.take(view)
             };
-            if to != NONE
+            if let Some(to) = taken
                 && self.goes(view, is_hub, to)
-                && self.mark_new(view, Step { from, to, by: UNIT })
+                && self.mark_new(view, Step::unit(from, to))
             {
                 if other.has_seen(view, to) || self.leads_on(view, to) {
-                    return to;
+                    return Some(to);
                 }
                 self.seen.push(to);
             }
         }
-        NONE
+        None
     }
 
     // Whether a unit may go between the hub or the outside and a machine.
     #[inline(always)]
-    fn goes(&self, view: &View, is_hub: bool, machine: u32) -> bool {
-        let (links, draft) = (view.links, view.draft);
-        match (is_hub, self.is_ahead) {
+    fn goes(&self, view: &View, is_hub: bool, machine: Place) -> bool {
+        match (is_hub, self.is_forward) {
             (true, true) => true,
-            (true, false) => draft.is_loose(machine),
-            (false, true) => links.may_leave(draft, machine),
-            (false, false) => links.may_come(draft, machine),
+            (true, false) => view.round.has_loose_unit(machine),
+            (false, true) => view.residual.can_shed(view.round, machine),
+            (false, false) => view.residual.can_take(view.round, machine),
         }
     }
 
-    // Looks along a walk, up to a new place, which it gives; `NONE` if there is none.
+    // Looks along a walk, up to a new place, which it returns.
     #[inline(always)]
-    fn look_along(&mut self, view: &View, walk: &mut Walk, work: &mut Work) -> u32
+    fn look_along(&mut self, view: &View, walk: &mut Walk, work: &mut Work) -> Option<Place>
         ensures work { GoesOn work.old work.new }
     {
-        let from = walk.place;
+        let from = Some(walk.place);
         for _ in 0..self.turn {
-            if !walk.has_ways() || !work.look() {
-                return NONE;
+            if !walk.has_arcs() || !work.look() {
+                return None;
             }
-            let Link { by, at: to } = if self.is_ahead {
-                view.links.look_ahead(view.draft, walk)
+            let Link { arc, at: to } = if self.is_forward {
+                view.residual.look_forward(view.round, walk)
             } else {
-                view.links.look_behind(view.draft, walk, view.now)
+                view.residual.look_backward(view.round, walk)
             };
-            if self.mark_new(view, Step { from, to, by }) {
-                return to;
+            let arc = Some(arc);
+            if self.mark_new(view, Step { from, to, arc }) {
+                return Some(to);
             }
         }
-        NONE
+        None
     }
 
     // Marks a place as seen by this step, and says whether it is new: it was not seen, and is of the search's class.
@@ -417,94 +406,99 @@ impl Side {
     fn mark_new(&mut self, view: &View, step: Step) -> bool {
         let is_new = !self.has_seen(view, step.to) && view.classes.of(step.to) == view.class;
         if is_new {
-            self.set_mark(
-                step.to,
-                Mark {
-                    search: view.search,
-                    before: step.from,
-                    by: step.by,
-                },
-            );
+            let mark = Mark {
+                search: view.search,
+                before: Optional::of(step.from),
+                arc: Optional::of(step.arc),
+            };
+            self.marks.set(step.to, mark);
         }
         is_new
     }
 
-    // Keeps a new place to be gone into, the hub and the outside last.
+    // Keeps a new place to be entered later, the hub and the outside last.
     #[inline(always)]
-    fn enter(&mut self, view: &View, place: u32) {
+    fn enter(&mut self, view: &View, place: Place) {
         self.seen.push(place);
-        if place < view.table.hub() {
+        if view.round.is_machine(place) {
             self.last = place;
             self.units = self.units_of(view, place);
             self.near.push(place);
         } else {
-            self.saw_hub = self.saw_hub || place == view.table.hub();
-            self.saw_outside = self.saw_outside || place == view.table.outside();
+            self.saw_hub = self.saw_hub || place == view.round.hub();
+            self.saw_outside = self.saw_outside || place == view.round.outside();
             self.far.push(place);
         }
     }
 
     // Whether there is anything to look at from a machine.
     #[inline(always)]
-    fn leads_on(&self, view: &View, machine: u32) -> bool {
-        let has_links = if self.is_ahead {
-            view.draft.first(machine) != NONE
+    fn leads_on(&self, view: &View, machine: Place) -> bool {
+        let has_arcs = if self.is_forward {
+            view.round.first_listed(machine).is_some()
         } else {
-            view.links.lead_to(machine)
+            view.residual.has_arc_into(machine)
         };
-        has_links || !self.units_of(view, machine).are_none()
+        has_arcs || !self.units_of(view, machine).are_none()
     }
 
-    // The walk from a place.
     #[inline(always)]
-    fn walk_from(&mut self, view: &View, place: u32) -> Walk {
-        let hub = view.table.hub();
-        let machines = if place < hub {
+    fn walk_from(&mut self, view: &View, place: Place) -> Walk {
+        let machines = if view.round.is_machine(place) {
             0
-        } else if place == hub {
+        } else if place == view.round.hub() {
             self.at_hub.begin()
         } else {
             self.at_edge.begin()
         };
-        if self.is_ahead {
-            view.links.walk_ahead(view.draft, place, machines)
+        if self.is_forward {
+            view.residual.walk_forward(view.round, place, machines)
         } else {
-            view.links.walk_behind(place, machines)
+            view.residual.walk_backward(place, machines)
         }
     }
 
-    // A machine's links with the outside and the hub, but for those that were seen.
+    // A machine's arcs with the outside and the hub, without those that were seen.
     #[inline(always)]
-    fn units_of(&self, view: &View, machine: u32) -> UnitLinks {
-        let (links, draft) = (view.links, view.draft);
+    fn units_of(&self, view: &View, machine: Place) -> UnitArcs {
         let outside = !self.saw_outside
-            && if self.is_ahead {
-                links.leads_outside(draft, machine)
+            && if self.is_forward {
+                view.residual.can_take(view.round, machine)
             } else {
-                links.comes_from_outside(draft, machine)
+                view.residual.can_shed(view.round, machine)
             };
         let hub = !self.saw_hub
-            && draft.price(machine) == draft.price(view.table.hub())
-            && (!self.is_ahead || draft.is_loose(machine));
-        UnitLinks { outside, hub }
+            && view.round.has_hub_price(machine)
+            && (!self.is_forward || view.round.has_loose_unit(machine));
+        UnitArcs { outside, hub }
     }
 
     /// Makes the steps between a place and where this side began.
-    pub(crate) fn make(&self, table: &Table, draft: &mut Draft, end: u32, work: &mut Work)
+    pub(crate) fn make(
+        &self,
+        round: &mut Round,
+        residual: &mut Residual,
+        end: Place,
+        work: &mut Work,
+    )
         ensures work { GoesOn work.old work.new }
     {
         let mut place = end;
-        for _ in 0..table.places() {
-            let Mark { before, by, .. } = self.mark(place);
-            if before == NONE || !work.look() {
+        for _ in 0..round.places() {
+            let mark = self.marks.at(place);
+            let Some(before) = mark.before.get() else {
+                return;
+            };
+            if !work.look() {
                 return;
             }
-            let (from, to) = if self.is_ahead {
+            let (from, to) = if self.is_forward {
                 (before, place)
             } else {
                 (place, before)
             };
-            draft.make(table, Step { from, to, by });
+            let (from, arc) = (Some(from), mark.arc.get());
+            residual.make(round, Step { from, to, arc });
             place = before;
         }
     }

@@ -71,7 +71,7 @@ past classes tree (suc most) k t below l late =
     (λ p. omega (arith, tree.times k some l p, sooner)))
     (cases_eq 0 k)
 
--- at a time later than its own, and so than those of all behind it, a class has 1
+-- at a time later than its own, and so than those of all after it, a class has 1
 pub number_past : (classes : List Class) → AreClasses classes → (k t : ℕ) → k < length classes
     → (0 < k → (class_at classes k).time < t) → number classes k t ≡ 1
 number_past classes tree k t l late = past classes tree k k t (omega arith) l late

@@ -25,7 +25,7 @@ apart a b e = elim (bytes_eq b a) as (λ v. bytes_eq b a ≡ v → v ≡ false) 
   | false ↦ λ f. refl
 ] refl
 
--- the machine at a place is found there by its name
+-- the machine at a place has that place by its name
 found_there : (rows : TenantRows) (j : ℕ) → IsDistinct bytes_eq (machine_names rows) → j < length rows.machines
     → place_of rows (machine_at rows j) ≡ j
 found_there rows j differ l =

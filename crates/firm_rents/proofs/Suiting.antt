@@ -1,4 +1,4 @@
--- How offers of places tell that rents in levels suit a placement.
+-- Offers of places as a proof that rents in levels suit a placement.
 use Rattle.std.proofs.Common.{◌≡◌, ℕ, zero, suc, ◌+◌, ◌*◌, ◌<◌, ◌≤◌, cond, eqb, List, length, refl, sym, ap, subst}
 use Rattle.std.proofs.Common.{arith}
 use Rattle.std.proofs.Common.{◌∙◌, ⊎_elim, Bool, false, true}
@@ -246,7 +246,7 @@ least_amount case rents i chosen lowest j least less cost =
     by_amount (offered rents.classes.items chosen) (paid_by_level case (level_rents rents) i (On j))
     (omega (arith, less, cost, least 0 (λ l h. absurd (omega arith))))
 
--- the lowest rent at a time tells of a machine that is dearer at the time of its own
+-- the lowest rent at a time bounds that of a machine which is dearer at its own time
 pub tells : (case : Case) (rents : LevelRents) (i : ℕ) (chosen : Offer) (lowest j a : ℕ)
     → IsAtMost (offered rents.classes.items chosen) (place_levels rents (wide_cost case (task_at case i)) lowest a)
     → IsAtMost (place_levels rents 0 lowest a) (place_levels rents 0 j (i * (length case.slots + 2) + suc j))

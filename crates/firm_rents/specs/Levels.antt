@@ -1,4 +1,4 @@
--- Rents in levels: an amount and, behind it, a number at each time; and what they prove of a round's placement.
+-- Rents in levels: an amount, followed by a number at each time; and their proof that a placement is the round's.
 use Rattle.std.specs.Prelude.{◌≡◌, ℕ, zero, suc, ◌+◌, ◌-◌, ◌*◌, ◌<◌, ◌≤◌, ◌==◌, List, length, slice_index}
 use Rattle.std.specs.Prelude.{if◌then◌else◌}
 use Rattle.firm_rules.specs.declared.rounds.Choice.{Choice}
@@ -16,12 +16,12 @@ IsAtMost one other = (level : ℕ) → ((before : ℕ) → before < level → on
 abbrev pub time : Case → ℕ → Choice → ℕ
 time case i choice = i * (length case.slots + 2) + rank (length case.slots) (task_at case i).home choice
 
--- an amount, with nothing behind it
+-- an amount, followed by nothing
 abbrev pub amount : ℕ → ℕ → ℕ
 amount n zero = n
 amount n (suc t) = 0
 
--- what a choice costs a task and, behind it, 1 at each time but the choice's own: so that of two the one that ranks
+-- a task's cost of a choice, followed by 1 at each time but the choice's own: so that of two the one that ranks
 -- first is cheaper
 abbrev pub cost_by_level : Case → ℕ → Choice → ℕ → ℕ
 cost_by_level case i choice zero = task_cost case (task_at case i) choice

@@ -1,4 +1,4 @@
--- Where the tasks of some rows run, as a placement.
+-- The places where the tasks of some rows run, as a placement.
 use Rattle.std.specs.Prelude.{◌≡◌, ℕ, Option, Some, None, List, map, true}
 use Rattle.firm_rules.specs.Book.{TenantRows}
 use Rattle.firm_rules.specs.Placement.{is_legal}

@@ -1,4 +1,4 @@
--- What the low and the high rents of a round say together.
+-- Bounds by the low and the high rents of a round together.
 use Rattle.std.specs.Prelude.{◌≡◌, ℕ, ◌-◌, max, List, length, slice_index}
 use Rattle.firm_rules.specs.declared.rounds.Choice.{Choice}
 use Rattle.firm_rules.specs.Placement.{Demand, Case}

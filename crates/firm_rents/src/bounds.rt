@@ -1,4 +1,4 @@
-//! What rents prove about the cost of a tenant's placements. None of these calls takes memory.
+//! Bounds by rents on the cost of a tenant's placements. None of these calls takes memory.
 ghost use Rattle.std.specs.Prelude.{ℕ, ◌≡◌, ◌+◌, ◌*◌, ◌^◌, ◌≤◌, ◌↔◌, true, length, slice_index, List, IsTrue};
 ghost use Rattle.firm_rules.specs.declared.rounds.Choice.{Choice};
 ghost use Rattle.firm_rules.specs.Placement.{IsLegal, is_legal, placement_cost};
@@ -9,7 +9,7 @@ use crate::laws::rents_show_least;
 use crate::rents::Rents;
 use firm_rules::{Case, Choice, cost_of_load, legality_is_judged};
 
-/// What rents show about a placement.
+/// The verdict of rents on a placement.
 #[derive(Clone, Copy, PartialEq, Eq)]
 pub struct Shown {
     /// Whether they show it to be least: its cost plus the gains equals the least that the tasks pay.
@@ -21,7 +21,7 @@ pub struct Shown {
     pub gains: u64,
 }
 
-/// What the rents show about a legal placement. If they show it to be least, no legal placement costs less.
+/// The verdict of the rents on a legal placement. If they show it to be least, no legal placement costs less.
 pub fn shows_least(case: &Case, rents: &Rents, placement: &[Choice]) -> Shown
     requires legal { is_legal case.now placement.now ≡ true }
     requires one_each { length rents.now ≡ length case.now.slots }

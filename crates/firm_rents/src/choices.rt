@@ -1,4 +1,4 @@
-//! What a task pays, and how much more another choice costs it.
+//! A task's price of a choice, and the excess of another choice.
 ghost use Rattle.std.specs.Prelude.{◌≡◌, ◌-◌, ◌^◌, ◌<◌, ◌≤◌, true, false, length};
 ghost use Rattle.firm_rules.specs.Placement.{goes_to, IsPlace};
 ghost use Rattle.firm_rents.specs.Rents.{paid, least_paid, CostsMore};
@@ -9,7 +9,7 @@ ghost use Rattle.firm_rules.specs.declared.rounds.Choice.TheVariants.{On};
 use crate::rents::Rents;
 use firm_rules::{Case, Choice};
 
-/// What a choice costs the task of this number with its rent.
+/// The cost of a choice to the task of this number, with its rent.
 pub fn paid(case: &Case, rents: &Rents, task: usize, choice: Choice) -> u64
     requires task { task < length case.now.tasks }
     ensures paid { result ≡ paid case.now rents.now (task_at case.now task) choice }
@@ -18,7 +18,7 @@ pub fn paid(case: &Case, rents: &Rents, task: usize, choice: Choice) -> u64
     case.cost_of_choice(task, choice) + rents.of_choice(choice)
 }
 
-/// How much more the task of this number pays for the other choice than for the chosen one; 0 if it pays less. If the
+/// The excess of the other choice over the chosen one for the task of this number; 0 if it is cheaper. If the
 /// rents show a placement with the chosen one, every legal placement with the other costs at least this much more.
 pub fn excess(case: &Case, rents: &Rents, task: usize, chosen: Choice, other: Choice) -> u64
     requires task { task < length case.now.tasks }

@@ -7,7 +7,7 @@ ghost use Rattle.firm_rents.specs.inner.Classes.{IsCheaperFrom, IsKnown, IsParti
 
 use firm_levels::Class;
 
-/// What a choice costs a task with its rent, and the time of the choice.
+/// A choice's cost to a task with its rent, and the time of the choice.
 #[derive(Clone, Copy)]
 pub(crate) struct Offer {
     pub(crate) amount: u64,
@@ -30,7 +30,7 @@ pub(crate) struct Parting {
     other: u32,
 }
 
-/// Where two classes part, as it was found last: tasks behind one another often go to the same machine.
+/// The last divergence of two classes: neighbouring tasks often go to the same machine.
 #[derive(Clone, Copy)]
 pub(crate) struct Known {
     one: u32,
@@ -64,7 +64,7 @@ pub(crate) fn is_at_most(classes: &[Class], one: Offer, other: Offer) -> bool
     is_at_most_parted(classes, parting, one, other)
 }
 
-// Where two classes part; nowhere if they are one. Inlined: most calls end at the first comparison.
+// The divergence of two classes, if they differ. Inlined: most calls end at the first comparison.
 #[inline(always)]
 fn parting_of(classes: &[Class], one: u32, other: u32) -> Parting
     requires tree { AreClasses classes.now }
@@ -123,8 +123,8 @@ fn is_at_most_behind(classes: &[Class], parting: Parting, one: Offer, other: Off
     found.less <= found.more
 }
 
-/// The time from which on the one offer is at most the other for whatever choices, since it is cheaper before; 2^32 or
-/// more if there is none. The offers' own times do not count.
+/// The time from which on the one offer is at most the other, since it ranks before it; 2^32 or
+/// more if there is no such time. The offers' own times do not count.
 pub(crate) fn cheaper_since(classes: &[Class], one: Offer, other: Offer) -> u64
     requires tree { AreClasses classes.now }
     requires one { one.class < length classes.now }
@@ -236,7 +236,7 @@ impl Known {
         parting: Parting::NOWHERE,
     };
 
-    /// Where these two part. Inlined: most calls end at the first comparison.
+    /// The divergence of these two. Inlined: most calls end at the first comparison.
     #[inline(always)]
     pub(crate) fn parting(&mut self, classes: &[Class], one: u32, other: u32) -> Parting
         requires tree { AreClasses classes.now }
@@ -303,7 +303,7 @@ impl Left {
     }
 }
 
-// What is offered at a time at which its class has this number.
+// The offer at a time at which its class has this number.
 fn marked(offer: Offer, own: u32, time: u64) -> u64
     ensures { (classes : List ClassOf) → number classes offer.class time ≡ own
         → offered classes offer (suc time) ≡ result }
@@ -390,7 +390,7 @@ fn looked_at(
     looked
 }
 
-// What is offered at a time.
+// The offer at a time.
 fn offered_at(classes: &[Class], offer: Offer, time: u32) -> u64
     requires tree { AreClasses classes.now }
     requires offer { offer.class < length classes.now }

@@ -1,4 +1,4 @@
-//! What the cost of a placement is made of.
+//! The parts of a placement's cost.
 ghost use Rattle.std.specs.Prelude.{◌≡◌, ◌+◌, ◌^◌, ◌<◌, ◌≤◌, length};
 ghost use Rattle.firm_rules.specs.Placement.{load, load_cost, placement_cost, total};
 ghost use Rattle.firm_rules.specs.Placement.{task_at};
@@ -7,7 +7,7 @@ ghost use Rattle.firm_rules.specs.ChoiceCost.{remote_cost, wait_cost};
 
 use firm_rules::{Case, Choice};
 
-/// What a placement costs, by kind of cost.
+/// A placement's cost by kind.
 #[derive(Clone, Copy, PartialEq, Eq)]
 pub struct Parts {
     /// The loads of the machines.
@@ -22,7 +22,7 @@ pub struct Parts {
     pub remote: u64,
 }
 
-/// What a placement costs, by kind of cost. There is one choice for each task.
+/// A placement's cost by kind. There is one choice for each task.
 pub fn parts_of(case: &Case, placement: &[Choice]) -> Parts
     requires { length placement.now ≡ length case.now.tasks }
     ensures loads { result.loads ≡ total (λ j. load_cost case.now.spread (load placement.now j))

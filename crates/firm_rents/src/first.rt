@@ -21,8 +21,8 @@ use firm_levels::{Class, LevelRents, Work};
 use firm_rules::{Case, Choice, MOST_MACHINES, legality_is_judged, slot_cost};
 
 /// Whether rents in levels, from any proposer, show that a placement is the round's: it is legal, no legal one
-/// costs less, and none that costs as much comes before it. Where the answer is no, nothing is said, as where the work
-/// that is left doesn't suffice. Counts each pass over tasks, machines and classes, so a yes takes at least a look at
+/// costs less, and none that costs as much comes before it. A no says nothing, as where the remaining work
+/// doesn't suffice. Counts each pass over tasks, machines and classes, so a yes takes at least a look at
 /// each task and machine. Takes no memory.
 pub fn shows_first(case: &Case, rents: &LevelRents, placement: &[Choice], work: &mut Work) -> bool
     ensures first { IsTrue result → IsRound case.now placement.now }
@@ -64,7 +64,7 @@ fn counts_passes(case: &Case, rents: &LevelRents, work: &mut Work) -> bool
     work.pass(entries) == entries
 }
 
-// Whether there is an amount and a class for each of this number of machines, a class for waiting, and a tree of
+// Checks for an amount and a class for each of this number of machines, a class for waiting, and a tree of
 // classes.
 fn are_in_levels(rents: &LevelRents, machines: usize) -> bool
     requires { machines ≤ 4096 }
@@ -89,7 +89,7 @@ fn are_small(amounts: &[u64]) -> bool
     true
 }
 
-// Whether there is a class, and each of these is below the number of classes.
+// Checks that there is a class, and that each of these is below the number of classes.
 fn are_below(places: &[u32], classes: usize) -> bool
     ensures some { result ≡ true → 0 < classes }
     ensures below { result ≡ true → (j : ℕ) → slice_index places.now j < classes }
@@ -174,7 +174,7 @@ fn is_worth_no_more(case: &Case, rents: &LevelRents, place: usize, others: u64) 
     is_at_most(rents.classes.as_slice(), rent, slot)
 }
 
-// What a place costs, beside this much, for a choice of this time.
+// The cost of a place, beside this much, for a choice of this time.
 fn offer_of(rents: &LevelRents, more: u64, place: usize, time: u32) -> Offer
     requires levels { AreInLevels (length rents.now.amounts.items) rents.now }
     requires place { place ≤ length rents.now.amounts.items }
@@ -190,8 +190,8 @@ fn offer_of(rents: &LevelRents, more: u64, place: usize, time: u32) -> Offer
     }
 }
 
-// Where the look at machines that cost all tasks alike stands: the one of the lowest rent, before which place all are
-// spent, dearer than that one before the times of the task, and from which time on the one at that place is spent.
+// Progress of the scan of the machines that cost all tasks alike: the one of the lowest rent; the place before which
+// all are spent, that is, dearer than it before the times of the task; and the time at which the next one is spent.
 #[derive(Clone, Copy)]
 struct Mark {
     lowest: usize,
@@ -199,7 +199,7 @@ struct Mark {
     since: u64,
 }
 
-// What is kept from task to task: where the classes of a choice part from that of waiting and from that of the lowest
+// State from task to task: the divergences of a choice's classes from those of waiting and of the lowest
 // rent.
 #[derive(Clone, Copy)]
 struct Kept {
@@ -278,8 +278,9 @@ impl Kept {
         self.others_suit(case, rents, task, chosen, mark, work)
     }
 
-    // Whether all other machines cost the task no less than its choice. They cost it alike but for their rents, so most
-    // are told by the lowest one: from a place on by that one at the place's time, before that because they are spent.
+    // Returns whether all other machines cost the task no less than its choice. They cost it alike but for their rents,
+    // so most are decided by the lowest one: from a place on by that one at the place's time, before it because they
+    // are spent.
     fn others_suit(
         &mut self,
         case: &Case,
@@ -315,9 +316,9 @@ impl Kept {
         if chosen.amount != first.amount {
             return chosen.amount < first.amount;
         }
-        // Amounts are alike from here on. The end is a guess: from which place on the lowest rent tells that no machine
-        // costs the task less, as the choice made ranks before the place, or that rent is dearer at a rank before it.
-        // Whether it is right is asked below.
+        // Amounts are equal from here on. The end is a guess: the place from which on the lowest rent shows that no
+        // machine costs the task less, as the choice made ranks before the place, or that rent is dearer at a rank
+        // before it. Whether it is right is asked below.
         let parting = self.lowest.parting(classes, chosen.class, first.class);
         if is_at_most_parted(classes, parting, chosen, first) {
             return true;
@@ -353,8 +354,8 @@ impl Kept {
     }
 }
 
-// What the choice costs the task with its rent: nothing of its own where the task stays. Most tasks stay or prefer no
-// machine, and are told without a look at what they prefer. Inlined, since a round calls it for each task.
+// The choice's cost to the task with its rent: none if the task stays. Most tasks stay or prefer no
+// machine, and are decided without a look at their preferences. Inlined, since a round calls it for each task.
 #[inline(always)]
 fn chosen_offer(
     case: &Case,
@@ -473,7 +474,7 @@ fn each_suits(rents: &LevelRents, chosen: Offer, span: Span, work: &mut Work) ->
     true
 }
 
-// What a choice costs the task of this number with its rent.
+// The cost of a choice to the task of this number with its rent.
 fn offer(case: &Case, rents: &LevelRents, task: usize, choice: Choice) -> Offer
     requires levels { AreInLevels (length case.now.slots) rents.now }
     requires task { task < length case.now.tasks }
@@ -532,7 +533,7 @@ fn passed(case: &Case, rents: &LevelRents, mark: Mark, begun: u32) -> Mark
     }
 }
 
-// The time from which on the machine at this place is spent. What it says of the place behind the last one is not used.
+// The time from which on the machine at this place is spent. The value past the last place is not used.
 fn spent_since(rents: &LevelRents, lowest: usize, place: usize) -> u64
     requires levels { AreInLevels (length rents.now.amounts.items) rents.now }
     requires lowest { lowest ≤ length rents.now.amounts.items }
@@ -544,7 +545,7 @@ fn spent_since(rents: &LevelRents, lowest: usize, place: usize) -> u64
     cheaper_since(rents.classes.as_slice(), first, other)
 }
 
-// The machine of the lowest rent; 0 if there is none.
+// The machine of the lowest rent, or 0.
 fn lowest_machine(case: &Case, rents: &LevelRents) -> usize
     requires levels { AreInLevels (length case.now.slots) rents.now }
     ensures lowest { 0 < length case.now.slots → result < length case.now.slots }

@@ -21,7 +21,7 @@ pub struct Group {
 /// A nested order of the machines and waiting.
 #[derive(Drop)]
 pub struct Ladder {
-    /// The first has all others in it, each stands behind the one that it is in, and the lower of two in one stands
+    /// The first contains all others, each follows the one that contains it, and the lower of two in one stands
     /// first.
     pub groups: Vec<Group>,
     /// The group of each machine and, last, that of waiting.
@@ -29,7 +29,7 @@ pub struct Ladder {
 }
 
 /// Whether a ladder, with these rents, shows that a placement is the round's: it is legal, no legal one costs less, and
-/// none that costs as much comes before it. Where the answer is no, nothing is said. The ladder is read as rents in
+/// none that costs as much comes before it. A no says nothing. The ladder is read as rents in
 /// levels: a lower group is dearer, from its time on. Fails only if memory is refused.
 pub fn is_ladder(
     alloc: Global,
@@ -53,7 +53,7 @@ pub fn is_ladder(
     Ok(shows_first(case, &levels, placement, &mut work))
 }
 
-// The rents with the ladder behind them.
+// The rents, followed by the ladder.
 fn in_levels(
     alloc: Global,
     case: &Case,
@@ -145,7 +145,7 @@ fn references_of(alloc: Global, ladder: &Ladder) -> Result<Vec<u32>, AllocError>
     Ok(references)
 }
 
-// Of the groups in each one, that with most groups in it; 0 if there is none.
+// For each group, the one in it with the most groups; 0 if there is none.
 fn main_groups(alloc: Global, ladder: &Ladder) -> Result<Vec<u32>, AllocError> {
     let sizes = sizes_of(alloc, ladder)?;
     let mut main = vec![in alloc; 0; ladder.groups.len()]?;
@@ -159,7 +159,7 @@ fn main_groups(alloc: Global, ladder: &Ladder) -> Result<Vec<u32>, AllocError> {
     Ok(main)
 }
 
-// How many groups there are in each, with itself.
+// Number of groups in each group, itself included.
 fn sizes_of(alloc: Global, ladder: &Ladder) -> Result<Vec<u32>, AllocError> {
     let mut sizes = vec![in alloc; 1; ladder.groups.len()]?;
     for back in 0..ladder.groups.len() {

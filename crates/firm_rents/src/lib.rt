@@ -7,9 +7,9 @@
 //! rents `Show` a placement or `Suit` it: each task pays its least, the last task of each machine is paid for, no free
 //! slot is worth more than it costs.
 //!
-//! `specs/Levels.antt` says the same of *rents in levels*: for each machine, and for waiting, an amount and behind it a
+//! `specs/Levels.antt` says the same of *rents in levels*: for each machine, and for waiting, an amount, followed by a
 //! number at each *time*, the choice of some rank of some task. They are compared at the first level at which they
-//! differ. Behind its cost, a choice is cheaper by 1 at its own time: so of two choices that pay the same amount, the
+//! differ. After its cost, a choice is cheaper by 1 at its own time: so of two choices that pay the same amount, the
 //! one that ranks first is cheaper, unless a rent differs at its time or before. `LevelRents` of firm_levels are such
 //! rents as a caller proposes them: amounts, and a tree of classes of places, each like its parent but at one time. No
 //! clause asks anything of them. A `Ladder` says the same in another form: groups of places, nested, each ordered from

@@ -67,7 +67,7 @@ impl Rents {
         rent_of(self.table.as_slice(), choice)
     }
 
-    /// The machine with the lowest rent apart from these two; `Wait` if there is none.
+    /// The machine with the lowest rent apart from these two, or else `Wait`.
     pub(crate) fn lowest_but(&self, one: Choice, other: Choice) -> Choice
         ensures { IsLowest (slice_index self.now) (length self.now) one other result }
     {
@@ -91,7 +91,7 @@ pub(crate) fn rent_of(rents: &[u64], choice: Choice) -> u64
     }
 }
 
-// The machine with the lowest rent apart from these two, the first if several have it; `Wait` if there is none.
+// The machine with the lowest rent apart from these two, the first if several have it, or else `Wait`.
 fn lowest_of(rents: &[u64], one: Choice, other: Choice) -> Choice
     requires { length rents.now ≤ 4096 }
     ensures { IsLowest (slice_index rents.now) (length rents.now) one other result }

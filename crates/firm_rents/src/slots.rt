@@ -1,4 +1,4 @@
-//! What other slots would save or cost in a round, judged by its rents.
+//! Savings and costs of other slots in a round, by its rents.
 ghost use Rattle.std.specs.Prelude.{◌≡◌, ◌+◌, ◌-◌, ◌^◌, ◌<◌, ◌≤◌, [], ◌∷◌, ◌++◌, List, length, slice_index, IfOk};
 ghost use Rattle.std.specs.Prelude.{slice_set as set};
 ghost use Rattle.firm_rules.specs.declared.rounds.Choice.{Choice as ChoiceOf};
@@ -16,7 +16,7 @@ use firm_rules::{Case, Choice, Slots, slot_cost};
 use std::alloc::{AllocError, Global};
 use std::cmp::Reverse;
 
-/// What one more machine, which no task prefers, would save in a round.
+/// Saving of one more machine, which no task prefers, in a round.
 #[derive(Drop)]
 pub struct Saving {
     /// The most it saves.
@@ -126,7 +126,7 @@ fn takers_of(
     Ok((u64::max(next, rent).min(MOST_RENT), tasks))
 }
 
-// How much less the tasks would pay on a machine added last at this rent.
+// The tasks' saving on a machine added last at this rent.
 fn drawn_at(case: &Case, rents: &Rents, rent: u64) -> u64
     requires one_each { length rents.now ≡ length case.now.slots }
     requires rent { rent ≤ 2 ^ 40 }
@@ -140,7 +140,7 @@ fn drawn_at(case: &Case, rents: &Rents, rent: u64) -> u64
     drawn
 }
 
-// What a machine added last costs a task.
+// A task's cost of a machine added last.
 fn cost_on_last(case: &Case, task: usize) -> u64
     requires { task < length case.now.tasks }
     ensures cost { result ≡ task_cost case.now (task_at case.now task) (On (length case.now.slots)) }

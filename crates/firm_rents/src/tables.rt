@@ -318,7 +318,7 @@ fn pays_elsewhere(case: &Case, rents: &[u64], task: usize, lowest: usize) -> u64
     most
 }
 
-// What the task would pay on the machine.
+// The task's price of the machine.
 fn pays_on(case: &Case, rents: &[u64], task: usize, place: u32) -> u64
     requires task { task < length case.now.tasks }
     requires place { place < length case.now.slots }
@@ -370,7 +370,7 @@ fn lower_to(rents: &mut [u64], place: usize, most: u64) -> bool
     falls
 }
 
-// The place of a lowest rent; 0 if there is none.
+// The place of a lowest rent, or 0.
 fn lowest_place(rents: &[u64]) -> usize
     ensures { 0 < length rents.now → result < length rents.now }
 {

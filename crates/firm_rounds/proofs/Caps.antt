@@ -1,4 +1,4 @@
--- How many tickets there can be in all.
+-- The number of tickets that there can be in all.
 use Rattle.std.proofs.Common.{◌≡◌, ℕ, zero, suc, ◌+◌, ◌-◌, ◌*◌, ◌^◌, ◌<◌, ◌≤◌, cond, nat_lt, true, false, List, [], ◌∷◌}
 use Rattle.std.proofs.Common.{◌++◌, sym, refl, ap, ◌∙◌, arith, ⊎_elim}
 use Rattle.std.proofs.lemmas.Bool.{lt-ltb, le-ltb, cases_lt}

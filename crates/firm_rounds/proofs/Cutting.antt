@@ -53,7 +53,7 @@ last_share v k n e past =
     one_share v (n + 1) (share beyond 0 [])
     (e ∙ ap (λ (m : ℕ). sight (n + 1) (share beyond 0 [] ∷ fresh k m)) none)
 
--- a seat that has shares of so many places, at how many places it counts itself
+-- the number of places at which a seat with shares of this many places counts itself
 pub grown_start : (v : Sight) → v ≡ opening → v ≡ grown_to (v.all - 1)
 grown_start v e = e ∙ ap (λ (n : ℕ). grown_to (n - 1)) (sym (ap (λ (w : Sight). w.all) e))
 

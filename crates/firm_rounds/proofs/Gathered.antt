@@ -1,4 +1,4 @@
--- What the keeping seat has when a share was added.
+-- The lists of the keeping seat after a share was added.
 use Rattle.std.proofs.Common.{◌≡◌, ℕ, ◌+◌, ◌<◌, ◌≤◌, List, [], ◌∷◌, ◌++◌, length, get_or, sym, refl, ap, ◌∙◌, arith}
 use Rattle.std.proofs.Common.{length-append}
 use Rattle.firm_rounds.specs.declared.protocol.Share.{Share}

@@ -1,4 +1,4 @@
--- What the passes handed in have put and got.
+-- The tickets that the passes handed in have put and got.
 use Rattle.std.specs.Prelude.{◌≡◌, ℕ, ◌+◌, ◌<◌, ◌≤◌, ◌^◌, List, []}
 use Rattle.firm_rules.specs.declared.tickets.Ticket.{Ticket}
 use Rattle.firm_rounds.specs.declared.protocol.Share.{Share}

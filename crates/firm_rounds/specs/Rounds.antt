@@ -1,4 +1,4 @@
--- What shares put and got, for any weights of the tickets.
+-- The tickets that shares put and got, for any weights of the tickets.
 use Rattle.std.specs.Prelude.{ℕ, zero, suc, ◌+◌, ◌==◌, cond, List, [], ◌∷◌, ◌++◌}
 use Rattle.firm_rules.specs.declared.tickets.Ticket.{Ticket}
 use Rattle.firm_rounds.specs.declared.protocol.Share.{Share}

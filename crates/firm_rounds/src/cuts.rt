@@ -10,6 +10,13 @@ use crate::protocol::{Cut, Grow, QueueSeat, Ring};
 use firm_bell::Bell;
 use std::alloc::{AllocError, Global};
 
+/// Numbers of a queue's passes to put jobs, and of those to get them.
+#[derive(Clone, Copy)]
+pub(crate) struct PassCounts {
+    pub(crate) puts: usize,
+    pub(crate) pops: usize,
+}
+
 // Adds `more` shares.
 pub(crate) fn grow(ring: &Ring, keep: &mut QueueSeat, more: usize)
     requires { IsPassOf ring.now keep.old × (view keep.old ≡ grown_to ((view keep.old).all - 1)) }
@@ -20,7 +27,7 @@ pub(crate) fn grow(ring: &Ring, keep: &mut QueueSeat, more: usize)
     }
 }
 
-// A seat of its own for the next share, that of place `from + more`.
+// A separate seat for the next share, that of place `from + more`.
 pub(crate) fn cut(ring: &Ring, keep: &mut QueueSeat, from: usize, more: usize) -> QueueSeat
     requires { IsPassOf ring.now keep.old × (from + more < (view keep.old).all - 1)
         × (view keep.old ≡ held_from (from + more) ((view keep.old).all - 1)) }
@@ -59,17 +66,16 @@ pub(crate) fn cut_pops(
     ring: &Ring,
     bell: &Bell,
     keep: QueueSeat,
-    puts: usize,
-    pops: usize,
+    counts: PassCounts,
 ) -> Result<Vec<PopPass>, AllocError>
-    requires { IsPassOf ring.now keep × (0 < pops) × ((view keep).all ≡ puts + pops)
-        × (view keep ≡ held_from puts ((view keep).all - 1)) }
-    ensures { IfOk result (λ r. r.items ≡ new_pops (queue_of bell.now keep) pops) }
+    requires { IsPassOf ring.now keep × (0 < counts.pops) × ((view keep).all ≡ counts.puts + counts.pops)
+        × (view keep ≡ held_from counts.puts ((view keep).all - 1)) }
+    ensures { IfOk result (λ r. r.items ≡ new_pops (queue_of bell.now keep) counts.pops) }
 {
     let mut keep = keep;
-    let mut passes = Vec::with_capacity(alloc, pops)?;
-    for k in 0..pops - 1 {
-        let seat = cut(ring, &mut keep, puts, k);
+    let mut passes = Vec::with_capacity(alloc, counts.pops)?;
+    for k in 0..counts.pops - 1 {
+        let seat = cut(ring, &mut keep, counts.puts, k);
         passes.push(PopPass::of(seat, bell.listener()))?;
     }
     passes.push(PopPass::of(keep, bell.listener()))?;

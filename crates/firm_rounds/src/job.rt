@@ -38,7 +38,7 @@ impl Job {
         }
     }
 
-    /// Which round of which tenant it is.
+    /// The tenant's place and the number of its round.
     pub fn ticket(&self) -> Ticket
         ensures { result ≡ self.now.ticket }
     {

@@ -209,7 +209,7 @@ impl PopPass {
         bell.rest_or_look(rt, &mut self.listener, looks)
     }
 
-    /// How many jobs it got.
+    /// Number of jobs that it got.
     pub fn count(&self) -> u64
         ensures { result ≡ length self.now.got }
     {

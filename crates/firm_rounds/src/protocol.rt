@@ -1,4 +1,4 @@
-//! What lies in the queue, what a pass knows, and the rule over both.
+//! The contents of the queue, a pass's knowledge, and the rule over both.
 ghost use Rattle.std.specs.Prelude.{◌≡◌};
 
 use crossbeam_queue::protocol::{Join, Lesson, Outcome, Protocol, Split};
@@ -17,14 +17,14 @@ pub struct JobParts {
     pub ghost same_book: { side.book ≡ tenant },
 }
 
-/// What one pass has done: how many tickets of its place it put, and the tickets that it got. Never constructed.
+/// A pass's history: the number of tickets of its place that it put, and the tickets that it got. Never constructed.
 pub struct Share {
     pub place: u64,
     pub put: u64,
     pub got: LinkedList<Ticket>,
 }
 
-/// What a seat knows: its shares, and how many there are in all. Never constructed.
+/// A seat's knowledge: its shares, and their number in all. Never constructed.
 pub struct Sight {
     pub all: u64,
     pub shares: LinkedList<Share>,
@@ -116,7 +116,7 @@ impl Lesson<JobParts, Sight> for Pops {
     ghost fact = { Shows };
 }
 
-/// What the seat with every share learns.
+/// The lesson of the seat with every share.
 pub struct Ends;
 
 impl Outcome<JobParts, Sight> for Ends {

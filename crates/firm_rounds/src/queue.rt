@@ -11,7 +11,7 @@ ghost use Rattle.firm_rounds.specs.Passes.{GoesOn, closing_is, got_none, got_one
 ghost use Rattle.firm_rounds.specs.Passes.{spent_pop, spent_put};
 
 use crate::closing::Closing;
-use crate::cuts::{cut_pops, cut_puts, grow};
+use crate::cuts::{PassCounts, cut_pops, cut_puts, grow};
 use crate::gathering::{drain, gather};
 use crate::job::Job;
 use crate::passes::{Ended, PopPass, PutPass};
@@ -28,7 +28,7 @@ const ROOM: usize = 8;
 // The most workers that a bell wakes.
 const MOST_WORKERS: usize = 8;
 
-// How many times a put tries in vain before it sleeps until there is room: a few microseconds.
+// Number of tries in vain of a put before it sleeps until there is room: a few microseconds.
 const TRIES_BEFORE_SLEEP: u32 = 64;
 
 // Room for the jobs that `close` finds.
@@ -98,7 +98,7 @@ impl Queue {
         grow(&ring, &mut keep, puts);
         grow(&ring, &mut keep, pops - 1);
         let put_passes = cut_puts(alloc, &ring, &bell, &mut keep, puts)?;
-        let pop_passes = cut_pops(alloc, &ring, &bell, keep, puts, pops)?;
+        let pop_passes = cut_pops(alloc, &ring, &bell, keep, PassCounts { puts, pops })?;
         let left = Mutex::new(Room {
             jobs: Vec::with_capacity(alloc, ROOM)?,
         });
@@ -113,14 +113,14 @@ impl Queue {
         Ok((queue, put_passes, pop_passes))
     }
 
-    /// How many passes there are to put jobs.
+    /// Number of passes to put jobs.
     pub fn puts(&self) -> usize
         ensures { result ≡ self.now.puts }
     {
         self.puts
     }
 
-    /// How many passes there are to get jobs.
+    /// Number of passes to get jobs.
     pub fn pops(&self) -> usize
         ensures { result ≡ self.now.pops }
     {

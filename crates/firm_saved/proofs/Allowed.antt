@@ -1,4 +1,4 @@
--- What a row that has no fault may be taken for.
+-- Rows that may stand in the place of a row without a fault.
 use Rattle.std.proofs.Common.{◌≡◌, ◌≤◌, ◌+◌, ℕ, Bool, true, false, cond, not, ◌||◌, List, [], ◌∷◌, ◌++◌, length}
 use Rattle.std.proofs.Common.{refl, ap, ◌∙◌, arith, Option, Some, None, true≢false}
 use Rattle.std.specs.Prelude.{All, IfSome, nat_le, nat_lt}

@@ -1,4 +1,4 @@
--- What is returned of a text, by what the text gives.
+-- The result returned for a text, by the result that the text gives.
 use Rattle.std.proofs.Common.{◌≡◌, ◌∙◌, ℕ, List, Result, Ok, Err, sym, inl, inr}
 use Rattle.std.specs.Prelude.{◌⊎◌, IfErr, IfOk, MatchResult}
 use Rattle.firm_rules.specs.SlotCosts.{LaterSlotsCostNoLess}

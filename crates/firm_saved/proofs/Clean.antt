@@ -81,7 +81,7 @@ line_above (first ∷ rest) k =
 abbrev pub ended_line : List ℕ → List ℕ
 ended_line line = line ++ 10 ∷ []
 
--- the pieces of lines that are each ended by a line feed are the lines, and nothing behind the last line feed
+-- the pieces of lines that each end in a line feed are the lines, and nothing after the last line feed
 pub lines_split : (lines : List (List ℕ)) → list_all (above 10) lines ≡ true
     → slice_split is_line_feed (flat_map ended_line lines) ≡ lines ++ [] ∷ []
 lines_split [] h = refl

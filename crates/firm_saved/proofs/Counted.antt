@@ -1,4 +1,4 @@
--- How many places there are up to the last that was ever given.
+-- The number of places up to the last that was ever given.
 use Rattle.std.proofs.Common.{◌≡◌, ◌≤◌, ◌+◌, ◌-◌, ℕ, List, [], ◌∷◌, ◌++◌, length, get_or, take, sym, ap, ◌∙◌}
 use Rattle.std.proofs.Common.{arith}
 use Rattle.std.proofs.lemmas.List.{get_or-map, get_or-take, length-map, take_more}

@@ -71,7 +71,7 @@ labelled_back : (label : List ℕ) (n : ℕ) (rest : List (List ℕ)) → n < 10
     → labelled_at (label ∷ decimal n ∷ rest) ≡ Ok (n, rest)
 labelled_back label n rest small = rw (number_word_back n small) refl
 
--- so is a patience, if the words behind it begin with another label
+-- so is a patience, if the words after it begin with another label
 patience_back : (heading : Heading) (limits : TenantLimits) → FitsHeading heading limits → limits.patience < 10 ^ 13
     → (rest : List (List ℕ)) → names_patience rest ≡ false
     → patience_at heading (patience_words limits.patience ++ rest) ≡ Ok (limits.patience, rest)
@@ -238,7 +238,7 @@ slots_back n low high = rw (number_back n (omega arith), le-leb 1 n low, le-leb 
 weight_back : (n : ℕ) → 1 ≤ n → n ≤ 1000000 → checked_at weight_from (decimal n ∷ []) ≡ Ok n
 weight_back n low high = rw (number_back n (omega arith), le-leb 1 n low, le-leb n 1000000 high) refl
 
--- the words of a row tell it
+-- the words of a row determine it
 words_back : (heading : Heading) (r : Row) → IsRow heading r → words_row heading (row_words r) ≡ Ok r
 words_back heading (row.Place n) h = rw (number_word_back n h) refl
 words_back heading (row.Rows n) h = rw (number_word_back n h) refl

@@ -1,4 +1,4 @@
--- How many tasks run on each machine, once one more task is there.
+-- The number of tasks that run on each machine, after one more task.
 use Rattle.std.proofs.Common.{◌≡◌, ◌<◌, ◌≤◌, ◌+◌, ℕ, zero, suc, true, false, cond, ◌&&◌, List, [], ◌∷◌, ◌++◌, length}
 use Rattle.std.proofs.Common.{map}
 use Rattle.std.proofs.Common.{get_or, refl, sym, ap, subst, ◌∙◌, arith, inl, inr, Some, None, true≢false, bytes_eq}
@@ -92,7 +92,7 @@ module _ (tasks : List Task) (t : Task) where
         (sym (elsewhere machine (ap (bytes_eq machine.name) (sym is) ∙ apart)))
         ∙ ap (λ l. load after machine ∷ l) (loads_run machines place d differ.1 (omega arith) is)
 
-    -- whether there is room is told by the machine at that place
+    -- the load of the machine at that place decides whether there is room
     pub room_at : (machines : List Machine) (place : ℕ) (d : Machine)
         → IsDistinct bytes_eq (map (λ machine. machine.name) machines)
         → place < length machines → name_at (map (λ machine. machine.name) machines) place ≡ home

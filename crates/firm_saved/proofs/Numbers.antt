@@ -1,4 +1,4 @@
--- Numbers that are read one behind the other, where the first fault is kept.
+-- Numbers read one after the other, with the first fault.
 use Rattle.std.proofs.Common.{◌≡◌, ◌∙◌, ℕ, List, Result, Ok, Err, sym, ap}
 use Rattle.std.specs.Prelude.{MatchResult}
 use Rattle.std.specs.Option.{ok_or}
@@ -29,7 +29,7 @@ pass words (Err first) (Ok rest) n then e = absurd e
 pass {X} {B} words (Err first) (Err kind) n then e =
     ap (λ (k : FaultKind). let r : Result B FaultKind = Err k in r) (sym e)
 
--- the limits of these six numbers, and the patience behind them
+-- the limits of these six numbers, followed by the patience
 abbrev pub ends : Heading → ℕ → ℕ → ℕ → ℕ → ℕ → ℕ → List (List ℕ) → Result (TenantLimits × List (List ℕ)) FaultKind
 ends heading nodes arcs life spread churn remote words = do
   patience ← patience_at heading words

@@ -51,7 +51,7 @@ no_more (place ∷ rest) = by (given_places rest) refl (no_more rest)
         one false = omega arith
     by (next ∷ others) is few = rw is (let same = ap (λ (l : List SavedPlace). length l) is in omega arith)
 
--- the places behind the last that was ever given were never given
+-- the places after the last that was ever given were never given
 pub given_split : (places : List SavedPlace) → AllByRecursion (λ place. IsCounted (entry_of place)) places
     → places ≡ given_places places ++ replicate (length places - length (given_places places)) untouched
 given_split [] counted = refl

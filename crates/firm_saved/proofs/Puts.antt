@@ -9,11 +9,11 @@ use Rattle.std.proofs.lemmas.List.{append-nil, drop_all}
 use Rattle.firm_saved.specs.StateText.{row_words, words_text}
 use Rattle.firm_saved.specs.declared.rows.Row.TheVariants as row
 
--- what is kept of a text that was kept
+-- starting with a text is transitive
 pub kept_trans : (xs ys zs : List ℕ) → StartsWith xs ys → StartsWith ys zs → StartsWith xs zs
 kept_trans = starts_with_trans
 
--- what is kept of a text to which something was added, and then of what that gave
+-- the same after something was added, twice
 pub kept_after : (new first text xs : List ℕ) → first ≡ text ++ xs → StartsWith new first → StartsWith new text
 kept_after new first text xs added kept =
     starts_with_trans new first text kept (starts_with_of_append first text xs added)
@@ -62,7 +62,7 @@ pub last_added : {A E : Type 0} (result : Result A E) (new first text b : List �
 last_added (Ok done) new first text b e f = f ∙ ap (λ (l : List ℕ). l ++ b) e
 last_added (Err refused) new first text b e f = tt
 
--- what the library says of bytes that were added: they were added with success, and what stood before was kept
+-- the library's clause on added bytes: they were added with success, and the bytes before them stay
 pub bytes_added : {A E : Type 0} (result : Result A E) (new text bytes : List ℕ)
     → new ≡ (if is_ok result then text ++ bytes else text) → OnOk result (new ≡ text ++ bytes)
 bytes_added (Ok done) new text bytes e = e

@@ -46,7 +46,7 @@ each_named names (name ∷ some) there formed =
     and_from (is_name name) (list_all is_name some)
     (among_named names name there.0 formed) (each_named names some there.1 formed)
 
--- rows one behind the other
+-- rows one after the other
 pub rows_both : (P : Row → Type 0) (xs ys : List Row) → AllByRecursion P xs → AllByRecursion P ys
     → AllByRecursion P (xs ++ ys)
 rows_both P [] ys h k = k

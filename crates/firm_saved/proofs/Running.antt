@@ -67,7 +67,7 @@ module _ (rows : TenantRows) (sound : AreSound rows) (loads : List ℕ) (kept : 
       ∙ get_or-map (λ (machine : Machine). on machine.name) rows.machines place d 0 below
       ∙ ap on (sym (get_or-map (λ (machine : Machine). machine.name) rows.machines place d [] below) ∙ named)
 
-  -- whether it may run there is told by its load
+  -- its load decides whether it may run there
   pub stood : (book : Book) (task : Task) (x : ℕ) → book.rows ≡ with_restored rows task → task.machine ≡ Some name
       → x ≡ get_or loads place x
       → slot_fault book task task.machine

@@ -222,7 +222,7 @@ lines_read heading line d (bytes ∷ next ∷ rest) places orderly e =
 pub some_piece : (text : List ℕ) → 0 < length (slice_split is_line_feed text)
 some_piece text = let pieces = length-slice_split is_line_feed text in omega arith
 
--- bytes behind the last line feed are no end
+-- bytes after the last line feed are no end
 pub not_end : (text : List ℕ) → 0 < length text → is_end (slice_split is_line_feed text) ≡ false
 not_end [] some = absurd (omega arith)
 not_end (b ∷ text) some = by (slice_split is_line_feed text) (some_piece text) (is_line_feed b)

@@ -1,4 +1,4 @@
--- A fault is told by the lines up to its own.
+-- The lines up to a fault determine it.
 use Rattle.std.proofs.Common.{◌≡◌, ◌<◌, ◌≤◌, ◌+◌, ◌-◌, ◌∙◌, ℕ, zero, suc, Bool, true, false, cond, List, [], ◌∷◌}
 use Rattle.std.proofs.Common.{length, take}
 use Rattle.std.proofs.Common.{Option, Some, None, Result, Ok, Err, refl, sym, ap, subst, arith, true≢false, eqb, inl}
@@ -31,7 +31,7 @@ err_is x y e = cc
 pub no_err : {A E : Type 0} (x : A) (y : E) → (let r : Result A E = Ok x in r) ≡ Err y → ⊥
 no_err x y e = absurd cc
 
--- a fault of the last row: of the row itself, or of what stands behind it
+-- a fault of the last row: of the row itself, or of the lines after it
 data LastFault (line : ℕ) (d : Draft) (count : ℕ) (rest : List (List ℕ)) (f : StateFault) : Type 0 where
   Own : f.line ≡ line → ((other : List (List ℕ)) → last_row line d count other ≡ Err f) → LastFault line d count rest f
   Behind : f.line ≡ line + 1 → is_end rest ≡ false
@@ -129,7 +129,7 @@ fault_late heading line d (bytes ∷ next ∷ rest) f e =
         last (Own is all) = omega arith
         last (Behind is end all) = omega arith
 
--- what follows behind the last row is alike
+-- the lines after the last row are alike
 end_alike : (next : List ℕ) (rest other : List (List ℕ)) → Alike 0 rest other → is_end (next ∷ rest) ≡ false
     → is_end (next ∷ other) ≡ false
 end_alike (b ∷ bytes) rest other alike e = refl

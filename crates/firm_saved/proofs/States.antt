@@ -159,7 +159,7 @@ text_is text saved e = by (slice_split is_line_feed text) refl e
 
 -- ---- the text of a state is read as it
 
--- the draft once a place is read behind those of another draft
+-- the draft after a place is read into another draft
 abbrev drafted : Option (List ℕ × Book) → Option TenantDraft
 drafted None = None
 drafted (Some tenant) =

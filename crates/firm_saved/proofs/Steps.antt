@@ -1,4 +1,4 @@
--- What is read of a row is that row behind those before it.
+-- Reading a row adds that row after those before it.
 use Rattle.std.proofs.Common.{◌≡◌, ◌<◌, ℕ, zero, suc, Bool, true, false, cond, ◌||◌, List, [], ◌∷◌, ◌++◌, length, eqb}
 use Rattle.std.proofs.Common.{map, refl, sym, ap, subst, ◌∙◌, arith, append_assoc, Option, Some, None, Result, Ok, Err}
 use Rattle.std.proofs.Common.{true≢false}
@@ -232,7 +232,7 @@ grown_costs t (row.Place n) t2 e none = absurd cc
 grown_costs t (row.Tenant name limits given) t2 e none = absurd cc
 grown_costs t (row.Rows n) t2 e none = absurd cc
 
--- a row behind those of a draft
+-- a row after those of a draft
 abbrev pub IsNext : Draft → Row → Draft → Type 0
 IsNext draft r after = (draft_rows after ≡ draft_rows draft ++ r ∷ []) × IsOrderly after
 
@@ -257,7 +257,7 @@ in_tenant d r d2 (Some t) orderly is e =
       },
     )
 
--- each row that is taken is behind those before it
+-- each row taken comes after those before it
 pub taken_rows : (d : Draft) (r : Row) (d2 : Draft) → IsOrderly d → taken d r ≡ Ok d2 → IsNext d r d2
 taken_rows d (row.Place n) d2 orderly e =
     let places = bind_ok (whole d)

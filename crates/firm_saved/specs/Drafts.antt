@@ -1,4 +1,4 @@
--- What the rows so far make of a state, and the next row.
+-- The state so far by its rows, and the next row.
 use Rattle.std.specs.Prelude.{ℕ, ℤ, Bool, true, not, ◌||◌, ◌==◌, ◌+◌, List, [], ◌∷◌, ◌++◌, Option, Some, None}
 use Rattle.std.specs.Prelude.{Result, Ok, Err, length, max, min, nat_le, nat_lt, option_map, if◌then◌else◌}
 use Rattle.std.specs.List.{list_all, list_any}
@@ -117,7 +117,7 @@ naming_fault rows task =
     else (if not (are_machines rows task.preferred) then Some fault.NoSuchMachine
     else (if nat_lt rows.limits.patience task.waited then Some fault.BadNumber else None)))
 
--- a task shows more rounds than left costs, of which the last 8 are kept
+-- a task shows more rounds than left costs, of which the last 8 are recorded
 abbrev pub rounds_fault : List ℤ → Task → Option FaultKind
 rounds_fault costs task = if nat_lt (length costs) (min 8 (rounds_shown task)) then Some fault.Rounds else None
 
@@ -195,14 +195,14 @@ booked tenant (Some costs) =
     let book : Book = record { rows = tenant.rows; costs = costs; given = tenant.given } in
     unless (option_map kind_of (book_fault book)) (tenant.name, book)
 
--- a place, with the tenant that was read, if there is one
+-- a place, with the tenant that was read, if any
 abbrev pub place_of : ℕ → Option TenantDraft → Result SavedPlace FaultKind
 place_of admissions None = Ok (record { admissions = admissions; tenant = None })
 place_of admissions (Some tenant) = do
   named ← booked tenant tenant.costs
   Ok (record { admissions = admissions; tenant = Some named })
 
--- the places with the present one, if there is one
+-- the places with the present one, if any
 abbrev pub closed : List SavedPlace → Option ℕ → Option TenantDraft → Result (List SavedPlace) FaultKind
 closed before None tenant = Ok before
 closed before (Some admissions) tenant = do

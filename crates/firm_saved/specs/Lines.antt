@@ -59,7 +59,7 @@ abbrev pub number_at : List (List ℕ) → Result ℕ FaultKind
 number_at [] = Err fault.Row
 number_at (word ∷ rest) = number_word word
 
--- the number behind a label, and the words behind it
+-- the number after a label, and the words after it
 abbrev pub labelled_at : List (List ℕ) → Result (ℕ × List (List ℕ)) FaultKind
 labelled_at [] = Err fault.Row
 labelled_at (label ∷ []) = Err fault.Row
@@ -78,7 +78,7 @@ abbrev pub patience_at : Heading → List (List ℕ) → Result (ℕ × List (Li
 patience_at Plain words = Ok (longest_patience, words)
 patience_at Extended words = if names_patience words then labelled_at words else Ok (longest_patience, words)
 
--- the limits of a tenant, and the words behind them
+-- the limits of a tenant, and the words after them
 abbrev pub limits_at : Heading → List (List ℕ) → Result (TenantLimits × List (List ℕ)) FaultKind
 limits_at heading words = do
   nodes ← labelled_at words
@@ -156,7 +156,7 @@ names_at names (word ∷ rest) =
     (name_word word >>= λ name. names_at (with_preference names name) rest)
     else Err fault.Row
 
--- the machines that stand behind a label, if it is there
+-- the machines after a label, if present
 abbrev pub preferred_at : List (List ℕ) → Result (List (List ℕ)) FaultKind
 preferred_at [] = Ok []
 preferred_at (label ∷ names) = names_at [] names
@@ -185,7 +185,7 @@ task_row (word ∷ rest) = do
   job ← name_word word
   task_of job rest
 
--- the row of a first word and of the words behind it, as far as these tell
+-- the row of a first word and the words after it, as far as these determine it
 abbrev pub verb_row : Heading → List ℕ → List (List ℕ) → Result Row FaultKind
 verb_row heading verb rest =
     if bytes_eq verb (codes "place") then place_row rest

@@ -26,7 +26,7 @@ abbrev pub at_line : {A : Type 0} → ℕ → Result A FaultKind → Result A St
 at_line line (Ok value) = Ok value
 at_line line (Err kind) = Err (fault_at line kind)
 
--- whether nothing stands behind the last line feed
+-- whether nothing follows the last line feed
 abbrev pub is_end : List (List ℕ) → Bool
 is_end ([] ∷ []) = true
 is_end _ = false

@@ -23,7 +23,7 @@ entry_of place = record { tenant = tenant_name place; admissions = place.admissi
 abbrev pub register_of : List SavedPlace → List Entry
 register_of places = map entry_of places
 
--- the tenant of a place, if there is one, has a name of the form and a sound book
+-- the tenant of a place, if any, has a name of the form and a sound book
 abbrev pub IsSoundPlace : SavedPlace → Type 0
 IsSoundPlace place = IfSome place.tenant (λ (tenant : List ℕ × Book). (is_name tenant.0 ≡ true) × IsSoundBook tenant.1)
 

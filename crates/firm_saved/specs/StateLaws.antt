@@ -1,4 +1,4 @@
--- What a fault's line says of a text, and in which order places are first given.
+-- Laws about a fault's line in a text, and about the order in which places are first given.
 use Rattle.std.specs.Prelude.{◌≡◌, ◌<◌, ℕ, List, Ok, length, nat_lt, take}
 use Rattle.std.specs.List.{slice_split}
 use Rattle.firm_text.specs.Lines.{is_line_feed}

@@ -61,7 +61,7 @@ book_rows name book =
     row.Tenant name book.rows.limits book.given ∷ row.Costs book.costs ∷ map row.Machine book.rows.machines
     ++ map row.Job book.rows.jobs ++ map row.Task book.rows.tasks
 
--- the rows of the tenant of a place, if there is one
+-- the rows of the tenant of a place, if any
 abbrev pub tenant_rows : Option (List ℕ × Book) → List Row
 tenant_rows None = []
 tenant_rows (Some tenant) = book_rows tenant.0 tenant.1

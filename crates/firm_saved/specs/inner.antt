@@ -1,4 +1,4 @@
--- What no public clause cites: how a state is kept while its text is read.
+-- For proofs inside the crate: the state while its text is read.
 pub mod Loads
 pub mod Kept
 pub mod Returned

@@ -157,7 +157,7 @@ impl Draft {
         None
     }
 
-    // Moves the present place, if there is one, to those before it.
+    // Moves the present place, if any, to those before it.
     fn close(&mut self) -> Result<(), FaultKind>
         requires { IsSoundDraft self.old }
         ensures closed { Gives (λ _. self.new.before.items) result (whole (view self.old)) }
@@ -188,7 +188,7 @@ impl Draft {
     }
 }
 
-// A place, with the tenant that was read, if there is one.
+// A place, with the tenant that was read, if any.
 fn place_of(admissions: u32, tenant: Option<TenantDraft>) -> Result<SavedPlace, FaultKind>
     ensures value { result ≡ place_of admissions (option_map tenant_view tenant) }
     ensures sound { IfSome tenant (λ kept. is_name kept.name ≡ true) → IfOk result IsSoundPlace }

@@ -1,4 +1,4 @@
-//! What can be wrong with the text of a state.
+//! Faults of a state's text.
 ghost use Rattle.std.specs.Prelude.{◌≡◌};
 ghost use Rattle.firm_saved.specs.Faults.{fault_code, fault_name};
 ghost use Rattle.firm_saved.specs.declared.faults.FaultKind.TheVariants.{Memory as NoMemory};
@@ -12,7 +12,7 @@ pub struct StateFault {
     pub kind: FaultKind,
 }
 
-/// What is wrong with a line.
+/// The fault of a line.
 #[derive(Clone, Copy, Debug, PartialEq, Eq)]
 pub enum FaultKind {
     /// It is the first and not that of the version that is read.
@@ -41,9 +41,9 @@ pub enum FaultKind {
     Places,
     /// The last line is missing, has another count, or is not the last.
     Rows,
-    /// Memory ran out before another fault was found.
+    /// Out of memory before another fault.
     Memory,
-    /// The task runs or has waited, and there were fewer rounds by the costs, of which the last 8 are kept.
+    /// The task runs or has waited, and there were fewer rounds by the costs, of which the last 8 are recorded.
     Rounds,
     /// The task runs where its wait would cost less than its slot, in each round that there may have been. Of a task
     /// that later rows crowd, or whose slot is worth more to one that waits, the line is that which ends the tenant's

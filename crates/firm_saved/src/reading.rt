@@ -27,7 +27,7 @@ const EXTENDED: &[u8] = b"firm state 1 extended";
 impl Saved {
     /// The state that a text is. An error is the text's first fault, or `Memory` where memory ran out.
     pub fn read(alloc: Global, text: &[u8]) -> Result<Saved, StateFault>
-        // What is read is a sound state, and the text is its one text.
+        // The result is a sound state, and the text is its one text.
         ensures found { IfOk result (λ saved. IsSoundSaved saved × (text.now ≡ state_text saved)) }
         // The text of a sound state is read as this state, unless memory runs out.
         ensures only { (other : SavedIs) → IsSoundSaved other → text.now ≡ state_text other

@@ -111,7 +111,7 @@ fn limits_at(heading: Heading, behind: &[u8]) -> Result<(Limits, &[u8]), FaultKi
     Ok((limits, behind))
 }
 
-// The number behind the next label, and what follows it or the first fault: so `limits_at` has one way out for six.
+// The number after the next label, and the rest or the first fault: so `limits_at` has one way out for six.
 fn number_in(read: Result<&[u8], FaultKind>) -> (u64, Result<&[u8], FaultKind>)
     ensures { MatchResult read.entry
         (λ was. MatchResult result.1 (λ rest. labelled_at (words_behind was.now) ≡ Ok (result.0, words_behind rest.now))
@@ -266,7 +266,7 @@ fn names_at(behind: &[u8]) -> Result<Preferred, FaultKind>
     Ok(preferred)
 }
 
-// The number behind a label, and the rest behind it.
+// The number after a label, and the rest after it.
 fn labelled_at(behind: &[u8]) -> Result<(u64, &[u8]), FaultKind>
     ensures { MatchResult result (λ read. labelled_at (words_behind behind.now) ≡ Ok (read.0, words_behind read.1.now))
         (λ kind. labelled_at (words_behind behind.now) ≡ Err kind) }

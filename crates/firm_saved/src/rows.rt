@@ -5,7 +5,7 @@ use firm_rules::{Job, Limits, Machine, Name, RecentCosts, Task};
 /// A row of a state's text.
 #[derive(Clone, Copy)]
 pub enum Row {
-    /// How often a place was given. The rows of its tenant, if there is one, follow.
+    /// The number of times that a place was given. The rows of its tenant, if any, follow.
     Place(u64),
     /// A tenant's name, its limits, and how many commands it was given.
     Tenant(Name, Limits, u64),

@@ -29,7 +29,7 @@ pub struct TenantDraft {
     costs: Option<RecentCosts>,
     given: u64,
     rounds: u64,
-    // How many tasks run on each machine, so that no row goes through the tasks.
+    // Number of tasks that run on each machine, so that no row goes through the tasks.
     loads: Vec<u32>,
 }
 
@@ -214,7 +214,7 @@ impl TenantDraft {
         }
     }
 
-    // How many rounds there may have been, if a task is the last row.
+    // The greatest possible number of rounds, if a task is the last row.
     fn most_rounds_with_task(&self) -> u64
         ensures { (task : TaskRow) → result ≡ most_rounds (book_with (view self.now) task) }
     {
@@ -249,7 +249,7 @@ impl TenantDraft {
         }
     }
 
-    // How many rounds there were at least, by a task too.
+    // The least possible number of rounds, by a task too.
     fn rounds_with(&self, task: &Task) -> u64
         ensures { result ≡ rounds_with self.now.rounds task.now }
     {
@@ -350,7 +350,7 @@ fn naming_fault(rows: &Rows, task: &Task) -> Option<FaultKind>
     None
 }
 
-// Why the rounds that a task shows may not have been: each left a cost, of which the last 8 are kept.
+// The fault of a task that shows rounds which may not have been: each left a cost, of which the last 8 are recorded.
 fn rounds_fault(costs: Option<RecentCosts>, task: &Task) -> Option<FaultKind>
     ensures { result ≡ rounds_fault (costs_read costs) task.now }
 {
@@ -378,7 +378,7 @@ fn arena_fault(rows: &Rows, arcs: u64) -> Option<FaultKind>
     None
 }
 
-// How many costs were read.
+// Number of costs read.
 fn cost_count(costs: Option<RecentCosts>) -> usize
     ensures count { result ≡ length (costs_read costs) }
     ensures few { result ≤ 8 }

@@ -22,7 +22,7 @@ fn length_to(bytes: &[u8], mark: u8) -> usize
     bytes.iter().take_while(|byte| **byte != mark).count()
 }
 
-/// The next word of a rest that begins with a space, and the rest behind it. The error says that the rest is empty.
+/// The next word of a rest that begins with a space, and the rest after it. The error says that the rest is empty.
 pub fn next_word(behind: &[u8]) -> Result<(&[u8], &[u8]), FaultKind>
     ensures { MatchResult result (λ cut. words_behind behind.now ≡ cut.0.now ∷ words_behind cut.1.now)
         (λ kind. (kind ≡ fault.Row) × (words_behind behind.now ≡ [])) }

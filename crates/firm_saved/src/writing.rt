@@ -104,7 +104,7 @@ fn given_places(places: &[SavedPlace]) -> &[SavedPlace]
     rest
 }
 
-/// How many places there are up to the last that was ever given, by the entries of their register. Where these are
+/// The number of places up to the last that was ever given, by the entries of their register. Where these are
 /// sound, the state is.
 pub fn given_count(entries: &[Entry]) -> usize
     ensures count { (places : List PlaceRow) → register_of places ≡ entries.now
@@ -156,7 +156,7 @@ pub fn put_book(
     Ok(2 + row_count(rows))
 }
 
-// How many machines, jobs and tasks there are.
+// Number of machines, jobs and tasks.
 fn row_count(rows: &Rows) -> u64
     ensures count { result ≡ length rows.now.machines + length rows.now.jobs + length rows.now.tasks }
     ensures few { result ≤ 4094 }

@@ -107,7 +107,7 @@ pub cuts_none : (names : List (List ℕ)) (saved : SavedIs) → length names ≡
 cuts_none [] saved none = record { there = All-nil _; cut = refl }
 cuts_none (name ∷ rest) saved none = absurd (omega arith)
 
--- nothing was asked for but the state after the lines
+-- only the state after the lines was requested
 pub tells_folded : (files : KnownFiles) (asked : Asked) (reader : Device) (text : List ℕ)
     → FoldsText files asked.opening reader text → length asked.others ≡ 0 → length asked.names ≡ 0
     → TellsState files asked reader text
@@ -140,7 +140,7 @@ tells_changed files asked reader text after folded change = record {
   changed = change folded.saved folded.file.sound folded.is;
 }
 
--- why a state that was read again is not changed: memory was refused, or what is asked is refused
+-- the reason why a state that was read again is not changed: memory was refused, or the request is refused
 pub of_memory : (found : StateFault) → found.kind ≡ fault.Memory → fault_of_state found ≡ Service Memory
 of_memory found is = ap (fault_of_kind found) is
 

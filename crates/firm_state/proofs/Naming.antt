@@ -1,4 +1,4 @@
--- What the words ask for.
+-- The request in the words.
 use Rattle.std.proofs.Common.{◌≡◌, ◌∙◌, ◌+◌, ◌<◌, ◌++◌, ◌∷◌, [], ℕ, List, All, ap, arith, length, refl, subst}
 use Rattle.std.proofs.Common.{sym, take}
 use Rattle.std.proofs.Common.{true, false}

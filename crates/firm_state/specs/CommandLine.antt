@@ -1,4 +1,4 @@
--- What the words of a command line ask for.
+-- The request in the words of a command line.
 use Rattle.std.specs.Prelude.{◌≡◌, ◌<◌, ℕ, true, false, All, List, [], Option, Some, codes, get_or, length, map}
 use Rattle.std.specs.Prelude.{unwrap_or}
 use Rattle.std.specs.Borrow.{Bor}

@@ -1,4 +1,4 @@
--- What a state that is cut, or joined with another, means to its tenants.
+-- The meaning of a state that is cut, or joined with another, to its tenants.
 use Rattle.std.specs.Prelude.{◌≡◌, ℕ, List, Ok, Some, true}
 use Rattle.firm_rules.specs.Book.{Book}
 use Rattle.firm_rules.specs.Names.{is_among}

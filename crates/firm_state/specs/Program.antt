@@ -1,4 +1,4 @@
--- What the program's exit status says of what it read and wrote.
+-- The meaning of the program's exit status for the bytes read and written.
 use Rattle.std.specs.Prelude.{◌≡◌, ◌≤◌, ◌<◌, ◌++◌, ℕ, All, List, [], ◌∷◌, Result, Ok, Err, true, false, get_or, is_some}
 use Rattle.std.specs.Prelude.{Option}
 use Rattle.std.specs.Prelude.{length, map, take}
@@ -173,7 +173,7 @@ pub record StopsChanging (files : KnownFiles) (asked : Asked) (reader : Device) 
   pub file : FoldsFile files asked.opening reader saved
   pub unchanged : NoChange files asked saved fault
 
--- why there is no text of the state that is asked for
+-- the reason why there is no text of the requested state
 pub data NoText (files : KnownFiles) (asked : Asked) (reader : Device) (fault : Fault) : Type 0 where
   NotFolded : NoFold files asked.opening reader fault → NoText files asked reader fault
   NotChanged : StopsChanging files asked reader fault → NoText files asked reader fault
@@ -191,7 +191,7 @@ pub record CannotWrite (text : List ℕ) (writer : Device) (fault : Fault) : Typ
   pub wrote : Appends writer.before writer.after (take count text)
   pub failed : writer.failed ≡ true
 
--- the text of the state that is asked for was written
+-- the text of the requested state was written
 pub record WritesState (files : KnownFiles) (asked : Asked) (reader writer : Device) : Type 0 where
   pub text : List ℕ
   pub told : TellsState files asked reader text

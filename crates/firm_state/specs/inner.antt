@@ -1,2 +1,2 @@
--- What no public clause cites.
+-- For proofs inside the crate.
 pub mod Options

@@ -15,7 +15,7 @@
 //!   (`Changed`).
 //! - With a fault's status nothing was written, and the fault is the first (`NoText`): the file is refused, and nothing
 //!   was read; the service stopped, for its cause; all was read, and a state to join is refused, one of its tenants
-//!   finds no place, a name is that of no tenant, or memory is short. Or a write failed, behind a front of the text
+//! finds no place, a name is that of no tenant, or memory is short. Or a write failed, after a front of the text
 //!   (`CannotWrite`).
 //!
 //! The words ask for none: they name no file, or two, or a tenant that is no name; or they were answered as

@@ -13,7 +13,7 @@ use firm_rules::Name;
 use std::alloc::{AllocError, Global};
 use std::convert::AsStr;
 
-// What the help says after the options.
+// The end of the help, after the options.
 const STREAMS: &str = "\
 A roster or a state is required.
 Input: the lines that firm was given, or would be. All are read, and their
@@ -24,7 +24,7 @@ line, rows N, is a fault in turn.
 In firm's repository docs/FORMATS.md says what states are for, and what stands
 in them.";
 
-/// What the words of the command line give.
+/// The words of the command line by their options.
 #[derive(Drop)]
 pub(crate) struct Given<'a> {
     /// The path of the roster's file, as it stands, if it is given.
@@ -33,23 +33,23 @@ pub(crate) struct Given<'a> {
     pub(crate) state: Option<&'a str>,
     /// The paths of the states to join, in their order.
     pub(crate) others: Vec<&'a str>,
-    /// The names of the tenants to keep, as they stand; none where all are kept.
+    /// The names of the tenants to keep, as they stand; empty to keep all.
     pub(crate) tenants: Vec<&'a str>,
 }
 
-/// What is asked for.
+/// The request.
 #[derive(Drop)]
 pub(crate) struct Request<'a> {
     /// The path of the file to open with.
     pub(crate) named: Named<'a>,
     /// The paths of the states to join, in their order.
     pub(crate) others: Vec<&'a str>,
-    /// The tenants to keep; none where all are kept.
+    /// The tenants to keep; empty to keep all.
     pub(crate) names: Vec<Name>,
 }
 
 impl<'a> Request<'a> {
-    /// What these words ask for. The fault says that they name not one file to open with, that a word for a tenant is
+    /// The request in these words. The fault says that they name not one file to open with, that a word for a tenant is
     /// no name, or that memory was refused.
     pub(crate) fn of(alloc: Global, given: Given<'a>) -> Result<Request<'a>, Fault>
         ensures { MatchResult result (AsksFor given.entry) (MisasksFor given.entry) }

@@ -22,7 +22,7 @@ use std::convert::AsStr;
 /// The program's name, before its faults.
 pub(crate) const NAME: &str = "firm_state";
 
-/// What is written to: the state and the help, and faults.
+/// The outputs: one for the state and the help, and one for faults.
 #[derive(Drop)]
 pub struct Sinks<O: Sink, F: Sink> {
     pub output: O,
@@ -62,7 +62,7 @@ pub fn run<R: FileSystem, S: AsStr, I: Source, O: Sink, F: Sink>(
     }
 }
 
-// Writes the state that is asked for.
+// Writes the requested state.
 fn write_state<R: FileSystem, I: Source, O: Sink>(
     rt: &R,
     alloc: Global,
@@ -97,7 +97,7 @@ fn write_out<O: Sink>(writer: &mut O, text: &[u8]) -> Result<(), Fault>
     Ok(())
 }
 
-// The text of the state that is asked for.
+// The text of the requested state.
 fn text_asked<R: FileSystem, I: Source>(
     rt: &R,
     alloc: Global,
@@ -183,7 +183,7 @@ fn change<R: FileSystem>(
     let after = cut(both, &request.names)?;
     text.clear();
     put_state(text, &after)?;
-    // That the state is sound is known by this call.
+    // By this call the state is known to be sound.
     after.places();
     Ok(())
 }

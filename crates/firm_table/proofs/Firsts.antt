@@ -22,7 +22,7 @@ position_behind n m = chosen (nat_lt (1 + n) (suc m)) (nat_lt n m) refl refl
     chosen true false e f = absurd (grind (arith, nat_tests))
     chosen false true e f = absurd (grind (arith, nat_tests))
 
--- or behind the front
+-- or after the front
 pub position-behind : {X : Type 0} (p : X → Bool) (x : X) (xs : List X) → p x ≡ false → position p (x ∷ xs)
     ≡ option_map (λ i. suc i) (position p xs)
 position-behind p x xs there = rw there (position_behind (position_or_len p xs) (length xs))

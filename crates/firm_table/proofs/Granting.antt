@@ -1,4 +1,4 @@
--- What a service keeps from line to line that may have to end where memory is refused to one.
+-- The invariant, from line to line, of a service that may have to end when memory is refused to a line.
 use Rattle.std.proofs.Common.{◌≡◌, ◌∙◌, ◌++◌, ◌∷◌, [], ℕ, List, ap, append-nil, sym}
 use Rattle.std.specs.Prelude.{Bool, Option, map}
 use Rattle.std.specs.Io.KnownBytes.{Appends}
@@ -47,7 +47,7 @@ module _ (all_granted : Bool) where
       (sym (append-nil state.pending) ∙ ap (λ (l : List ℕ). state.pending ++ l) (sym empty)) wrote in
       record { told = told.0; granted = λ all. told.1 ∙ p.granted all }
 
-  -- what was told of the lines
+  -- the claims about the lines
   pub told_up_to_date : (state : State) (reader writer : Device) → UpToDate (ToldAs all_granted state) reader writer
       → UpToDate (Told state) reader writer
   told_up_to_date state reader writer u = record {

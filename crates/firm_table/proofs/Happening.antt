@@ -26,7 +26,7 @@ abbrev is_not_now : EventAnswer → Bool
 is_not_now NotNow = true
 is_not_now _ = false
 
--- whether an answer tells of a change
+-- whether an answer reports a change
 abbrev tells_change : EventAnswer → Bool
 tells_change NoMemory = false
 tells_change NotNow = false
@@ -59,7 +59,7 @@ at_position p (x ∷ xs) place e =
       passes = at.1;
     }
 
--- an event that fits is answered otherwise, and what stands at a place is as it was where the answer tells of no change
+-- an event that fits gets another answer, and a place is unchanged if the answer reports no change
 refused_way : (place : ℕ) (station : Station) (event : Event) (fit : Bool) (answer : EventAnswer) (after : Station)
     → Way place station event fit answer after → is_not_now answer ≡ not fit
 refused_way place station event fit answer after (refused _ _ _) = refl
@@ -71,7 +71,7 @@ kept_way place station event fit answer after (refused _ _ _) e = refl
 kept_way place station event fit answer after (finds_none _ _ _) e = refl
 kept_way place station event fit answer after _ e = cc
 
--- a table is as it was where the answer tells of no change, and sound
+-- a table is unchanged if the answer reports no change, and sound
 pub record Goes (table : TableState) (fit : Bool) (outcome : EventAnswer × TableState) : Type 0 where
   pub refused : is_not_now outcome.0 ≡ not fit
   pub kept : tells_change outcome.0 ≡ false → outcome.1 ≡ table

@@ -14,7 +14,7 @@ use Rattle.firm_table.specs.Places.{opening_places, is_stay_of, stay_of, with_co
 use Rattle.firm_table.specs.Places.{register_of, admission, retirement, after_line, after_lines}
 use Rattle.firm_table.specs.Isolation.{StaysOpenWithLimits}
 
--- the stay began so, if there is one
+-- the stay began so, if there is a stay
 abbrev Opens : Option Stay → Type 0
 Opens None = Unit {0}
 Opens (Some stay) = stay.opening ≡ opening_book (limits_of stay)

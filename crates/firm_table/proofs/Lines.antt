@@ -83,7 +83,7 @@ module _ (name : List ℕ) where
       } in
       stay_of-entered-other places name at new free.1 out
 
-  -- what its answer says of a line, and what those of the lines behind it say
+  -- the claim of its answer about a line, and the claims about the lines after it
   parted : (places : List Place) (given : MarkedLine) (rest : List MarkedLine)
       → NoneIsOperatorsFor name (answers_from places (given ∷ rest))
       → (is_operators_for name (answer_of places given) ≡ false)

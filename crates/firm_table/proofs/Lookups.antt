@@ -1,4 +1,4 @@
--- Who stays after a line.
+-- The stays after a line.
 use Rattle.std.proofs.Common.{◌≡◌, ℕ, List, [], ◌∷◌, refl, sym, ap, ◌∙◌}
 use Rattle.std.specs.Prelude.{Bool, true, false, ◌&&◌, nat_lt, Option, Some, None, map, bytes_eq, option_map}
 use Rattle.std.specs.Prelude.{position, slice_set, if◌then◌else◌}
@@ -102,7 +102,7 @@ free_place name place free = nobody place.stay (nat_lt place.admissions most_adm
     nobody None b e = refl
     nobody (Some s) b e = cc
 
--- a stay is not of the tenant, nor is any behind it
+-- a stay is not of the tenant, nor is any after it
 pub not_here : (name : List ℕ) (s t : Option Stay) → (if is_stay_of name s then s else t) ≡ None
     → (is_stay_of name s ≡ false) × (t ≡ None)
 not_here name None t e = (refl, e)

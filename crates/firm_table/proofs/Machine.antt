@@ -214,7 +214,7 @@ keeps_all told roster workers place events =
     keeps_behind told place [] (opening_history roster place) (opening_table roster workers) events
     (keeps_opening roster (most_places - length roster) place)
 
--- what is said of the stay that stands at a place
+-- the claim about the stay at a place
 abbrev SaidAt : Option History → Option Seat → Type 0
 SaidAt here found = (history : History) → here ≡ Some history
     → (first : AreFirstReplies history) × ((seat : Seat) → found ≡ Some seat → is_home seat.station ≡ true

@@ -1,4 +1,4 @@
--- What each arm of the table's call does to its parts.
+-- The effect of each arm of the table's call on its parts.
 use Rattle.std.proofs.Common.{◌≡◌, ℕ, zero, suc, ◌<◌, ◌≤◌, List, [], ◌∷◌, ◌++◌, length, refl, sym, ap, ◌∙◌}
 use Rattle.std.proofs.Common.{arith, ◌+◌, cond, ◌||◌}
 use Rattle.std.specs.Prelude.{nat_lt, ◌&&◌, ◌-◌, not, Bool, true, false, Option, Some, None, slice_get, slice_set, map}

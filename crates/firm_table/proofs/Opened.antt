@@ -1,4 +1,4 @@
--- What the rows of a roster begin, one each, and behind them what nobody had, up to the count of places.
+-- The stays that the rows of a roster begin, one each, followed by places without a tenant, up to the count of places.
 use Rattle.std.proofs.Common.{◌≡◌, ℕ, zero, suc, ◌+◌, ◌-◌, ◌<◌, ◌≤◌, List, [], ◌∷◌, ◌++◌, length, length-append, refl}
 use Rattle.std.proofs.Common.{ap, ◌∙◌, take, get_or, arith}
 use Rattle.std.specs.Prelude.{Option, Some, None, slice_get, map, replicate}

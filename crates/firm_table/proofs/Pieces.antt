@@ -133,7 +133,7 @@ cut_at xs used e u =
     ∙ ap (λ (t : List ℕ). take n xs ++ (10 ∷ t)) behind
     ∙ sym (append_assoc (take n xs) (10 ∷ []) (drop used xs))
 
--- the bytes that were heard, the line that they end, and its line feed
+-- the bytes read so far, the line that they end, and its line feed
 pub both_ended : (heard text rest bytes front : List ℕ) → heard ≡ text ++ rest → front ≡ bytes ++ 10 ∷ []
     → heard ++ front ≡ text ++ ((rest ++ bytes) ++ 10 ∷ [])
 both_ended heard text rest bytes front both same =
@@ -178,7 +178,7 @@ heard_none IsTold cut heard front piece written now same h =
     subst (λ (l : List ℕ). Heard IsTold cut l written now)
     (sym (ap (λ (l : List ℕ). heard ++ l) none ∙ append-nil heard)) h
 
--- what was heard of a piece, and the rest of it
+-- the bytes read of a piece, and the rest of it
 pub halted_on : (heard front rest piece : List ℕ) → piece ≡ front ++ rest → (heard ++ front) ++ rest ≡ heard ++ piece
 halted_on heard front rest piece same = append_assoc heard front rest ∙ ap (λ (l : List ℕ). heard ++ l) (sym same)
 

@@ -1,4 +1,4 @@
--- What the service keeps from line to line.
+-- The invariant of the service from line to line.
 use Rattle.std.proofs.Common.{◌≡◌, ℕ, ◌≤◌, List, [], ◌∷◌, ◌++◌, take, drop, length, refl, sym, ap, subst, ◌∙◌}
 use Rattle.std.proofs.Common.{append_assoc, append-nil, take-append-drop}
 use Rattle.std.specs.Prelude.{Bool, Option, Result, Ok, Err, OnOk, OnErr, map}
@@ -36,7 +36,7 @@ output_from-append places lines more =
     ∙ flat_map-append text_of_answer (answers_from places lines)
     (answers_from (after_lines places lines) more)
 
--- lines that follow these, with marks that are right behind them
+-- lines that follow these, with marks that are right after them
 lines_more : (opened : Opened) (text after : List ℕ) (lines more : List MarkedLine)
     → AreLinesFrom opened text lines
     → input_lines opened.heading after ≡ input_lines opened.heading text ++ map (λ (g : MarkedLine). g.0) more
@@ -189,7 +189,7 @@ partly_written state text written now later count p wrote =
     front_written state text written now later (take count state.pending) (drop count state.pending) p
     (sym (take-append-drop count state.pending)) wrote
 
--- so much of it was, whether the call went well or not
+-- this much of it was written, whether the call succeeded or not
 pub so_much_written : {T E : Type 0} (r : Result T E) (now later : Option (List ℕ)) (pending : List ℕ)
     → OnOk r (Appends now later pending)
     → OnErr r ((count : ℕ) × (count ≤ length pending) × Appends now later (take count pending)) → (count : ℕ)
@@ -198,7 +198,7 @@ so_much_written (Ok x) now later pending all part =
     (length pending, subst (Appends now later) (sym (take-length pending)) all)
 so_much_written (Err e) now later pending all part = (part.0, part.2)
 
--- what was told of lines is the output for them, where nothing is to be written
+-- the claims about lines are the output for them, where nothing is left to write
 pub answers_up_to_date : (opened : Opened) (state : State) (reader writer : Device) → state.opening ≡ opened
     → state.pending ≡ []
     → UpToDate (Told state) reader writer → UpToDate (AnswersFrom opened) reader writer

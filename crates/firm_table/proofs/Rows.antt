@@ -1,4 +1,4 @@
--- Where nobody comes or goes, the stays are those of the roster's rows.
+-- Without admissions and retirements, the stays are those of the roster's rows.
 use Rattle.std.proofs.Common.{◌≡◌, ℕ, List, [], ◌∷◌, ◌++◌, refl, ap, ◌∙◌}
 use Rattle.std.specs.Prelude.{Bool, true, false, ◌||◌, Option, Some, None, option_map, slice_get, if◌then◌else◌}
 use Rattle.std.specs.List.{list_any}

@@ -1,4 +1,4 @@
--- What a roster opens with, as a saved state.
+-- The opening of a roster as a saved state.
 use Rattle.std.proofs.Common.{◌≡◌, ℕ, zero, suc, ◌-◌, ◌<◌, ◌≤◌, List, [], ◌∷◌, ◌++◌, refl, sym, ap, subst, ◌∙◌}
 use Rattle.std.proofs.Common.{◌+◌, length, get_or, take, arith}
 use Rattle.std.specs.Prelude.{Option, Some, None, IsSome, map, option_map, replicate, set}

@@ -21,7 +21,7 @@ use Rattle.firm_saved.specs.StateText.{tenant_rows}
 use Rattle.firm_table.specs.Ends.{named_book, place_with, state_with}
 use Rattle.firm_table.specs.Tenants.{BooksFit, tenants_are}
 
--- what is kept of a text that was kept
+-- starting with a text is transitive
 pub kept_trans : (xs ys zs : List ℕ) → StartsWith xs ys → StartsWith ys zs → StartsWith xs zs
 kept_trans = starts_with_trans
 

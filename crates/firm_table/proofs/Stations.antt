@@ -1,4 +1,4 @@
--- What stands at a place, and the history of the tenant there.
+-- The station at a place, and the history of the tenant there.
 use Rattle.std.proofs.Common.{◌≡◌, ℕ, List, [], ◌∷◌, ◌++◌, refl, sym, ap, subst, ◌∙◌}
 use Rattle.std.specs.Prelude.{Bool, Option, Some, None, map}
 use Rattle.std.proofs.lemmas.List.{map-append}
@@ -100,7 +100,7 @@ pub ended_not_now : (history : Option History) (event : Event) → ended_here hi
 ended_not_now history (Retire place) = refl
 ended_not_now history _ = refl
 
--- what stands at a place behind an event fits the history behind it
+-- the station after an event fits the history after it
 pub fits_way : RepliesTellTheirMarks → (history : Option History) (place : ℕ) (station : Station) (event : Event)
     (fit : Bool) (answer : EventAnswer) (after : Station) → Way place station event fit answer after
     → Fits history station → Fits (history_here history event answer) after

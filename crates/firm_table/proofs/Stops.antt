@@ -45,7 +45,7 @@ not_reading fault write_failed p reading =
 pub not_too_long : TooLong ≡ Read → ⊥
 not_too_long reading = cc
 
--- how much was heard with what a read gave
+-- the bytes read so far, with those of one more read
 pub more_heard : (heard buffer : List ℕ) (number count : ℕ) → length heard ≡ number → count ≤ length buffer
     → length (heard ++ take count buffer) ≡ number + count
 more_heard heard buffer number count e within =
@@ -58,7 +58,7 @@ pub still_read : (first left later : Option (List ℕ)) (text : List ℕ) → la
     → Consumes first later text
 still_read first left later text e = subst (λ (x : Option (List ℕ)). Consumes first x text) (sym e)
 
--- what is said of each text after a call holds of what was heard
+-- a claim about each text after a call holds of the bytes read
 pub heard_told : (IsTold Later : Telling) (cut : CutterIs) (heard : List ℕ) (written now later : Option (List ℕ))
     → Heard IsTold cut heard written now
     → ((text : List ℕ) (before : Option (List ℕ)) → IsTold text before now → Later text before later)
@@ -87,7 +87,7 @@ module _ (opened : Opened) (most : ℕ) (left left_after written now : Option (L
     begins = h.begins;
   }
 
-  -- behind the end of the input
+  -- after the end of the input
   pub stopped_behind : (fault : ServeFault) → Consumes left left_after heard → IsAtEnd left_after → read_failed ≡ false
       → BeginsAnswersFrom opened heard written now
       → IsWritingFault fault write_failed → StoppedFrom opened most (device left left_after read_failed)

@@ -1,4 +1,4 @@
--- What bears no mark is never refused for want of memory.
+-- A command without a mark is never refused for want of memory.
 use Rattle.std.proofs.Common.{◌≡◌, ◌≤◌, ℕ, List, [], ◌∷◌, refl, ap, ◌∙◌, arith}
 use Rattle.std.specs.Prelude.{Bool, true, false, Option, Some, None, Result, Ok, Err, map, position, if◌then◌else◌}
 use Rattle.std.specs.Option.{is_some, ok_or}

@@ -1,4 +1,4 @@
--- What was written, before the first line and at the last flush.
+-- The bytes written before the first line and at the last flush.
 use Rattle.std.proofs.Common.{ℕ, List, [], length, refl, sym, subst}
 use Rattle.std.specs.Prelude.{Option}
 use Rattle.std.specs.Io.KnownBytes.{Appends, Keeps}

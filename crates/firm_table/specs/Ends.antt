@@ -12,7 +12,7 @@ use Rattle.firm_table.specs.Places.{saved_after, after_lines}
 use Rattle.firm_table.specs.Service.{Device, ServedFrom}
 use Rattle.firm_table.specs.Tenants.{TenantsState}
 
--- the tenant of this name with this book, if there is one
+-- the tenant of this name with this book, if any
 abbrev pub named_book : Option (List ℕ) → Option Book → Option (List ℕ × Book)
 named_book None book = None
 named_book (Some name) None = None
@@ -22,7 +22,7 @@ named_book (Some name) (Some book) = Some (name, book)
 abbrev pub place_with : Entry → Option Book → SavedPlace
 place_with entry book = record { admissions = entry.admissions; tenant = named_book entry.tenant book }
 
--- the state of the places that this register and these books tell of
+-- the state of the places that this register and these books describe
 abbrev pub state_with : List Entry → List (Option Book) → List SavedPlace
 state_with [] books = []
 state_with (entry ∷ rest) [] = []

@@ -1,4 +1,4 @@
--- Which events fit the table as it stands, and what one call does to it.
+-- The events that fit the table as it stands, and the effect of one call on it.
 use Rattle.std.specs.Prelude.{◌≡◌, Bool, true, false, ◌&&◌, not, nat_lt, List, [], ◌∷◌, Option, Some, None, slice_get}
 use Rattle.std.specs.Option.{is_some}
 use Rattle.firm_rules.specs.declared.tickets.Ticket.{Ticket}

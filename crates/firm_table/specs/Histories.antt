@@ -1,4 +1,4 @@
--- What the tenants of a place were given and replied, one stay after the other, and what each may rely on.
+-- The commands and replies of a place's tenants, one stay after the other, and the law that each may rely on.
 use Rattle.std.specs.Prelude.{◌≡◌, ℕ, suc, ◌≤◌, ◌<◌, ◌==◌, Bool, true, false, List, [], ◌∷◌, ◌++◌, map, length, Option}
 use Rattle.std.specs.Prelude.{Some, None, option_map, option_to_list, slice_get, take, if◌then◌else◌}
 use Rattle.std.specs.List.{list_any}

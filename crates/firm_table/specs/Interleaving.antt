@@ -202,7 +202,7 @@ abbrev pub event_place : TableState → Event → Option ℕ
 event_place table (Answer worker) = place_held worker table.seats
 event_place table event = named_place event
 
--- an event at this place, if there is one
+-- an event at this place, if given
 abbrev pub at_event : TableState → Option ℕ → Event → Bool → EventAnswer × TableState
 at_event table None event mark = (NotNow, table)
 at_event table (Some place) event mark = at_place table place (slice_get table.seats place) event mark

@@ -1,4 +1,4 @@
--- What a service opens with.
+-- The opening of a service: its tenants and their books.
 use Rattle.std.specs.Prelude.{ℕ, List, slice_index_or}
 use Rattle.firm_table.specs.Opened.{Opened, opened_roster, opened_state}
 use Rattle.firm_table.specs.Places.{Place, unused_place}

@@ -134,7 +134,7 @@ admission places name limits (Err refusal) mark = (Refused refusal, places)
 admission places name limits (Ok at) true = (Refused Memory, places)
 admission places name limits (Ok at) false = (Admitted name, entered_at at name limits places)
 
--- the reply to a retirement of the tenant that has this stay, if it is there, and the places after it
+-- the reply to a retirement of the tenant that has this stay, if any, and the places after it
 abbrev pub retirement : List Place → List ℕ → Option Stay → OperatorReply × List Place
 retirement places name None = (Refused NoSuchTenant, places)
 retirement places name (Some stay) = (Retired name, map (left_by name) places)

@@ -1,4 +1,4 @@
--- What the output of a service that opened with a saved state means to each tenant.
+-- The meaning, to each tenant, of the output of a service that opened with a saved state.
 use Rattle.std.specs.Prelude.{◌≡◌, ℕ, ◌-◌, false, List, [], ◌∷◌, ◌++◌, Option, Some, length, map, option_map}
 use Rattle.std.specs.Prelude.{replicate}
 use Rattle.std.specs.List.{list_any}

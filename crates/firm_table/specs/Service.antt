@@ -1,4 +1,4 @@
--- What a service reads and writes in one call.
+-- The bytes that a service reads and writes in one call.
 use Rattle.std.specs.Prelude.{◌≡◌, ℕ, ◌≤◌, ◌<◌, ◌⊎◌, Bool, true, false, List, [], ◌++◌, Option, length, take}
 use Rattle.std.specs.List.{list_any}
 use Rattle.std.specs.Io.{IsEmptyOrEndsWith}
@@ -68,7 +68,7 @@ IsWritingFault Write write_failed = write_failed ≡ true
 IsWritingFault TooLong write_failed = ⊥
 IsWritingFault Memory write_failed = write_failed ≡ false
 
--- each line of these bytes is whole: its line feed was read, or a read has found the end of the input after it
+-- each line of these bytes is whole: its line feed was read, or a read reached the end of the input after it
 abbrev pub AreWholeLines : List ℕ → List ℕ → Device → Type 0
 AreWholeLines lines rest reader =
     IsEmptyOrEndsWith lines 10 ⊎ ((rest ≡ []) × IsAtEnd reader.after × (reader.failed ≡ false))

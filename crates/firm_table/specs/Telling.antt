@@ -1,4 +1,4 @@
--- What a clerk claims about the lines that it was given.
+-- A clerk's claims about the lines that it was given.
 use Rattle.std.specs.Prelude.{ℕ, ◌≤◌, List, Option, length}
 use Rattle.std.specs.Io.KnownBytes.{Consumes, IsAtEnd, Keeps}
 use Rattle.firm_table.specs.Service.{Device}
@@ -7,7 +7,7 @@ use Rattle.firm_table.specs.Service.{Device}
 abbrev pub Telling : Type 1
 Telling = List ℕ → Option (List ℕ) → Option (List ℕ) → Type 0
 
--- the claim held of a text, and what was written until then was kept
+-- the claim held of a text, and the bytes written until then stay written
 pub record WasTold (IsTold : Telling) (text : List ℕ) (written now : Option (List ℕ)) : Type 0 where
   pub until : Option (List ℕ)
   pub told : IsTold text written until

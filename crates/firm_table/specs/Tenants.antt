@@ -1,4 +1,4 @@
--- What a service keeps of its tenants.
+-- A service's records of its tenants.
 use Rattle.std.specs.Prelude.{◌≡◌, List, Option, map}
 use Rattle.std.specs.Option.{is_some}
 use Rattle.firm_rules.specs.Book.{Book}

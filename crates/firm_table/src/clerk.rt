@@ -12,7 +12,7 @@ use firm_text::{Heading, Line, Sink, Source};
 /// their lines. A call ends early with `Write` if a call of the writer failed, and with `Memory` if memory for the
 /// clerk itself was refused.
 pub trait Clerk {
-    /// What no call changes.
+    /// The part that no call changes.
     ghost Kept: { Type 0 } = { Unit {0} };
 
     /// Its value for this clerk.

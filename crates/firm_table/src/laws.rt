@@ -1,4 +1,4 @@
-//! What each tenant of the service may rely on, regardless of the others.
+//! The laws that each tenant of the service may rely on, regardless of the others.
 
 ghost use Rattle.firm_table.specs.Isolation.{AdmissionsAreIsolated, AnswersLineByLine, RepliesAreAlone};
 ghost use Rattle.firm_table.specs.Isolation.{StaysAreIsolated, StaysOpenWithLimits};

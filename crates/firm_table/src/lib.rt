@@ -5,7 +5,7 @@
 //! the stay began with, and the commands since. An admission begins with the opening book of its limits. Each line and
 //! command has a *mark*: whether memory was refused to it. `specs/Answers.antt` defines the answer to a line and its
 //! text, `Output.antt` the output of an input, `Service.antt` what a call reads and writes. They are functions of the
-//! places that a service opens with (`ServedFrom`); those of a roster have names of their own (`Served`). An `Opening`
+//! places that a service opens with (`ServedFrom`); `Served` is the same for those of a roster. An `Opening`
 //! is a roster or a saved state (`specs/Openings.antt`). A `Clerk` has ghost members (`specs/Telling.antt`). A `Table`
 //! is its tenants, their rounds, the queue and the workers, changed by an `Event` (`specs/Interleaving.antt`).
 //!
@@ -28,7 +28,7 @@
 //!
 //! The law `cut_anywhere` (`specs/Cutting.antt`): a service that goes on from the state after some lines gives the
 //! later lines the answers that it would have given, with the same numbers, and comes to the same state. So a text can
-//! be cut behind each line feed, with the same marks, and the outputs of its parts follow each other.
+//! be cut after each line feed, with the same marks, and the outputs of its parts follow each other.
 //!
 //! For every list of events (`specs/Histories.antt`), in each stay at a place, ended ones too, the replies are the
 //! first ones of a tenant alone with the same limits and commands, and all of them once the stay has ended or while the

@@ -1,4 +1,4 @@
-//! What a service opens with.
+//! The opening of a service: its tenants and their books.
 
 ghost use Rattle.std.specs.Prelude.{◌≡◌, ◌<◌, ◌≤◌, All, IfOk, IsSome, length, option_map, slice_index_or};
 ghost use Rattle.firm_text.specs.Registers.{most_admissions};
@@ -12,7 +12,7 @@ use firm_tenant::Tenant;
 use firm_text::{Entry, Heading, PLACES, Register, Roster};
 use std::alloc::{AllocError, Global};
 
-/// What a service opens with.
+/// The opening of a service.
 #[derive(Clone, Copy)]
 pub enum Opening<'a> {
     /// A roster, whose tenants are admitted in its order.
@@ -33,7 +33,7 @@ impl Opening<'_> {
         }
     }
 
-    /// How many places there are: 64.
+    /// Number of places: 64.
     pub fn places(&self) -> usize
         ensures all { result ≡ length (places_opened self.now) }
         ensures most { result ≡ most_places }
@@ -48,7 +48,7 @@ impl Opening<'_> {
         }
     }
 
-    /// Which tenant has which place before the first line, and how often each was given.
+    /// The tenant of each place before the first line, and the number of times that each place was given.
     pub fn register(&self) -> Register
         ensures places { result ≡ register_of (places_opened self.now) }
         ensures in_order { AreGivenInOrder result }
@@ -102,7 +102,7 @@ fn restored_register(saved: &Saved) -> Register
     Register::restored(entries)
 }
 
-// What a register has for a place.
+// The register's entry of a place.
 fn entry_of(place: &SavedPlace) -> Entry
     ensures { result ≡ entry_of place.now }
 {
@@ -145,7 +145,7 @@ fn admitted_at(alloc: Global, roster: &Roster, place: usize) -> Result<Option<Te
     }
 }
 
-// The tenant that goes on at a place of a saved state, if there is one.
+// The tenant that goes on at a place of a saved state, if any.
 fn restored_at(alloc: Global, saved: &Saved, place: usize) -> Result<Option<Tenant>, AllocError>
     requires { place < most_places }
     ensures { IfOk result (λ tenant. tenant

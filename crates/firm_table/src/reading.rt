@@ -15,17 +15,17 @@ use firm_text::{Cutter, Sink, Source};
 /// The most bytes of input that a service takes: 2^32.
 pub const MOST_INPUT: u64 = 4_294_967_296;
 
-/// How many bytes one read asks for.
+/// Number of bytes that one read asks for.
 const PIECE: usize = 4_096;
 
-/// Has a clerk answer the lines of an input of at most `most` bytes, itself at most 2^32, which are read under the
+/// Lets a clerk answer the lines of an input of at most `most` bytes, itself at most 2^32, which are read under the
 /// clerk's heading. Before each read the clerk writes the answers that it can, including those that arrive while a read
 /// would wait; at the end it writes all answers, and the writer is flushed.
 ///
-/// On `Ok` a read has found the end of the input, and what was written is the output for all of it. After a fault, what
-/// was written is a prefix of the output for the bytes read. `Read` and `Write` say that a call of the reader or the
-/// writer failed, `TooLong` that more than `most` bytes were read, and `Memory` that memory for the clerk itself was
-/// refused.
+/// On `Ok` a read has reached the end of the input, and what was written is the output for all of it. After a fault,
+/// what was written is a prefix of the output for the bytes read. `Read` and `Write` say that a call of the reader or
+/// the writer failed, `TooLong` that more than `most` bytes were read, and `Memory` that memory for the clerk itself
+/// was refused.
 pub fn serve_lines<R: Source, W: Sink, C: Clerk>(
     reader: &mut R,
     writer: &mut W,

@@ -26,10 +26,10 @@ const FULL: usize = 4_096;
 /// Answers the lines of an input of at most `most` bytes, itself at most 2^32, for the tenants of the roster, which are
 /// admitted first. Every answer that can be given is written before each read.
 ///
-/// On `Ok` a read has found the end of the input, and what was written is the output for all of it. After a fault, what
-/// was written is a prefix of the output for the bytes read. `Read` and `Write` say that a call of the reader or the
-/// writer failed, `TooLong` that more than `most` bytes were read, and `Memory` that memory for the service itself was
-/// refused.
+/// On `Ok` a read has reached the end of the input, and what was written is the output for all of it. After a fault,
+/// what was written is a prefix of the output for the bytes read. `Read` and `Write` say that a call of the reader or
+/// the writer failed, `TooLong` that more than `most` bytes were read, and `Memory` that memory for the service itself
+/// was refused.
 pub fn serve_one<R: Source, W: Sink>(
     alloc: Global,
     reader: &mut R,

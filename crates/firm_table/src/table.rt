@@ -89,7 +89,7 @@ impl Table {
         answer
     }
 
-    // The place at which an event happens, if there is one.
+    // The place of an event, if it has one.
     fn place_of(&self, event: &Event) -> Option<usize>
         ensures { result ≡ event_place self.now event.now }
     {
@@ -136,7 +136,7 @@ fn seats_of(alloc: Global, roster: &Roster) -> Result<Vec<Seat>, AllocError>
     Ok(seats)
 }
 
-// Puts the ticket of a round that was asked for at the back of the queue.
+// Puts the ticket of a requested round at the back of the queue.
 fn put_queued(queue: &mut VecDeque<Ticket>, answer: &Answer)
     requires { deque_len queue.old + length (queue_more answer.now) ≤ deque_capacity queue.old }
     ensures items { queue.new.items ≡ queue.old.items ++ queue_more answer.now }

@@ -94,7 +94,7 @@ impl Tenants {
         self.has_solved
     }
 
-    // The tenant of this name, if it is there.
+    // The tenant of this name, if any.
     pub(crate) fn tenant_of(&self, name: Name) -> Option<&Tenant>
         ensures { option_map (λ tenant. tenant.now) result ≡ book_named self.now name }
     {
@@ -246,7 +246,7 @@ fn put_place(
     }
 }
 
-// What stands at each place before the first line.
+// The tenant at each place before the first line.
 fn open_places(alloc: Global, opening: Opening<'_>) -> Result<Vec<Option<Tenant>>, AllocError>
     ensures { IfOk result (λ places. places.items ≡ books_of (places_opened opening.entry)) }
 {

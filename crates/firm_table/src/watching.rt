@@ -21,11 +21,11 @@ use std::alloc::{AllocError, Global};
 
 /// A watcher of a service's rounds, which is shown the tenant's book before each and its rows after it.
 pub trait Watcher {
-    /// What the watcher keeps of a round to come: that of the tenant of this name, which has this book.
+    /// The watcher's record of a round to come: that of the tenant of this name, which has this book.
     ghost awaits: { Self → List ℕ → Book → Type 0 } = { λ _ _ _. Unit {0} };
 
     /// The tenant of this name is asked for a round, and this is its book: its rows, the costs of its last rounds, and
-    /// how many commands it was given before.
+    /// the number of its commands so far.
     fn before_round(&mut self, name: Name, rows: &Rows, costs: RecentCosts, given: u64)
         ensures { awaits self.new name (record { rows = rows.now; costs = costs; given = given }) };
 
@@ -56,25 +56,28 @@ pub fn serve_watched_from<R: Source, W: Sink, V: Watcher>(
     ensures in_full { IfErr result (λ fault. fault ≡ Read → UpToDate (AnswersFrom (opened opening.entry))
         (between R.left R.read_failed reader.old reader.new) (between W.written W.write_failed writer.old writer.new)) }
 {
-    let Ok(service) = Service::open(alloc, opening, false) else {
+    let Ok(mut service) = Service::open(alloc, opening, false) else {
         return Err(ServeFault::Memory);
     };
-    let mut watched = Watched { service, watcher };
+    let mut watched = Watched {
+        service: &mut service,
+        watcher,
+    };
     serve_lines(reader, writer, &mut watched, MOST_INPUT)
 }
 
 // The service, and the watcher that is shown its rounds.
 #[derive(Drop)]
-pub(crate) struct Watched<'a, 'v, V: Watcher> {
-    service: Service<'a>,
+pub(crate) struct Watched<'s, 'a, 'v, V: Watcher> {
+    service: &'s mut Service<'a>,
     watcher: &'v mut V,
 }
 
-impl<V: Watcher> Watched<'_, '_, V> {
-    // Shows the book before a round of the tenant of this name, if it is there.
+impl<V: Watcher> Watched<'_, '_, '_, V> {
+    // Shows the book before a round of the tenant of this name, if any.
     fn show_before(&mut self, name: Name)
-        ensures same { self.new.service ≡ self.old.service }
-        ensures shown { IfSome (book_named self.old.service.tenants name) (V.awaits self.new.watcher.now name) }
+        ensures same { self.new.service.now ≡ self.old.service.now }
+        ensures shown { IfSome (book_named self.old.service.now.tenants name) (V.awaits self.new.watcher.now name) }
     {
         if let Some(tenant) = self.service.tenants.tenant_of(name) {
             self.watcher
@@ -86,14 +89,17 @@ impl<V: Watcher> Watched<'_, '_, V> {
     fn show_after<W: Sink>(&mut self, writer: &mut W, name: Name) -> Result<(), ServeFault>
         requires { W.write_failed writer.old ≡ false }
         ensures told { OnOk result ((text : List ℕ) (written : Option (List ℕ))
-            → ToldAs self.old.service.all_granted (state_of self.old.service) text written (W.written writer.old)
-            → ToldAs self.new.service.all_granted (state_of self.new.service) text written (W.written writer.new)) }
+            → ToldAs self.old.service.now.all_granted (state_of self.old.service.now) text written
+            (W.written writer.old)
+            → ToldAs self.new.service.now.all_granted (state_of self.new.service.now) text written
+            (W.written writer.new)) }
         ensures begins { OnErr result ((text : List ℕ) (written : Option (List ℕ))
-            → ToldAs self.old.service.all_granted (state_of self.old.service) text written (W.written writer.old)
-            → BeginsAnswersFrom (opened self.old.service.opening) text written (W.written writer.new)) }
+            → ToldAs self.old.service.now.all_granted (state_of self.old.service.now) text written
+            (W.written writer.old)
+            → BeginsAnswersFrom (opened self.old.service.now.opening) text written (W.written writer.new)) }
         ensures cause { IfErr result (λ fault. IsWritingFault fault (W.write_failed writer.new)) }
         ensures well { OnOk result (W.write_failed writer.new ≡ false) }
-        ensures opening { opened self.new.service.opening ≡ opened self.old.service.opening }
+        ensures opening { opened self.new.service.now.opening ≡ opened self.old.service.now.opening }
     {
         if !self.service.tenants.has_solved() {
             return Ok(());
@@ -110,18 +116,18 @@ impl<V: Watcher> Watched<'_, '_, V> {
 }
 
 // The clerk that answers as the service does, and shows each round to the watcher.
-impl<V: Watcher> Clerk for Watched<'_, '_, V> {
+impl<V: Watcher> Clerk for Watched<'_, '_, '_, V> {
     ghost kept = { λ _. tt };
 
-    ghost opening = { λ watched. opened watched.service.opening };
+    ghost opening = { λ watched. opened watched.service.now.opening };
 
     ghost is_open = { λ _. Unit {0} };
 
-    ghost told = { λ watched. ToldAs watched.service.all_granted (state_of watched.service) };
+    ghost told = { λ watched. ToldAs watched.service.now.all_granted (state_of watched.service.now) };
 
-    ghost is_written_out = { λ watched. watched.service.output.items ≡ [] };
+    ghost is_written_out = { λ watched. watched.service.now.output.items ≡ [] };
 
-    ghost is_finished = { λ watched. watched.service.output.items ≡ [] };
+    ghost is_finished = { λ watched. watched.service.now.output.items ≡ [] };
 
     fn heading(&self) -> Heading {
         self.service.heading()

@@ -1,4 +1,4 @@
--- What the commands other than a round leave of the tasks' waits.
+-- The tasks' waits after commands other than a round.
 use Rattle.std.proofs.Common.{◌≡◌, ℕ, ◌≤◌, ◌⊎◌, Bool, true, false, not, cond, List, []}
 use Rattle.std.proofs.Common.{◌∷◌, map, filter, count_by, refl, sym, ap, subst, ◌∙◌, arith, true≢false}
 use Rattle.std.proofs.Common.{inl, inr, ⊎_elim, bytes_eq, IfSome, Option, Some, None}
@@ -23,11 +23,11 @@ use Rattle.firm_rules.specs.declared.replies.Outcome.{Outcome}
 use Rattle.firm_tenant.specs.Step.{step, effect, grown, found, whereabouts_of, counted}
 use Rattle.firm_tenant.specs.Starvation.{IsInRange, is_round}
 
--- each task of this name has been left waiting by so many rounds
+-- each task of this name has been left waiting by this many rounds
 abbrev pub HasWaited : List ℕ → ℕ → List Task → Type 0
 HasWaited name rounds tasks = All (λ task. bytes_eq name task.name ≡ true → rounds ≤ task.waited) tasks
 
--- how many tasks have been left waiting by so many rounds
+-- number of tasks that have been left waiting by this many rounds
 abbrev pub count_waits : ℕ → List Task → ℕ
 count_waits rounds tasks = count_by (λ task. nat_le rounds task.waited) tasks
 

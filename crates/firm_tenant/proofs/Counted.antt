@@ -1,4 +1,4 @@
--- What a round counts.
+-- The counts of a round.
 use Rattle.std.proofs.Common.{◌≡◌, ℕ, ◌+◌, ◌*◌, ◌≤◌, length, arith, subst, sym, ap}
 use Rattle.std.proofs.Math.Nat.{mul-le-mul_right, mul-le-mul_left}
 use Rattle.firm_canon.specs.Counts.{HasMadeUpTo}

@@ -1,4 +1,4 @@
--- What a round that leaves a task waiting takes from the tasks that have waited for long.
+-- The loss of the tasks that have waited for long, in a round that leaves a task waiting.
 use Rattle.std.proofs.Common.{◌≡◌, ℕ, suc, ◌+◌, ◌≤◌, Bool, true, false, ◌&&◌, ◌||◌, List, [], ◌∷◌}
 use Rattle.std.proofs.Common.{map, length, refl, sym, ap, ◌∙◌, arith, true≢false, ⊎_elim, bytes_eq, is_some}
 use Rattle.std.proofs.Common.{Some}

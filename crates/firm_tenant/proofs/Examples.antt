@@ -80,7 +80,7 @@ names_first : alone (limits 5 7 100)
     ≡ no 1 NoSuchJob ∷ ok 2 ∷ no 3 MachineExists ∷ ok 4 ∷ no 5 JobExists ∷ ok 6 ∷ no 7 TaskExists ∷ no 8 NoSuchJob ∷ []
 names_first = refl
 
--- machines, jobs and tasks have names of their own
+-- machines, jobs and tasks have separate name spaces
 three_name_spaces : alone (limits 6 20 100) (AddMachine a 2 ∷ AddJob a 5 ∷ AddTask a a [] ∷ [])
     ≡ ok 1 ∷ ok 2 ∷ ok 3 ∷ []
 three_name_spaces = refl

@@ -107,7 +107,7 @@ turns : replies (tenant 8 30 100 0 0)
     ∷ Rounded (pos 1) (Preempt (codes "x") (codes "m1") ∷ Start (codes "y") (codes "m1") ∷ []) ∷ [])
 turns = refl
 
--- tasks thrown out of their machine wait from 0, and run again when it is back; each round's cost is kept
+-- tasks thrown out of their machine wait from 0, and run again when it is back; each round's cost is recorded
 draining : replies (tenant 8 30 100 1 1)
     (AddMachine (codes "m1") 2 ∷ AddJob (codes "j") 9 ∷ AddTask (codes "j") (codes "x") []
     ∷ AddTask (codes "j") (codes "y") []
@@ -126,7 +126,7 @@ empty : replies (tenant 2 0 3 0 0) (Show ∷ Ask ∷ Round ∷ Show ∷ Round �
     ++ outcomes 4 (Refused Worn ∷ [])
 empty = refl
 
--- of nine rounds, the costs of the last eight are kept
+-- of nine rounds, the costs of the last eight are recorded
 eight : replies (tenant 8 30 100 0 0)
     (AddJob (codes "j") 1 ∷ AddTask (codes "j") (codes "x") []
     ∷ Round ∷ Round ∷ Round ∷ Round ∷ Round ∷ Round ∷ Round ∷ Round ∷ Round ∷ Ask ∷ [])

@@ -32,7 +32,7 @@ module _ (first : TheRoundIsTheFirst) (yield : LongWaitsYieldToLongWaits) (stay 
   abbrev long : ℕ
   long = long_wait limits most
 
-  -- after so many rounds, `with` of them over a book with a machine, that left the task waiting
+  -- after this many rounds, `with` of them over a book with a machine, that left the task waiting
   record IsDue (rows : TenantRows) (rounds with : ℕ) : Type 0 where
     well : AreSoundInForm rows
     same : rows.limits ≡ limits
@@ -179,7 +179,7 @@ module _ (first : TheRoundIsTheFirst) (yield : LongWaitsYieldToLongWaits) (stay 
   abbrev IsPlaced : List (TenantRows × TenantRows) → Type 0
   IsPlaced rounds = list_any (runs_after name) rounds ≡ true
 
-  -- so many rounds over a book with a machine are one too many
+  -- this many rounds over a book with a machine are one too many
   over : (rows : TenantRows) (rounds with : ℕ) → IsDue rows rounds with → is_among (task_names rows) name ≡ true
       → long + limits.nodes ≤ with → ⊥
   over rows rounds with due there many =

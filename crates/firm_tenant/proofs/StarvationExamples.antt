@@ -1,4 +1,4 @@
--- How long a task waits, computed from commands.
+-- Lengths of a task's wait, computed from commands.
 use Rattle.std.proofs.Common.{◌≡◌, Bool, false, true, List, [], ◌∷◌, map, length, count_by, refl, codes}
 use Rattle.firm_rules.specs.Book.{TenantRows, opening_book}
 use Rattle.firm_rules.specs.Limits.{TenantLimits}

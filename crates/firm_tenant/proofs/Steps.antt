@@ -1,4 +1,4 @@
--- What the steps of all commands have in common.
+-- Common properties of the steps of all commands.
 use Rattle.std.proofs.Common.{◌≡◌, ◌+◌, ◌<◌, ℕ, List, [], ◌∷◌, refl, ap, sym, ◌∙◌, arith, true≢false}
 use Rattle.std.specs.Prelude.{Bool, true, false, not, Option, Some, None, nat_le, nat_lt, if◌then◌else◌}
 use Rattle.std.proofs.lemmas.Bool.{leb-true, le-leb}
@@ -17,7 +17,7 @@ use Rattle.firm_tenant.specs.Step.{step, effect, grown, found, whereabouts_of, c
 use Rattle.firm_tenant.specs.Laws.{UnmarkedStepsAreGranted, RepliesTellTheirMarks, AddsOneStep}
 use Rattle.firm_tenant.specs.Laws.{OneMoreCommandAddsOneStep, CountsOnce, StepsCountOnce}
 
--- what a mark makes of a command: nothing tells of memory without one, and what is told is the mark that counts
+-- a mark's effect on a command: without one no outcome names memory, and only a mark that counts is named
 record ReadsMark (after : Bool → Outcome × Book) : Type 0 where
   granted : is_memory_outcome (after false).0 ≡ false
   told : (mark : Bool) → after (is_memory_outcome (after mark).0) ≡ after mark

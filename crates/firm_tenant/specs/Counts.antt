@@ -1,4 +1,4 @@
--- What a tenant's rounds count.
+-- The counts of a tenant's rounds.
 use Rattle.std.specs.Prelude.{ℕ, ◌+◌, ◌*◌, ◌≤◌}
 use Rattle.firm_paths.specs.Workspace.{Workspace}
 use Rattle.firm_rules.specs.Book.{Book}

@@ -102,7 +102,7 @@ impl Pool {
         })
     }
 
-    /// How many costs are kept, 8 at most.
+    /// Number of costs recorded, 8 at most.
     pub(crate) fn cost_count(&self) -> usize
         ensures value { result ≡ length self.now.costs }
         ensures sound { IsSoundPool self.now }
@@ -126,7 +126,7 @@ impl Pool {
         &self.scratch
     }
 
-    /// How many looks the last round's proposal and its check took.
+    /// Number of looks that the last round's proposal and its check took.
     pub(crate) fn proposed(&self) -> u64
         ensures looks { result ≡ self.now.workspace.proposed.looks }
         ensures most { result ≤ 2 ^ 26 }
@@ -273,7 +273,7 @@ impl Pool {
         Ok(Outcome::Plain)
     }
 
-    // Where a task runs, or how long it has waited.
+    // The machine of a task, or the number of rounds that it has waited.
     fn find(&self, name: Name) -> Result<Outcome, Refusal>
         ensures effect { (given : ℕ) → (outcome_of result, book_of self.now given)
             ≡ effect (book_of self.now given) (Command.Find name) (is_memory_outcome (outcome_of result)) }
@@ -375,13 +375,13 @@ fn ring_of(alloc: Global, costs: RecentCosts) -> Result<HeapCircularBuffer<i64>,
     Ok(ring)
 }
 
-// What proposes and what searches the rounds of a graph.
+// Workspaces of the proposer and of the search for the rounds of a graph.
 fn workspace(alloc: Global, graph: &Graph) -> Result<(Proposals, Prices, Scratch), AllocError>
     ensures prices { IfOk result (λ made. IsMadeFor made.1.limits graph.now.rows.limits) }
     ensures scratch { IfOk result (λ made. IsMadeFor made.2.limits graph.now.rows.limits) }
     ensures counts { IfOk result (λ made. (made.2.begins ≡ 0) × (made.2.searches ≡ 0) × (made.2.looks ≡ 0)) }
     ensures proposals { IfOk result (λ made. (made.0.proposer.value.tries ≡ 0) × (made.0.work.looks ≡ 0)
-        × (made.0.allowed ≤ 2 ^ 26)) }
+        × (made.0.allowed ≡ 2 ^ 26)) }
 {
     let proposals = Proposals::open(alloc, graph.rows().limits())?;
     let prices = Prices::new(alloc, graph.net())?;

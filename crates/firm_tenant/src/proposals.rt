@@ -12,7 +12,7 @@ use std::alloc::{AllocError, Global};
 /// The most looks that a proposal and its check may take.
 const MOST_LOOKS: u64 = 1 << 26;
 
-/// What proposes rounds, what the last round's proposal and its check took, and how many looks both may take.
+/// The proposer of rounds, the work of the last round's proposal and its check, and the looks allowed for both.
 #[derive(Drop)]
 pub(crate) struct Proposals {
     proposer: Box<Proposer>,
@@ -21,11 +21,11 @@ pub(crate) struct Proposals {
 }
 
 impl Proposals {
-    /// What proposes rounds within these limits. Fails only if memory is refused.
+    /// A proposer of rounds within these limits, with `MOST_LOOKS` allowed. Fails only if memory is refused.
     pub(crate) fn open(alloc: Global, limits: Limits) -> Result<Proposals, AllocError>
         ensures tries { IfOk result (λ made. made.proposer.value.tries ≡ 0) }
         ensures looks { IfOk result (λ made. made.work.looks ≡ 0) }
-        ensures allowed { IfOk result (λ made. made.allowed ≤ 2 ^ 26) }
+        ensures allowed { IfOk result (λ made. made.allowed ≡ 2 ^ 26) }
     {
         let proposer = Proposer::new(alloc, limits)?;
         Ok(Proposals {
@@ -49,7 +49,7 @@ impl Proposals {
         self.work.looks()
     }
 
-    /// The round's placement, if one is proposed and shown to be the round's within the looks that are allowed. Counts
+    /// The round's placement, if one is proposed and shown to be the round's within the allowed looks. Counts
     /// from 0 the looks that both take, and makes one try at most. Fails only if memory for the list is refused.
     pub(crate) fn first(
         &mut self,

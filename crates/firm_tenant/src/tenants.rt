@@ -117,7 +117,7 @@ impl Tenant {
         self.pool.recent_costs()
     }
 
-    /// How many commands the tenant was given, no more than its life.
+    /// Number of commands that the tenant was given, at most its life.
     pub fn given(&self) -> u64
         ensures value { result ≡ self.now.given }
         ensures sound { IsSoundBook self.now }
@@ -125,7 +125,7 @@ impl Tenant {
         self.given
     }
 
-    /// How many further commands the tenant answers.
+    /// Number of further commands that the tenant answers.
     pub fn life_left(&self) -> u64
         ensures { result + self.now.given ≡ self.now.rows.limits.life }
     {
@@ -140,8 +140,8 @@ impl Tenant {
         self.pool.rows().limits()
     }
 
-    /// Sets how many looks a round's proposal and its check may take, at most 2^26, which is what a new tenant allows.
-    /// With 0 rounds are found by searches in the net alone. No reply depends on it.
+    /// Sets the number of looks that a round's proposal and its check may take, at most 2^26, the default of a new
+    /// tenant. With 0 each round is found by searches in the net. No reply depends on it.
     pub fn allow_proposals(&mut self, looks: u64)
         ensures { self.new ≡ self.old }
     {
@@ -157,7 +157,7 @@ impl Tenant {
         self.pool.scratch()
     }
 
-    /// How many looks the last round's proposal and its check took.
+    /// Number of looks that the last round's proposal and its check took.
     pub fn proposed(&self) -> u64
         ensures { result ≤ 2 ^ 26 }
     {

@@ -11,7 +11,7 @@ module _ (p : ℕ → Bool) (xs front back : List ℕ) (first : front ≡ take (
   both : slice_split p xs ≡ front ∷ later_pieces p back
   both = rw (first, behind) (slice_split-first p xs)
 
-  -- nothing stands behind the first piece
+  -- nothing follows the first piece
   pub cut-last : length back ≡ 0 → slice_split p xs ≡ front ∷ []
   cut-last none = both ∙ ap (λ (more : List (List ℕ)). front ∷ more) (no_more back none)
     where

@@ -6,7 +6,7 @@ use Rattle.std.proofs.Math.Seq.{take-add}
 use Rattle.std.specs.Io.KnownBytes.{Appends}
 use Rattle.std.proofs.KnownBytes.{Appends-trans}
 
--- the next m bytes are written behind the first n
+-- the next m bytes are written after the first n
 pub Appends-more : (a b c : Option (List ℕ)) (n m : ℕ) (bytes : List ℕ)
     → Appends a b (take n bytes) → Appends b c (take m (take (length bytes - n) (drop n bytes)))
     → Appends a c (take (n + m) bytes)

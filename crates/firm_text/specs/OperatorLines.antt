@@ -1,4 +1,4 @@
--- What the operator asks for, on a line whose first word is `+`.
+-- The operator's commands, on lines whose first word is `+`.
 use Rattle.std.specs.Prelude.{ℕ, Bool, List, [], ◌∷◌, Result, Ok, Err, ◌==◌, bytes_eq, codes, if◌then◌else◌}
 use Rattle.std.specs.List.{slice_split}
 use Rattle.std.specs.Option.{ok_or}

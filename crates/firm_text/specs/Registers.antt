@@ -1,4 +1,4 @@
--- Which tenant has which place while tenants come and go, and how often each place was given.
+-- The tenant of each place while tenants come and go, and the number of times that each place was given.
 use Rattle.std.specs.Prelude.{◌≡◌, ◌≤◌, ◌<◌, ◌+◌, ◌-◌, ◌&&◌, ℕ, Bool, false, All, AllPairs, List, ◌++◌, IsSome}
 use Rattle.std.specs.Prelude.{Option, Some, None, Result, Ok, Err, bytes_eq, length, map, replicate, position, nat_lt}
 use Rattle.std.specs.Prelude.{slice_index_or, slice_set, if◌then◌else◌}
@@ -8,11 +8,11 @@ use Rattle.firm_text.specs.declared.operator.OperatorRefusal.{OperatorRefusal}
 use Rattle.firm_text.specs.declared.operator.OperatorRefusal.TheVariants.{TenantExists, Full}
 use Rattle.firm_text.specs.declared.registers.Entry.{Entry}
 
--- so often one place is given, at most
+-- at most this many times one place is given
 abbrev pub most_admissions : ℕ
 most_admissions = 32768
 
--- a place that no tenant has, and that was given so often
+-- a place without a tenant that was given this many times
 abbrev pub vacant : ℕ → Entry
 vacant admissions = record { tenant = None; admissions = admissions }
 
@@ -25,7 +25,7 @@ abbrev pub first_places : List RosterRow → List Entry
 first_places tenants =
     map (λ tenant. occupied tenant.0 1) tenants ++ replicate (most_places - length tenants) (vacant 0)
 
--- whether the name is that of the tenant, if there is one
+-- whether the name is the tenant's, if any
 abbrev pub is_named : List ℕ → Option (List ℕ) → Bool
 is_named name None = false
 is_named name (Some tenant) = bytes_eq tenant name

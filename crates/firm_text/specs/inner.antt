@@ -1,3 +1,3 @@
--- What no public clause cites: the fields of a row, one by one, and a line that is read in place.
+-- For proofs inside the crate: the fields of a row, one by one, and a line that is read in place.
 pub mod Fields
 pub mod Reads

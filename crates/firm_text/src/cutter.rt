@@ -13,10 +13,10 @@ use crate::inputs::Line;
 use crate::reading::line_under;
 use std::marker::Model;
 
-/// How many bytes of a line are held: the longest line and a carriage return.
+/// Number of bytes of a line that are held: the longest line and a carriage return.
 const MOST_BYTES_HELD: usize = 257;
 
-/// Where the count of a line's bytes stops.
+/// The end of the count of a line's bytes.
 const MOST_COUNTED: usize = 258;
 
 /// The bytes of a line that comes in pieces, as far as they matter: the first 257 of them, and their count up to 258.
@@ -38,10 +38,10 @@ impl Model for Cutter {
     ghost invariant = { λ c. c.count ≤ most_counted };
 }
 
-/// What a cutter took of a piece.
+/// The part of a piece that a cutter took.
 #[derive(Clone, Copy, PartialEq, Eq)]
 pub struct Fed {
-    /// How many bytes it took, from the front.
+    /// Number of bytes taken, from the front.
     pub used: usize,
     /// Whether the last of them is the line feed that ends the line.
     pub ended: bool,
@@ -78,7 +78,7 @@ impl Cutter {
         }
     }
 
-    /// What the line is under a plain heading: one that has ended, or the rest of the input. The cutter then begins the
+    /// The line under a plain heading: one that has ended, or the rest of the input. The cutter then begins the
     /// next line.
     pub fn take(&mut self) -> Line
         ensures line { (text : List ℕ) → StandsFor self.old text → result ≡ line_of (strip_carriage_return text) }

@@ -1,10 +1,10 @@
-//! What the operator asks for, and what it is answered.
+//! The operator's requests and their replies.
 ghost use Rattle.std.specs.Prelude.{◌≡◌};
 ghost use Rattle.firm_text.specs.OperatorRefusals.{operator_code, operator_name};
 
 use firm_rules::{Limits, Name};
 
-/// What a line of the operator asks for: a line whose first word is `+`.
+/// A request of the operator, on a line whose first word is `+`.
 #[derive(Clone, Copy, PartialEq, Eq)]
 pub enum OperatorLine {
     /// A tenant of this name is to be admitted, with these limits.
@@ -15,7 +15,7 @@ pub enum OperatorLine {
     Faulty(OperatorRefusal),
 }
 
-/// What the operator is answered.
+/// The reply to the operator.
 #[derive(Clone, Copy, PartialEq, Eq)]
 pub enum OperatorReply {
     /// The tenant of this name was admitted.

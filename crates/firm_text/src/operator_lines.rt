@@ -14,7 +14,7 @@ use crate::row_fields::row_fields;
 use crate::words::{next_word, only_word};
 use firm_rules::{Limits, Name};
 
-/// What the words after the operator's `+` ask for. A tenant's line does not pay for its locals.
+/// The request in the words after the operator's `+`. A tenant's line does not pay for its locals.
 #[inline(never)]
 pub fn operator_line(heading: Heading, line: &[u8]) -> OperatorLine
     ensures { result ≡ operator_line_of heading (words line.now) }
@@ -75,7 +75,7 @@ fn row_told(heading: Heading, row: &[u8]) -> Result<(Name, Limits), OperatorRefu
     told_tenant(&fields).map_err(row_refusal)
 }
 
-// What a line is refused for whose row has this fault.
+// The refusal of a line whose row has this fault.
 fn row_refusal(fault: RosterFault) -> OperatorRefusal
     ensures { result ≡ row_refusal fault }
 {

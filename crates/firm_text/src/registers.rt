@@ -1,4 +1,4 @@
-//! Which tenant has which place while tenants are admitted and retired.
+//! The tenant of each place while tenants are admitted and retired.
 ghost use Rattle.std.specs.Prelude.{◌≡◌, ◌<◌, ℕ, List, IfOk, IfSome, OnErr, position};
 ghost use Rattle.std.specs.Option.{ok_or};
 ghost use Rattle.firm_text.specs.Registers.{IsRegister, IsAdmission, first_places, is_free, is_named};
@@ -107,7 +107,7 @@ impl Register {
         Ok(at)
     }
 
-    /// Empties the place of the tenant of this name. The error is `NoSuchTenant` where there is none; it changes
+    /// Empties the place of the tenant of this name. The error is `NoSuchTenant` if there is none; it changes
     /// nothing.
     pub fn retire(&mut self, name: Name) -> Result<usize, OperatorRefusal>
         ensures place { result ≡ ok_or (place_in self.old name) NoSuchTenant }

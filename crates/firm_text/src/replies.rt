@@ -225,7 +225,7 @@ fn put_use(
     put_labelled(text, b" of ", arcs_limit)
 }
 
-/// Adds a label, which has a space at each end, and a word.
+/// Appends a label, which has a space at each end, and a word.
 #[tactic(auto, using(crate::proofs::Puts::kept_trans))]
 #[inline(always)]
 fn put_after(text: &mut Vec<u8>, label: &[u8], word: &[u8]) -> Result<(), AllocError>
@@ -303,7 +303,7 @@ fn put_cost(text: &mut Vec<u8>, cost: i64) -> Result<(), AllocError>
     put(text, digits.format(cost).as_bytes())
 }
 
-/// Adds a label, which has a space at each end, and a number.
+/// Appends a label, which has a space at each end, and a number.
 #[tactic(auto, using(crate::proofs::Puts::kept_trans))]
 #[inline(always)]
 fn put_labelled(text: &mut Vec<u8>, label: &[u8], number: u64) -> Result<(), AllocError>

@@ -170,7 +170,7 @@ sees_allowed b vain slots id =
     by_phase b slots id (asking_sight Asked vain b, []) (λ n. either (n == 1) 2 n)
     (λ n m. looks (step slots 0 1 2 mathlib.Core.Option.none) (asking_sight Asked vain b, []) n m) (sees b vain id)
 
--- the same where the key and the seat are known to be those
+-- the same where key and seat are equal to those
 pub deals_as : (b key : Book) (me : Hand) (slots id : ℕ) → key ≡ b → me ≡ (tray_sight Opening b, [])
     → Allows (KeepsRule key) slots id me 0 (λ n. n) (takes_slot (step slots 0 0 0 mathlib.Core.Option.none) me)
 deals_as b key me slots id k e = rw (k, e) (deals_allowed b slots id)

@@ -1,4 +1,4 @@
--- What a contract sees of a side of a tray.
+-- The value of a side of a tray in contracts.
 use Rattle.std.specs.Prelude.{ℕ}
 use Rattle.atomic_table.specs.Seated.{TableId}
 use Rattle.firm_rules.specs.Book.{Book}

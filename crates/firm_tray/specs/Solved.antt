@@ -1,4 +1,4 @@
--- What comes back on a tray.
+-- The content of an answered tray.
 use Rattle.std.specs.Prelude.{◌≡◌}
 use Rattle.firm_rules.specs.Book.{Book}
 use Rattle.firm_rules.specs.declared.commands.Command.TheVariants.{Round}

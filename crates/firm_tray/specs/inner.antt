@@ -1,2 +1,2 @@
--- What no public clause cites: what each step makes of a seat, and which tray a seat belongs to.
+-- For proofs inside the crate: the effect of each step on a seat, and the tray of a seat.
 pub mod Steps

@@ -1,4 +1,4 @@
-//! What the rule of a tray says, read aloud.
+//! The rule of a tray in words.
 ghost use Rattle.firm_tray.specs.Reading.{TraysAreReadAloud};
 
 /// The law on the states of a tray that its rule allows: both seats have the book for which it was opened; the

@@ -22,8 +22,8 @@ pub enum Stage {
     Taken,
 }
 
-/// What a seat knows: its stage, the tenant for which the tray was opened, and how many looks of the asking side found
-/// no answer. Never constructed.
+/// A seat's knowledge: its stage, the tenant for which the tray was opened, and the number of looks of the asking side
+/// in vain. Never constructed.
 pub struct TraySight {
     pub stage: Stage,
     pub book: Tenant,
@@ -64,7 +64,7 @@ impl Play<Option<Solved>, TraySight> for GivesAnswer {
     ghost then = { gives_answer };
 }
 
-/// The asking seat looks, and takes the answer if there is one.
+/// The asking seat looks, and takes the answer, if any.
 pub struct Looks;
 
 impl Play<Option<Solved>, TraySight> for Looks {

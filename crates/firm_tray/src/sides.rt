@@ -11,7 +11,7 @@ use std::marker::Model;
 use std::sync::{Arc, Wait};
 
 // A wait does not yield, since on a busy machine one yield takes longer than all looks and the sleep.
-/// How many times a wait looks in vain before it sleeps: about ten microseconds, as long as a small round takes.
+/// Number of looks in vain of a wait before it sleeps: about ten microseconds, as long as a small round takes.
 pub const LOOKS_BEFORE_SLEEP: u32 = 1_024;
 
 /// A tray, on which a tenant's round comes back.

@@ -83,7 +83,7 @@ module _ (command : Command) (m : ArgMatches) (p : IsParsedFrom command m) (plai
       let bad : 0 < 0 = rw none at some in
       absurd (omega arith)
 
-  -- the option takes a value, so an entry of its own has one
+  -- the option takes a value, so its entry has one
   has_value : (e : Entry) → e.0.now ≡ option.id.now → EntryPasses p.built e → option.action ≡ Some Set
       → option.val_delim ≡ None → 1 ≤ least_values option
       → 0 < length e.1.vals.items

@@ -27,7 +27,7 @@ use Rattle.firm_words.specs.CommandLine.{command_line, versioned_app, workers_op
 use Rattle.firm_words.specs.inner.Options.{HasNumber, IsCommandLine}
 use Rattle.firm_words.proofs.Entries.{default_is_read}
 
--- what is said of a command that has no argument yet
+-- the properties of a command without arguments
 pub record IsBare (command : Command) : Type 0 where
   pub app : app_of command ≡ versioned_app
   pub arguments : args_of command ≡ []

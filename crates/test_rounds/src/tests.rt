@@ -1,4 +1,4 @@
-//! What reads and writes; trays and the queue of rounds; events of a table.
+//! Readers and writers; trays and the queue of rounds; events of a table.
 ghost use Rattle.std.specs.Prelude.{IsTrue};
 
 mod devices;

@@ -1,11 +1,12 @@
 //! Tests alone: rules, rents, and the crates of the solver, from the arena to a tenant's round, asked by their public
 //! calls.
 //!
-//! What a contract says is not tested here, nor what the scripts of `tests/` show of the built program. `arena.rt`
-//! shows what no clause says: each value of an arena is dropped once. The others play tables, arrays of steps that
-//! change a value and of what is seen of it then. In `nets.rt` a worked network is a table of arcs, and what is asked
-//! is what flows, and how often a search looks at an arc. In `graph.rt` a tenant's rows have that very network, and the
-//! placements of a round by hand, of docs/PLACEMENT.md and docs/EXPLAIN.md, have their costs and their order.
+//! The facts that contracts state are not tested here, nor those that the scripts of `tests/` show of the built
+//! program. `arena.rt` tests what no clause says: each value of an arena is dropped once. The others play tables,
+//! arrays of steps that change a value and of its expected state then. In `nets.rt` a worked network is a table of
+//! arcs, with the expected flow and the number of looks at each arc. In `graph.rt` a tenant's rows have that very
+//! network, and the placements of a round by hand, of docs/PLACEMENT.md and docs/EXPLAIN.md, have their costs and their
+//! order.
 //!
 //! Numbers from a seed make books, whose rounds are proposed, also where that is cut off, and found by searches
 //! (`proposals.rt`). The rounds of the built program beside all placements of a book: `tests/compare.py`.

@@ -20,7 +20,7 @@ fn check(rt: &impl Abort, holds: bool, what: &str)
     assert!(rt; holds, "{what}");
 }
 
-/// What is expected of an answer, so that no test has a branch.
+/// The expected answer, so that no test has a branch.
 fn expect<T: Copy + PartialEq>(rt: &impl Abort, found: T, wanted: T) {
     assert!(rt; found == wanted);
 }

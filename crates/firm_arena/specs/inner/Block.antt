@@ -1,4 +1,4 @@
--- What holds of the fields of a `Block`.
+-- Invariants of the fields of a `Block`.
 use Rattle.std.specs.Prelude.{◌≡◌, ◌^◌, ◌<◌, length}
 use Rattle.firm_arena.specs.declared.block.Block.TheInside.{Inside}
 

@@ -1,4 +1,4 @@
--- What a block ends as, where a `&mut` to one of its values is returned.
+-- The block after a `&mut` to one of its values ends.
 use Rattle.std.specs.Prelude.{ℕ, List, Option, Some, slice_set}
 use Rattle.std.specs.Borrow.{Lends, Fml, RattleType, MutBor}
 use Rattle.firm_arena.specs.contracts.block.Block.{the_row}

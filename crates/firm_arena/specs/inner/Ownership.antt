@@ -1,4 +1,4 @@
--- What a block owns, and what a `&` to it reaches, for values of the row R.
+-- Memory that a block owns, and the reach of a `&` to it, for values of the row R.
 use Rattle.std.specs.Prelude.{ℕ, zero, suc, ◌+◌, ◌*◌, ◌^◌, List, Option, Some, None, slice_index_or}
 use Rattle.std.specs.Mem.{type_size}
 use Rattle.std.specs.Global.{Global}

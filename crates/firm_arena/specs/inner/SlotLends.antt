@@ -1,4 +1,4 @@
--- What a slot ends as, where a `&mut` to its value is returned.
+-- The slot after a `&mut` to its value ends.
 use Rattle.std.specs.Borrow.{Lends, Fml, RattleType, MutBor}
 use Rattle.firm_arena.specs.declared.slot.Slot.{Slot}
 use Rattle.firm_arena.specs.contracts.slot.Slot.{the_row}

@@ -1,4 +1,4 @@
--- What the choice of a round's placement keeps. No public clause cites this module.
+-- Invariant of the choice of a round's placement. No public clause cites this module.
 use Rattle.std.specs.Prelude.{◌≡◌, ℕ, ◌+◌, ◌<◌, ◌≤◌, Bool, true, false, List, ◌++◌, ◌∷◌, length, All, Some}
 use Rattle.std.specs.Prelude.{cond, eqb}
 use Rattle.firm_rules.specs.declared.rounds.Choice.{Choice}
@@ -93,8 +93,8 @@ pub record IsAsCheap (c : Case) (p : List Choice) (most : ℕ) (x : Key → ℕ)
 abbrev pub IsSpent : Case → List Choice → ℕ → Key → Type 0
 IsSpent c p most key = (x : Key → ℕ) → IsAsCheap c p most x → x key ≤ low_of c p key
 
--- machine `j` has no unit that the next task could follow there: none of its own by a preference, or, if its own is at
--- the hub, none by the hub that is not held
+-- machine `j` has no unit that the next task could follow there: none by its preference, or, if the task's unit is at
+-- the hub, none by the hub beyond those held
 pub record IsBare (v : View) (p : List Choice) (at_hub : Bool) (j : ℕ) : Type 0 where
   pub near : at_hub ≡ false → (k : ℕ) → k < length (demand v.case (length p)).preferred
       → preferred_at v.case (length p) k ≡ j → flows v (Prefer (length p) k) ≡ 0

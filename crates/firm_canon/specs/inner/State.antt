@@ -1,4 +1,4 @@
--- What the choice of a round works on, and what each of its steps keeps. No public clause cites this module.
+-- The state of a round's choice, and the invariant of its steps. No public clause cites this module.
 use Rattle.std.specs.Prelude.{◌≡◌, ◌+◌, ◌<◌, ◌≤◌, ℕ, Bool, true, List, length, if◌then◌else◌}
 use Rattle.firm_rules.specs.declared.rounds.Choice.{Choice}
 use Rattle.firm_rules.specs.ArenaUse.{arena_arcs}

@@ -1,4 +1,4 @@
--- What stands at the places of a serving hall.
+-- The states of the places of a serving hall.
 use Rattle.std.specs.Prelude.{◌≡◌, ◌+◌, ◌<◌, ◌⊎◌, Bool, true, false, Option, Some, None}
 use Rattle.firm_rules.specs.Limits.{TenantLimits}
 use Rattle.firm_rules.specs.Book.{opening_book}

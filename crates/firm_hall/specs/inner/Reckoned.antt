@@ -1,4 +1,4 @@
--- What the held answers come to: one fold over them.
+-- One fold over the held answers.
 use Rattle.std.specs.Prelude.{ℕ, suc, ◌+◌, Bool, List, [], ◌∷◌, ◌++◌}
 use Rattle.std.specs.Prelude.{Option, Some, None, if◌then◌else◌, slice_index_or, slice_set}
 use Rattle.firm_rules.specs.Book.{Book}
@@ -11,7 +11,7 @@ use Rattle.firm_hall.specs.Counts.{round_in}
 use Rattle.firm_held.specs.declared.held.HeldAnswer.{HeldAnswer}
 use Rattle.firm_held.specs.declared.held.HeldAnswer.TheVariants.{Known, Waiting}
 
--- whether memory is refused to a command, and whether a round that is refused memory was asked all the same
+-- whether memory is refused to a command, and whether a round that is refused memory was requested all the same
 abbrev pub Mark : Type 0
 Mark = Bool × Bool
 
@@ -22,7 +22,7 @@ pub record Reckoned : Type 0 where
   pub text : List ℕ
   pub asked : ℕ
 
--- 1 for a round that was asked, which only one without life or memory is not
+-- 1 for a requested round; only one without life or memory is not requested
 abbrev pub asks : Command → Reply → Bool → ℕ
 asks command reply asked =
     if is_memory reply then (if asked then round_in command reply else 0) else round_in command reply

@@ -57,7 +57,7 @@ book_at (Away asked) = Some asked.book
 book_at (Empty place) = None
 book_at Gone = None
 
--- how many rounds were asked at a place, by all its tenants, without one that is away
+-- number of rounds requested at a place, by all its tenants, without one that is away
 abbrev pub asked_at : DeskState → ℕ
 asked_at (Home desk waits) = desk.put
 asked_at (Away asked) = asked.put - 1
@@ -73,7 +73,8 @@ before_held desk_states output =
 abbrev pub state_after : Opened → List Entry → Reckoned → State
 state_after opening register reckoned = state_is opening (tenants_are register reckoned.books) reckoned.text
 
--- what stands at a place that has a tenant with this book, or none, and was given so often; no round was asked there
+-- the state of a place that has a tenant with this book, or none, and was given this often; no round was requested
+-- there
 abbrev pub opened_at : QueueId → ℕ → ℕ → Option Book → DeskState
 opened_at queue place admissions None = Empty (place_is queue place 0 admissions)
 opened_at queue place admissions (Some book) = Home (desk_is queue place 0 admissions book) false
@@ -148,8 +149,9 @@ IsOpen id serving = serving.queue ≡ id
 abbrev pub IsReserved : {A : Type 0} → List A → ℕ → Type 0
 IsReserved items capacity = (items ≡ []) × (most_places ≤ capacity)
 
--- The lines of this text were answered. However memory is granted to the commands that are still to be done, what was
--- written and what is held are then the output for these lines; and as many rounds were asked as the lines ask for.
+-- The lines of this text were answered. However memory is granted to the remaining commands, the bytes
+-- written and the held answers are then the output for these lines; and as many rounds were requested as the lines ask
+-- for.
 pub record Tells (state : State) (asked : ℕ) (text : List ℕ) (written now : Option (List ℕ)) : Type 0 where
   pub told : Told state text written now
   pub counted : Counted asked told.lines (answers_from state.opening.places told.lines)

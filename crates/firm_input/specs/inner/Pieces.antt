@@ -1,4 +1,4 @@
--- What is left behind a piece that was read ahead.
+-- The bytes left after a piece that was read ahead.
 use Rattle.std.specs.Prelude.{◌≡◌, ℕ, ⊤, List, [], Option, drop, take, MatchResult}
 use Rattle.std.specs.Io.KnownBytes.{Consumes, IsAtEnd, Keeps, prepend_known}
 use Rattle.std.specs.declared.result.Result.{Result}

@@ -1,4 +1,4 @@
--- What each step makes of the seat that takes it.
+-- The effect of each step on the seat that takes it.
 use Rattle.std.specs.Prelude.{◌≡◌, ℕ, ◌==◌, List, [], ◌∷◌, Option, Some, None, MatchBool}
 use Rattle.std.specs.Io.KnownBytes.{Keeps}
 use Rattle.atomic_table.specs.Table.{Me, Step}
@@ -21,7 +21,7 @@ resting_sight seen = sight Rests None
 abbrev pub Hand : Type 0
 Hand = Me (Option Left) Sight
 
--- What the source tells of a reader: nothing where nothing was told at first.
+-- The source's claim about a reader: none if there was none at first.
 abbrev pub told : Left → Left → Left
 told None reader = None
 told (Some bytes) reader = reader

@@ -1,4 +1,4 @@
--- What a contract sees of a walk: the arcs that are left, each with its row.
+-- The value of a walk in contracts: the remaining arcs, each with its row.
 use Rattle.std.specs.Prelude.{List}
 use Rattle.firm_net.specs.Row.{Row}
 use Rattle.firm_net.specs.inner.Links.{walk_rows}

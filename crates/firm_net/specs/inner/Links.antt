@@ -132,7 +132,7 @@ nodes_shown links nodes = changed_all nodes (lists_of links)
 abbrev pub rows_shown : Arena Link → Arena Row
 rows_shown links = changed_all links (λ link. link.row)
 
--- the arc stands in the list of node n at the place `from`, behind the place `before`
+-- the arc stands in the list of node n at the place `from`, after the place `before`
 pub record Stands (side : Side) (links : Arena Link) (n : NodeId) (before from : Option ℕ)
     (a : ArcId) (link : Link) : Type 0 where
   pub starts : from ≡ Some a.id.place

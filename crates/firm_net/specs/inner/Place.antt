@@ -1,4 +1,4 @@
--- How a place of an arc, or none, is kept as one number. No public clause cites this module.
+-- An optional place of an arc as one number. No public clause cites this module.
 use Rattle.std.specs.Prelude.{◌≡◌, ℕ, ◌==◌, Bool, true, false, Option, Some, None, if◌then◌else◌}
 use Rattle.std.proofs.Common.{refl, sym, ap}
 use Rattle.std.proofs.lemmas.Bool.{eqb-true}

@@ -1,4 +1,4 @@
--- What the places have become once tenants have come to them.
+-- The places after tenants have come to them.
 use Rattle.std.specs.Prelude.{◌≡◌, List, Result, Ok, Err}
 use Rattle.firm_parts.specs.declared.joining.JoinFault.{JoinFault}
 use Rattle.firm_saved.specs.declared.saved.SavedPlace.{SavedPlace}

@@ -1,4 +1,4 @@
--- What the ordered queue keeps.
+-- The invariant of the ordered queue.
 use Rattle.std.specs.Prelude.{◌≡◌, ℕ, ◌+◌, ◌*◌, ◌-◌, ◌<◌, ◌≤◌, true, false, List, length, slice_index, ◌⊎◌}
 use Rattle.firm_paths.specs.Visits.{visit}
 use Rattle.firm_paths.specs.inner.Search.{known, settled, label}

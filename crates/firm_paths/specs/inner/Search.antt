@@ -1,4 +1,4 @@
--- What the searches keep.
+-- The invariants of the searches.
 use Rattle.std.specs.Prelude.{◌≡◌, ℕ, ◌+◌, ◌-◌, ◌*◌, ◌^◌, ◌<◌, ◌≤◌, Bool, true, false, List, [], length, Contains, Some}
 use Rattle.std.specs.Prelude.{None, is_some, MatchOption, ◌⊎◌, slice_index, slice_index_or, slice_set, count_by}
 use Rattle.std.specs.Prelude.{if◌then◌else◌, not, ◌&&◌, ◌||◌, nat_lt}

@@ -1,4 +1,4 @@
--- What the search for a tight path keeps.
+-- The invariant of the search for a tight path.
 use Rattle.std.specs.Prelude.{◌≡◌, ℕ, ◌+◌, ◌<◌, ◌≤◌, Bool, true, false, List, [], ◌∷◌, ◌++◌, length, Contains, Some}
 use Rattle.std.specs.Prelude.{◌⊎◌, Option, IfSome, slice_index, slice_index_or, slice_set, count_by, if◌then◌else◌}
 use Rattle.firm_net.specs.Row.{Row}
@@ -116,6 +116,6 @@ pub record IsSpent (net : Net) (price : ℕ → ℕ) (barred : List ArcId) (root
       → IsSpreadTo price barred seen way id row
   pub root_in : is seen root ≡ true
 
--- the place is not the goal, if there is one
+-- the place is not the goal, if a goal is given
 abbrev pub IsOther : Option ℕ → ℕ → Type 0
 IsOther goal v = goal ≡ Some v → ⊥

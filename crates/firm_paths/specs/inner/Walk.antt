@@ -1,4 +1,4 @@
--- What the way back through the visits gives.
+-- The path that the walk back through the visits gives.
 use Rattle.std.specs.Prelude.{ℕ, List}
 use Rattle.firm_net.specs.Net.{Net}
 use Rattle.firm_net.specs.declared.row.ArcId.{ArcId}

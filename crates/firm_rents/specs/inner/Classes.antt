@@ -1,4 +1,4 @@
--- Rents in levels as the check reads them: an amount, and a class of places behind it.
+-- Rents in levels in the form of the check: an amount, and a class of places.
 use Rattle.std.specs.Prelude.{◌≡◌, ℕ, zero, suc, ◌+◌, ◌-◌, ◌^◌, ◌<◌, ◌≤◌, ◌==◌, List, length, slice_index}
 use Rattle.std.specs.Prelude.{if◌then◌else◌, slice_index_or, ◌≢◌}
 use Rattle.firm_rules.specs.declared.rounds.Choice.{Choice}
@@ -75,7 +75,7 @@ pub record AreInLevels (machines : ℕ) (rents : LevelRents) : Type 0 where
   pub within : (j : ℕ) → slice_index rents.places.items j < length rents.classes.items
   pub classes : AreClasses rents.classes.items
 
--- what they say of a place, level by level: of a machine, or behind the last of waiting
+-- the rents of a place, level by level: of a machine, or of waiting after the last one
 abbrev pub rents_at : LevelRents → ℕ → ℕ → ℕ
 rents_at rents place zero = slice_index rents.amounts.items place
 rents_at rents place (suc t) = number rents.classes.items (slice_index rents.places.items place) t

@@ -1,4 +1,4 @@
--- What a seat knows, and what each step makes of it.
+-- A seat's knowledge, and the effect of each step on it.
 use Rattle.std.specs.Prelude.{◌≡◌, ℕ, zero, suc, ◌+◌, ◌-◌, ◌<◌, List, [], ◌∷◌, ◌++◌, length}
 use Rattle.firm_rules.specs.declared.tickets.Ticket.{Ticket}
 use Rattle.firm_rounds.specs.Rounds.{share, beyond}
@@ -58,7 +58,7 @@ got_more t (x ∷ xs) = share x.place x.put (x.got ++ t ∷ []) ∷ xs
 abbrev pub after_pop : Ticket → Sight → Sight
 after_pop t v = sight v.all (got_more t v.shares)
 
--- the shares of the first k places have seats of their own
+-- the shares of the first k places have separate seats
 abbrev pub held_from : ℕ → ℕ → Sight
 held_from k n = sight (n + 1) (share beyond 0 [] ∷ fresh k (n - k))
 

@@ -1,4 +1,4 @@
--- How a state is kept while its rows are read.
+-- The representation of a state while its rows are read.
 use Rattle.std.specs.Prelude.{◌≡◌, ◌<◌, ◌≤◌, ℕ, true, false, All, AllPairs, List, length, option_map, Option}
 use Rattle.std.specs.Prelude.{Some, None}
 use Rattle.firm_rules.specs.Names.{is_name}
@@ -11,7 +11,7 @@ use Rattle.firm_saved.specs.Drafts.{Draft, has_tenant}
 use Rattle.firm_saved.specs.inner.Loads.{AreLoads, view as tenant_view}
 use Rattle.firm_saved.specs.declared.tenant_drafts.TenantDraft.{TenantDraft as KeptTenant}
 
--- the draft that is kept so
+-- the draft represented
 abbrev pub view : Kept → Draft
 view kept =
     record {

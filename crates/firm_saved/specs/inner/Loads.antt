@@ -1,10 +1,10 @@
--- How a tenant is kept while its rows are read.
+-- The representation of a tenant while its rows are read.
 use Rattle.std.specs.Prelude.{◌≡◌, ℕ, List, map}
 use Rattle.firm_rules.specs.Book.{TenantRows, running_on}
 use Rattle.firm_saved.specs.declared.tenant_drafts.TenantDraft.{TenantDraft as Kept}
 use Rattle.firm_saved.specs.Drafts.{TenantDraft}
 
--- the tenant that is kept so
+-- the tenant represented
 abbrev pub view : Kept → TenantDraft
 view kept =
     record {

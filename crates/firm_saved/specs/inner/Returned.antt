@@ -1,4 +1,4 @@
--- What is returned in place of what reading gives, where memory runs out.
+-- The result returned in place of that of reading if memory runs out.
 use Rattle.std.specs.Prelude.{◌≡◌, ◌⊎◌, Result, Ok, Err}
 use Rattle.firm_saved.specs.declared.faults.FaultKind.{FaultKind}
 use Rattle.firm_saved.specs.declared.faults.FaultKind.TheVariants as fault

@@ -1,4 +1,4 @@
--- What each arm of the table's one call does.
+-- The effect of each arm of the table's one call.
 use Rattle.std.specs.Prelude.{◌≡◌, false, ◌↔◌}
 use Rattle.firm_table.specs.Interleaving.{TableState}
 use Rattle.firm_table.specs.Fitting.{IsEventStep, fits}

@@ -1,4 +1,4 @@
--- What a service claims that may have to end where memory is refused to a line.
+-- The claims of a service that may have to end when memory is refused to a line.
 use Rattle.std.specs.Prelude.{◌≡◌, ℕ, Bool, true, List, Option, false, map}
 use Rattle.firm_text.specs.Inputs.{input_lines}
 use Rattle.firm_text.specs.declared.inputs.Line.{Line}

@@ -1,4 +1,4 @@
--- What the table keeps, so that each event fits as defined and takes no memory of the table's own.
+-- The invariant of the table, by which each event fits as defined and takes no memory of the table's own.
 use Rattle.std.specs.Prelude.{◌≡◌, ℕ, ◌+◌, ◌≤◌, ◌==◌, List, [], ◌∷◌, Option, Some, None, length, slice_get}
 use Rattle.std.specs.List.{filter}
 use Rattle.firm_rules.specs.declared.tickets.Ticket.{Ticket}

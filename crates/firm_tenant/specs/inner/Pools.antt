@@ -1,4 +1,4 @@
--- A tenant's book without its count of commands, how many rows were asked for and added, and the workspace of its
+-- A tenant's book without its count of commands, the numbers of rows requested and added, and the workspace of its
 -- rounds.
 use Rattle.std.specs.Prelude.{◌≡◌, ℕ, ℤ, ◌+◌, ◌*◌, ◌^◌, ◌≤◌, true, List, [], All, length, min, pos}
 use Rattle.firm_paths.specs.Workspace.{Workspace, HasCounted}
@@ -34,13 +34,14 @@ pub record Pool : Type 0 where
   pub asked : ℕ
   pub workspace : Counts
 
--- no search was counted, and no proposal
+-- no search was counted, and no proposal; each is allowed the most looks
 pub record HasCountedNothing (counts : Counts) : Type 0 where
   pub begins : counts.net.begins ≡ 0
   pub searches : counts.net.searches ≡ 0
   pub looks : counts.net.looks ≡ 0
   pub tries : counts.proposed.tries ≡ 0
   pub proposed : counts.proposed.looks ≡ 0
+  pub allowed : counts.proposed.allowed ≡ 2 ^ 26
 
 -- the same counts, where each proposal is allowed this many looks, at most 2^26
 abbrev pub allowing : Counts → ℕ → Counts

@@ -7,7 +7,7 @@ use Rattle.std.specs.List.{slice_split}
 use Rattle.firm_text.specs.Rosters.{last_fields}
 use Rattle.firm_text.specs.OperatorLines.{is_comma}
 
--- a field that may be left out, where it is there
+-- an optional field, if present
 abbrev pub seen : Option (Bor (List ℕ)) → Option (List ℕ)
 seen field = option_map (λ f. f.now) field
 
@@ -20,7 +20,7 @@ may_be name (Some field) = bytes_eq field name
 abbrev pub are_fields : List (List ℕ) → Bool
 are_fields fields = nat_le 6 (length fields) && nat_le (length fields) 8
 
--- the fields behind the sixth
+-- the fields after the sixth
 abbrev pub behind_sixth : Option (List ℕ) → Option (List ℕ) → List (List ℕ)
 behind_sixth remote patience = option_to_list remote ++ option_to_list patience
 

@@ -1,4 +1,4 @@
--- What a function has read that writes a tenant's line in place.
+-- The line read by a function that writes a tenant's line in place.
 use Rattle.std.specs.Prelude.{ℕ, List, Result, Ok, Err}
 use Rattle.firm_rules.specs.declared.commands.Command.{Command}
 use Rattle.firm_rules.specs.declared.commands.Command.TheVariants.{Faulty}

@@ -1,4 +1,4 @@
--- What each step makes of the seat that takes it, and which tray a seat belongs to.
+-- The effect of each step on the seat that takes it, and the tray of a seat.
 use Rattle.std.specs.Prelude.{◌≡◌, ℕ, ◌+◌, ◌==◌, [], ◌∷◌, Option, Some, None, MatchBool}
 use Rattle.atomic_table.specs.Table.{Me, Step}
 use Rattle.atomic_table.specs.Seated.{TableId}

@@ -13,7 +13,7 @@ use std::sync::Wait;
 use std::thread;
 use std::thread::Threads;
 
-/// A line, and its reply behind the tenant's name and the number.
+/// A line, and its reply after the tenant's name and the number.
 type Exchange = (&'static [u8], &'static str);
 
 /// The lines that each caller sends in turn, and then again, and how many in all.
@@ -75,7 +75,7 @@ fn call<R: Alloc<A = Global> + Abort + Wait>(rt: &R, hall: &Hall, desk: Desk, ca
     desk
 }
 
-/// The desks after their callers' lines, each sent on a thread of its own.
+/// The desks after their callers' lines, each sent on a separate thread.
 pub fn call_all<R: Alloc<A = Global> + Abort + Threads + Wait + Sync>(
     rt: &R,
     hall: &Hall,
@@ -96,7 +96,7 @@ pub fn call_all<R: Alloc<A = Global> + Abort + Threads + Wait + Sync>(
     desks.expect(rt, "memory")
 }
 
-/// How many rounds each caller hands over.
+/// Number of rounds that each caller hands over.
 const ROUNDS: u64 = 250;
 
 const IDLE_ROUNDS: Calls = Calls {

@@ -9,7 +9,8 @@ use std::thread;
 /// How often a test, or a gate, looks before it gives up.
 pub const LOOKS: u32 = 10_000_000;
 
-/// Waits until the count has reached this, and yields between looks. Whether it has, after so many looks at most.
+/// Waits until the count has reached this, and yields between looks. Returns whether it has, after this many looks at
+/// most.
 pub fn reaches(count: &AtomicU64, wanted: u64, looks: u32) -> bool {
     for _ in 0..looks {
         if wanted <= count.load(Ordering::SeqCst) {

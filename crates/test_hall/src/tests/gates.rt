@@ -14,7 +14,7 @@ pub struct Holds {
     places: u32,
     come: AtomicU64,
     opened: AtomicU64,
-    /// How many rounds went on though the gate was not opened for them.
+    /// Number of rounds that went on though the gate was not opened for them.
     missed: AtomicU64,
     pub begun: AtomicU64,
     pub ended: AtomicU64,

@@ -12,12 +12,12 @@ use std::sync::atomic::{AtomicU64, Ordering};
 use std::sync::{Arc, Wait};
 use std::thread::Threads;
 
-/// What a reader and its test share.
+/// State shared by a reader and its test.
 #[derive(Drop)]
 struct Meter {
     /// A read waits until this is 1.
     go: AtomicU64,
-    /// How many reads there were.
+    /// Number of reads.
     reads: AtomicU64,
 }
 
@@ -58,8 +58,8 @@ fn wait_until_ready<R: Wait, S: Source>(rt: &R, source: &mut S, waker: &Arc<Even
     }
 }
 
-/// Reads to the end or a fault, with a wait before each `waited_each`th read, or none where that is 0. How many bytes
-/// there were, and the answer behind them.
+/// Reads to the end or a fault, with a wait before each `waited_each`th read, or none where that is 0. Returns the
+/// number of bytes, and the answer after them.
 fn read_all<R: Wait, S: Source>(
     rt: &R,
     source: &mut S,
@@ -124,7 +124,8 @@ fn read_first<R: Wait + Abort, S: Source>(
     MOST
 }
 
-/// Expects all bytes and their end from the source, so many reads of the reader until then, and nothing behind it.
+/// Expects all bytes and their end from the source, with this many reads of the reader until then, and nothing after
+/// it.
 fn expect_all<R: Alloc<A = Global> + Abort + Wait, S: Source>(
     rt: &R,
     source: &mut S,
@@ -145,7 +146,7 @@ fn expect_all<R: Alloc<A = Global> + Abort + Wait, S: Source>(
     check(rt, source.read(&mut [0; 7]) == Ok(0), "nothing more");
 }
 
-/// The source ends with its thread. Where it is asked whether it is ready, its reader waits to be let go at first.
+/// The source ends with its thread. When it is asked whether it is ready, its reader waits to be let go at first.
 fn play<R: Alloc<A = Global> + Abort + Threads + Wait + Clone + Drop + Send + 'static>(
     rt: &R,
     case: &Case,

@@ -1,4 +1,4 @@
-//! Scenes at the desks of a hall, each played while workers run on threads of their own.
+//! Scenes at the desks of a hall, each played while workers run on other threads.
 
 ghost use Rattle.std.specs.Prelude.{◌≡◌, ◌≤◌, All, IfErr};
 ghost use Rattle.std.specs.Thread.{IsSync};
@@ -20,18 +20,18 @@ use std::thread;
 use std::thread::Threads;
 use std::time::Clock;
 
-/// What happens at the desks.
+/// The events at the desks.
 #[derive(Clone, Copy)]
 pub enum Play {
-    /// Each desk has a caller on a thread of its own.
+    /// Each desk has a caller on its own thread.
     Callers(Calls),
     /// The gate holds one round; another comes back meanwhile.
     Passed,
     /// Two rounds are put in one go while one is held, turn after turn.
     TwoEachTurn,
-    /// Large rounds are timed before the gate and behind it.
+    /// Large rounds are timed before the gate and after it.
     Timed,
-    /// The hall is shut right behind a round, which is asked so many turns after the worker begins.
+    /// The hall is shut right after a round, which is requested this many turns after the worker begins.
     ShutBehind(u64),
     /// The hall is shut before its workers start.
     ShutFirst,
@@ -44,7 +44,7 @@ pub struct Scene {
     /// For how many places the gate holds rounds.
     pub places: u32,
     pub play: Play,
-    /// How many rounds there are in all.
+    /// Number of rounds in all.
     pub rounds: u64,
 }
 
@@ -71,7 +71,7 @@ fn act<R: Alloc<A = Global> + Abort + Clock + Threads + Wait + Sync>(
     desks
 }
 
-/// The workers' reports, and the desks that are home after the play. The hall is shut behind it.
+/// The workers' reports, and the desks that are home after the play. The hall is shut then.
 fn act_beside_workers<R: Alloc<A = Global> + Abort + Clock + Threads + Wait + Sync>(
     rt: &R,
     hall: &Hall,
@@ -119,7 +119,7 @@ fn act_beside_workers<R: Alloc<A = Global> + Abort + Clock + Threads + Wait + Sy
     )
 }
 
-/// How many rounds the hall had; or, where a desk or a report is missing, the hall with all that was handed in.
+/// The number of rounds of the hall; or, if a desk or a report is missing, the hall with all that was handed in.
 fn close<R: Alloc<A = Global> + Abort + Wait>(
     rt: &R,
     hall: Hall,
@@ -143,7 +143,7 @@ fn close<R: Alloc<A = Global> + Abort + Wait>(
     }
 }
 
-/// How many rounds the workers took.
+/// Number of rounds that the workers took.
 fn counted(reports: &[Report]) -> u64 {
     let mut rounds = 0u64;
     for report in reports {
@@ -152,7 +152,7 @@ fn counted(reports: &[Report]) -> u64 {
     rounds
 }
 
-/// How many rounds the hall had. It closes once neither the last report nor the empty desks are missing.
+/// Number of rounds of the hall. It closes once the last report and the empty desks are there.
 fn rounds_of<R: Alloc<A = Global> + Abort + Wait>(
     rt: &R,
     hall: Hall,

@@ -247,7 +247,7 @@ fn no_reply_waits_for_the_round_of_another(rt: HostRuntime) {
 }
 
 /// Eight lines, 1,015 of one tenant, and a round of that one: there is room for their answers while the first round is
-/// held. A line behind them is read and waits for room.
+/// held. A line after them is read and waits for room.
 static FULL: Scene = Scene {
     records: "a,2,0,1,0,0\nb,2,0,2000,0,0",
     workers: 2,
@@ -387,7 +387,7 @@ fn input_that_comes_while_a_round_is_held_is_read(rt: HostRuntime) {
     play(&rt, &LATE_BEHIND_A_FULL_QUEUE);
 }
 
-/// How many lines come one at a time.
+/// Number of lines that come one at a time.
 const LINES_ASKED: u64 = 50;
 
 static ONE_AT_A_TIME: Scene = Scene {
@@ -409,7 +409,7 @@ static ONE_AT_A_TIME: Scene = Scene {
     fault: None,
 };
 
-// Where the service sleeps through a round's answer no line comes any more.
+// If the service sleeps through a round's answer, no further line comes.
 #[test]
 fn each_reply_is_written_before_the_next_line_comes(rt: HostRuntime) {
     play(&rt, &ONE_AT_A_TIME);

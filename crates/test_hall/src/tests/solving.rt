@@ -14,10 +14,10 @@ use std::process::Abort;
 use std::sync::Wait;
 use std::time::{Clock, Duration, Instant};
 
-/// How many machines and tasks the tenant has.
+/// Numbers of the tenant's machines and tasks.
 const PAIRS: u64 = 100;
 
-/// How many rounds are timed.
+/// Number of timed rounds.
 const ROUNDS: u64 = 9;
 
 /// The desk's tenant obeys a line, of these words around a number.
@@ -58,7 +58,7 @@ fn now<R: Abort + Clock>(rt: &R) -> Instant {
     Instant::now(rt).ok().expect(rt, "the time")
 }
 
-/// How long the round of the first desk took, from the call that asks for it until it comes to the gate, and from the
+/// Time of the first desk's round, from the call that requests it until it comes to the gate, and from the
 /// opening of the gate until it is back.
 fn time_round<R: Alloc<A = Global> + Abort + Clock + Wait>(
     rt: &R,

@@ -27,23 +27,23 @@ pub struct Scene {
     pub workers: usize,
     /// The most bytes of input that it takes.
     pub most: u64,
-    /// What the first read gives, and what those behind it give.
+    /// The bytes of the first read, and of those after it.
     pub input: &'static [u8],
     pub more: More,
     /// Of how many tenants, the first ones, rounds are held.
     pub held: u32,
-    /// What such a round waits for, one after the other.
+    /// The events that such a round waits for, one after the other.
     pub until: &'static [Until],
-    /// How many lines are written, and the text of the first ones. With no line nothing is written.
+    /// Number of lines written, and the text of the first ones. With no line nothing is written.
     pub lines: u64,
     pub text: &'static [u8],
-    /// How many rounds it says were taken; 0 after a fault.
+    /// Number of rounds that it reports; 0 after a fault.
     pub rounds: u64,
     /// The fault with which it ends. With a failed write its flush fails.
     pub fault: Option<ServeFault>,
 }
 
-/// What comes behind the first read: so many times one text, and then each of the last ones.
+/// The text after the first read: one text this many times, and then each of the last ones.
 pub struct More {
     pub times: u64,
     pub again: &'static [u8],
@@ -60,7 +60,7 @@ pub enum Comes {
     Brought,
 }
 
-/// What a held round waits for.
+/// The event that a held round waits for.
 pub enum Until {
     /// This many rounds have come to the gate.
     Come(u64),
@@ -77,7 +77,7 @@ pub enum Until {
 }
 
 impl Scene {
-    /// What the read behind so many gives.
+    /// The bytes of the read after this many.
     fn piece(&self, reads: u64) -> &'static [u8] {
         if reads == 0 {
             return self.input;
@@ -90,11 +90,11 @@ impl Scene {
     }
 }
 
-/// What the gate, the reader and the writer of a service share.
+/// State shared by the gate, the reader and the writer of a service.
 #[derive(Drop)]
 pub struct Stage {
     scene: &'static Scene,
-    /// How many rounds came to the gate, reads began, lines were written, and times the service waited for input, of
+    /// Numbers of rounds at the gate, reads begun, lines written, and waits of the service for input, of
     /// which one counts for each read.
     come: AtomicU64,
     reads: AtomicU64,
@@ -211,7 +211,7 @@ impl Source for Reads<'_> {
         Ok(fill(buffer, self.stage.scene.piece(reads)))
     }
 
-    // The waker is there before the input is looked for, and the gate looks for it behind the input.
+    // The waker is there before the input is looked for, and the gate looks for it after the input.
     fn is_ready(&mut self, waker: Option<&Arc<EventCount, Global>>) -> bool {
         let Some(waker) = waker else {
             return self.stage.is_there();
@@ -239,7 +239,7 @@ fn fill(buffer: &mut [u8], piece: &[u8]) -> usize
 #[derive(Drop)]
 pub struct Writes<'a> {
     pub stage: &'a Stage,
-    /// What is still to be compared.
+    /// The text that is still to be compared.
     pub rest: &'static [u8],
     pub has_failed: bool,
 }

@@ -1,4 +1,4 @@
-//! Desks that ask in turn, and come back behind the others.
+//! Desks that ask in turn, and come back after the others.
 
 ghost use Rattle.std.specs.Prelude.{◌≡◌, All};
 
@@ -25,7 +25,7 @@ pub fn ask_first<R: Abort + Wait>(
     desk.ask(rt, alloc, hall).ok().expect(rt, "a round")
 }
 
-/// The desk that asked is back behind the others once its round is answered.
+/// The desk that asked is back after the others once its round is answered.
 pub fn wait_back<R: Abort + Wait>(rt: &R, hall: &Hall, asked: Asked, desks: &mut Vec<Desk>)
     requires asked { asked.queue ≡ hall.now.id }
     requires desks { All (λ d. d.queue ≡ hall.now.id) desks.old.items }
@@ -36,7 +36,7 @@ pub fn wait_back<R: Abort + Wait>(rt: &R, hall: &Hall, asked: Asked, desks: &mut
     desks.push(desk).expect(rt, "memory");
 }
 
-/// The desk that asked its first round is back behind the others, after so many looks at most.
+/// The desk that asked its first round is back after the others, after this many looks at most.
 pub fn poll_back(rt: &impl Abort, hall: &Hall, asked: Asked, desks: &mut Vec<Desk>, looks: u32)
     requires asked { asked.queue ≡ hall.now.id }
     requires desks { All (λ d. d.queue ≡ hall.now.id) desks.old.items }

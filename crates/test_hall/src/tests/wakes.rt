@@ -1,4 +1,4 @@
-//! Workers that are woken while another is held at its gate, and rounds that are asked just before the hall is shut.
+//! Workers that are woken while another is held at its gate, and rounds requested just before the hall is shut.
 
 ghost use Rattle.std.specs.Prelude.{◌≡◌, All};
 
@@ -71,7 +71,7 @@ fn no_worker_sleeps_while_rounds_wait(rt: HostRuntime) {
 /// How often a hall is shut behind a round.
 const HALLS: u64 = 2_000;
 
-/// Asks for the first desk's round once the worker begins, and shuts the hall right behind it. The round is answered
+/// Requests the first desk's round once the worker begins, and shuts the hall right after it. The round is answered
 /// once the worker has ended.
 pub fn ask_and_shut<R: Alloc<A = Global> + Abort + Wait>(
     rt: &R,

@@ -1,4 +1,4 @@
-//! Sources and sinks over a reader and writer whose calls fail, or move less than they are asked for.
+//! Sources and sinks over a reader and writer whose calls fail, or move fewer bytes than requested.
 use super::check;
 use Call::{Flush, Read, Write};
 use firm_text::{Bytes, Failed, Sink, Source};
@@ -16,7 +16,7 @@ enum Call {
 /// bytes it moved, which is 0 at a flush.
 type Row = (Call, Option<usize>, Result<usize, Failed>);
 
-/// What fails is not tried again, nor is what moves no byte. A write of a byte that moves none fails.
+/// A failed call is not tried again, nor is one that moves no byte. A write of a byte that moves none fails.
 static ROWS: [Row; 12] = [
     (Read, Some(1), Ok(1)),
     (Read, None, Err(Failed)),

@@ -24,7 +24,7 @@ enum Given {
     Retire(usize),
 }
 
-/// What answers an event.
+/// The answer to an event.
 enum Wanted {
     NotNow,
     Admitted,
@@ -38,14 +38,14 @@ enum Wanted {
 
 type Row = (Given, Wanted);
 
-/// Events in turn, at a table that opens with this roster and so many workers.
+/// Events in turn, at a table that opens with this roster and this many workers.
 struct Script {
     roster: &'static [u8],
     workers: usize,
     rows: &'static [Row],
 }
 
-/// A tenant that comes has a book of its own, and its tickets go on from those of the tenant before it.
+/// A new tenant has a new book, and its tickets go on from those of the tenant before it.
 const A1: Ticket = Ticket {
     place: 0,
     number: 1,

@@ -40,7 +40,7 @@ fn serve<R: Wait>(rt: &R, alloc: Global, queue: &Queue, pass: &mut PopPass) -> O
     Some(ticket)
 }
 
-// What happens at a queue of two places, with one pass to get.
+// An event at a queue of two places, with one pass to get.
 enum Step {
     // The place puts its next ticket.
     Puts(usize),
@@ -54,7 +54,7 @@ enum Step {
     WasFull(bool),
 }
 
-// Steps in turn, and the tickets that are left where the queue is closed behind them.
+// Steps in turn, and the tickets left when the queue is closed after them.
 struct Script {
     steps: &'static [Step],
     left: &'static [Ticket],
@@ -347,7 +347,7 @@ fn get_all<R: Wait>(rt: &R, alloc: Global, queue: &Queue, pass: PopPass, tally: 
     }
 }
 
-// Does the work of each pass on a thread of its own.
+// Does the work of each pass on a separate thread.
 fn work_on_threads<R: Abort + Threads + Sync, P: Send + Drop, F: Fn(P) + Sync>(
     rt: &R,
     passes: Vec<P>,

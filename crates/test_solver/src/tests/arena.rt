@@ -1,5 +1,5 @@
-//! What no clause says of an arena: each value is dropped once. Places and stamps as they are used up, and a block that
-//! is too large.
+//! Properties of an arena that no clause states: each value is dropped once. Places and stamps as they are used up, and
+//! a block that is too large.
 use super::expect;
 use Refused::{Full, Worn};
 use Step::{Counts, Found, Put, Taken};
@@ -77,15 +77,15 @@ fn more_memory_than_the_machine_can_address_is_refused(rt: HostRuntime) {
     expect(&rt, made.is_none(), true);
 }
 
-/// What is done with an arena. Ids are numbered in the order in which they are given.
+/// A call of an arena. Ids are numbered in the order in which they are given.
 enum Step {
     /// A value is put, or comes back.
     Put(u32, Option<Refused<u32>>),
-    /// What an id takes out.
+    /// The value that an id takes out.
     Taken(usize, Option<u32>),
-    /// What it finds.
+    /// The value of an id.
     Found(usize, Option<u32>),
-    /// How many values it holds, and how many more fit.
+    /// Numbers of values in it, and of those that still fit.
     Counts(u32, u32),
 }
 

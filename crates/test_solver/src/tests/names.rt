@@ -1,4 +1,4 @@
-//! What no clause says of names: how a fault shows one.
+//! A property of names that no clause states: how a fault shows one.
 use super::books::name;
 use super::check;
 

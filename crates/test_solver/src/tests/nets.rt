@@ -21,7 +21,7 @@ use std::process::Abort;
 /// which they are added.
 pub type Link = (u32, u32, [u32; 3]);
 
-/// What is done with a net, and what is seen of it then.
+/// A call of a net, and the expected state then.
 enum Step {
     /// So many nodes are added.
     Nodes(u32),
@@ -31,7 +31,7 @@ enum Step {
     Solved(&'static [usize], Result<i64, NoWay>),
     /// The same: its searches, and their looks.
     Counts(&'static [usize], (u64, u64)),
-    /// What flows from an arc on, along it and those behind it.
+    /// The flow from an arc on, along it and those after it.
     Flows(usize, &'static [u32]),
     /// A search for a path of no cost from a node to node 0, not along these arcs: how often it looks at an arc, and
     /// the path's steps, if there is a path.
@@ -47,7 +47,7 @@ struct World {
     arcs: Vec<ArcId>,
 }
 
-/// What stands at that place of a list.
+/// The arc at that place of a list.
 fn at<T: Copy>(rt: &impl Abort, list: &[T], number: usize) -> T {
     list.get(number).copied().expect(rt, "it was added")
 }
@@ -143,7 +143,7 @@ fn expect_flows(rt: &impl Abort, world: &World, first: usize, flows: &[u32]) {
     }
 }
 
-// The search for a path that is this one, or for one where there is none: its looks.
+// The looks of the search for a path: this one, or none.
 fn search_in(
     rt: &impl Abort,
     net: &Net,
@@ -323,7 +323,7 @@ static PLAYED: [&[Step]; 14] = [
         Arcs(&[(1, 3, [0, 1, 1]), (2, 3, [0, 1, 1]), (3, 0, [0, 1, 1])]),
         Solved(&[1], Ok(2)),
         Flows(0, &[1, 0, 1]),
-        // Where there is no way for both, none is left half done.
+        // If there is no way for both, none is left half done.
         Solved(&[1, 2], Err(NoWay)),
         Flows(0, &[0, 0, 0]),
         // One look at the source, and three at the node between it and the sink.

@@ -11,7 +11,7 @@ use firm_rules::{Case, Choice, Limits, Name, Preferred, Rows, use_of};
 use std::alloc::Global;
 use std::process::Abort;
 
-/// How many machines and tasks a book has at most.
+/// Greatest numbers of a book's machines and tasks.
 const MOST_MACHINES: u32 = 8;
 
 const MOST_TASKS: u32 = 24;
@@ -50,7 +50,7 @@ fn ample() -> Work {
     })
 }
 
-// What is proposed is the round's placement, and shown to be.
+// The proposal is the round's placement, and shown to be.
 fn expect_shown(rt: &impl Abort, proposer: &Proposer, case: &Case, wanted: &[Choice]) {
     let placement = proposer.placement();
     check(rt, placement == wanted, "the round's placement");
@@ -82,7 +82,7 @@ fn expect_proposed(rt: &impl Abort, proposer: &mut Proposer, case: &Case, wanted
     expect_shown(rt, proposer, case, wanted);
 }
 
-// Whether a proposal that may take so many looks is none; else it is the round's.
+// Whether a proposal with this many looks is none; else it is the round's.
 fn is_cut_off(
     rt: &impl Abort,
     proposer: &mut Proposer,
@@ -233,7 +233,7 @@ fn place_crowd(rt: &impl Abort, alloc: Global, book: &mut Book) {
     check(rt, work.searches() < 20, "a crowd takes few searches");
 }
 
-// Where no search is allowed none is made, though some of the tasks have no slot.
+// If no search is allowed none is made, though some of the tasks have no slot.
 fn expect_no_search(rt: &impl Abort, proposer: &mut Proposer, case: &Case) {
     let looks = 1_000_000;
     let mut work = Work::new(Allowance { searches: 0, looks });

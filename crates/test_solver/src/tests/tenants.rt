@@ -1,4 +1,4 @@
-//! What a tenant's round takes: a proposal, or searches behind one that was given up.
+//! The work of a tenant's round: a proposal, or searches after one that was given up.
 use super::books::{name, numbered};
 use super::canon::Counts;
 use super::{check, expect};
@@ -50,8 +50,8 @@ fn play(rt: &impl Abort, alloc: Global, (room, rows, allowed, wanted, proposed):
     expect(rt, tenant.proposed(), *proposed);
 }
 
-// A round is proposed and shown by so many looks, or takes these searches and their looks. A proposal that may read its
-// tasks and machines but not their ways counts them and comes to nothing.
+// A round is proposed and shown by this many looks, or takes these searches and their looks. A proposal that may read
+// its tasks and machines but not their ways counts them and comes to nothing.
 static COUNTED: [Counted; 6] = [
     ([9, 24], [2, 2], u64::MAX, (0, 0), 113),
     ([9, 24], [2, 2], 0, (3, 47), 0),

@@ -24,14 +24,14 @@ pub loop-place-preserved : goal.loop-place-preserved
 loop-place-preserved c = record {
   so_far = λ g mirrors net_is rows_is machines_is tasks_is hub_is.
       let here : c.loop-place.place < length c.args.rows.now.tasks = omega arith in
-      let listed : c.loop-place.place < length c.args.tasks.now = omega (arith, here, c.requires.tasks) in
+      let listed : c.loop-place.place < length c.args.tasks.now.items = omega (arith, here, c.requires.tasks) in
       let below : c.loop-place.place < length g.tasks = omega
       (arith, listed, ap (λ (l : List TaskParts). length l) tasks_is) in
       settle-next g c.args.rows.now c.args.heads.now.machines.now c.args.heads.now.hub c.args.choices.now
-      c.loop-place.place _ c.index-tasks-place.result
+      c.loop-place.place _ c.at.result.now
       c.stand_of-stand.result c.loop-place.net c.settle_task.new.net
       rows_is machines_is hub_is here below
-      (c.index-tasks-place.is ∙ ap (λ (l : List TaskParts). get_or l c.loop-place.place c.index-tasks-place.result)
+      (c.at.ensures ∙ ap (λ (l : List TaskParts). get_or l c.loop-place.place c.at.result.now)
       (sym tasks_is))
       (get_or_default c.args.choices.now c.loop-place.place Wait _ c.loop-place-test.true)
       c.stand_of-stand.ensures.stands

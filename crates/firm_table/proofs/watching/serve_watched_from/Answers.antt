@@ -35,6 +35,6 @@ returns-clause-in_full g c =
     let same = c.serve_lines.ensures.opening ∙ ap (λ (state : State). state.opening) c.in-Ok.ensures.state in
     err_weaker c.serve_lines.result _ _ (λ fault waiting reading.
     let told = waiting reading in
-    answers_up_to_date (opened c.args.opening) (state_of c.serve_lines.new.clerk.service) _ _ same
+    answers_up_to_date (opened c.args.opening) (state_of c.serve_lines.new.clerk.service.now) _ _ same
     told.0 (told_up_to_date _ _ _ _ told.1))
     c.serve_lines.ensures.waiting

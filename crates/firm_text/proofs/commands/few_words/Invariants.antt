@@ -3,7 +3,7 @@ use Rattle.arrayvec.specs.ArrayVec.{array_vec_len}
 use Rattle.firm_text.specs.Lines.{words}
 use Rattle.firm_text.proofs.commands.few_words.Given as goal
 
--- `counter` words were found, which are those before the rest
+-- `counter` words so far, which are those before the rest
 abbrev pub invariant-loop : goal.invariant-loop
 invariant-loop l = record {
   count : array_vec_len l.found ≡ l.counter;

@@ -164,7 +164,7 @@ kept : (c : goal.After-self-1)
     → Mirrors (record (graph_of c.self.inside) {
       rows = c.grow_tasks.new.rows;
       net = c.link-wide.new.net;
-      tasks = c.push_reserved-2.new.list.items;
+      tasks = c.push_task.new.tasks.items;
       asked = c.self.inside.asked + 1;
     })
 kept c =
@@ -182,8 +182,8 @@ kept c =
     (c.link_preferred-preferred.ensures.edit g.hub) in
     let owner = owner-at g c.args.self.now task c.self.view_is c.requires.found in
     said (task_added g c.link-wide.new.net parts task.job task.name task.preferred)
-    c.grow_tasks.new.rows g.machines g.jobs c.push_reserved-2.new.list.items c.in-Ok.ensures.ok refl refl
-    (c.push_reserved-2.ensures.items ∙ ap (λ (l : List TaskParts). l ++ parts ∷ []) c.grow_tasks.ensures.parts)
+    c.grow_tasks.new.rows g.machines g.jobs c.push_task.new.tasks.items c.in-Ok.ensures.ok refl refl
+    (c.push_task.ensures.items ∙ ap (λ (l : List TaskParts). l ++ parts ∷ []) c.grow_tasks.ensures.parts)
     (task-added g c.put_node-node.new.net c.link_preferred-preferred.new.net c.link-wait.new.net c.link-stay.new.net
     c.link-wide.new.net parts task.job task.name task.preferred
     c.index.result.now.node c.away_cost.result c.get.result c.self.invariant.graph.mirrors
@@ -209,7 +209,7 @@ invariant_of-self-2 c =
           (c.grow_tasks.ensures.sources ∙ c.self.invariant.sources)
           ∙ sym (map-append node c.self.inside.tasks.items (parts ∷ []))
           ∙ sym (ap (λ (l : List TaskParts). map node l)
-          (c.push_reserved-2.ensures.items ∙ ap (λ (l : List TaskParts). l ++ parts ∷ []) c.grow_tasks.ensures.parts));
+          (c.push_task.ensures.items ∙ ap (λ (l : List TaskParts). l ++ parts ∷ []) c.grow_tasks.ensures.parts));
     }
 
 pub returns-clause-graph : goal.returns-clause-graph

@@ -1,9 +1,7 @@
 use Rattle.std.proofs.Common.{◌≡◌, ◌<◌, ℕ, Some, length, map, get_or, bytes_eq, arith, refl, ap, subst, sym, ◌∙◌, List}
 use Rattle.std.proofs.Common.{◌++◌}
 use Rattle.std.specs.List.{position}
-use Rattle.std.specs.Vec.{with_items}
-use Rattle.std.specs.Prelude.{Vec}
-use Rattle.std.proofs.lemmas.List.{length-map, with_items_is}
+use Rattle.std.proofs.lemmas.List.{length-map}
 use Rattle.firm_net.specs.Net.{Net}
 use Rattle.firm_net.specs.Edits.{Span}
 use Rattle.firm_net.specs.declared.row.NodeId.{NodeId}
@@ -32,12 +30,6 @@ Left old new slots =
     (ns : List NodeId) (ss : List Span) (node sink : NodeId) (spread : ℕ) → Holds old old ns
     (slot_spans node sink spread 0 slots ++ ss) → Holds old new ns ss
 
--- what was written through a list's slice is what the list holds
-whole : {Z : Type 0} (v : Vec TaskParts Z) (was now : List TaskParts) → was ≡ v.items → length now ≡ length was
-    → (with_items v now).items ≡ now
-whole v was now e same =
-    with_items_is v now (omega (arith, same, ap (λ (l : List TaskParts). length l) e, v.ok.0))
-
 -- the graph, no task of which runs on the machine or prefers it
 abbrev vacated : Graph → List ℕ → Net → List TaskParts → Graph
 vacated g name net tasks = refitted g (record g.rows { tasks = map (evicted name) g.rows.tasks }) net tasks
@@ -54,21 +46,20 @@ record Emptied (g : Graph) (tasks : List TaskParts) (net after : Net) (place : �
   free : IsFree after parts.node
 
 emptied : (c : After-unlink_slots)
-    → Emptied (graph_of c.self.inside) c.forget_machine.new.tasks c.evict_tasks.new.net c.unlink_slots.new.net
+    → Emptied (graph_of c.self.inside) c.forget_machine.new.tasks.items c.evict_tasks.new.net c.unlink_slots.new.net
     c.args.place c.args.name (parts_of c.parts.inside)
 emptied c =
     let g : Graph = graph_of c.self.inside in
     let name : List ℕ = c.args.name in
     let place : ℕ = c.args.place in
     let net : Net = c.evict_tasks.new.net in
-    let tasks : List TaskParts = c.forget_machine.new.tasks in
+    let tasks : List TaskParts = c.forget_machine.new.tasks.items in
     let parts : MachineParts = parts_of c.parts.inside in
     let now : Graph = vacated g name net tasks in
     let mirrors : Mirrors now = c.evict_tasks.ensures.evicted
     (refitted g (forgetting_rows g.rows name) c.forget_machine.new.net tasks)
-    (c.forget_machine.ensures.forgotten g c.self.invariant.graph.mirrors refl refl (sym c.deref_mut.ensures.value)) refl
-    refl (sym (c.deref.ensures.value ∙ whole c.self.inside.tasks c.deref_mut.result.now tasks
-    c.deref_mut.ensures.value c.forget_machine.auto.tasks)) refl in
+    (c.forget_machine.ensures.forgotten g c.self.invariant.graph.mirrors refl refl refl) refl
+    refl refl refl in
     let below : place < length g.machines = omega (
       arith,
       seen-below machine_names g c.args.self.now name place c.self.view_is c.requires.found,
@@ -82,7 +73,7 @@ emptied c =
     let loose = all-loose name g.rows.tasks in
     let held = machine-unlinked now net place name parts mirrors below at named out loose c.unlink.new.net
     c.unlink_slots.new.net c.unlink.ensures.edit
-    (subst (Left c.unlink.new.net c.unlink_slots.new.net) c.deref-2.ensures.value c.unlink_slots.ensures.left) in
+    (subst (Left c.unlink.new.net c.unlink_slots.new.net) c.deref.ensures.value c.unlink_slots.ensures.left) in
     record {
       mirrors = mirrors;
       below = below;
@@ -102,44 +93,37 @@ pub drop_node-requires-clause-into : goal.drop_node-requires-clause-into
 drop_node-requires-clause-into c = (emptied (goal.at.drop_node-requires-clause-into c).After-unlink_slots).free.into
 
 kept : (c : goal.After-drop-parts-inside)
-    → Emptied (graph_of c.self.inside) c.forget_machine.new.tasks c.evict_tasks.new.net c.unlink_slots.new.net
+    → Emptied (graph_of c.self.inside) c.forget_machine.new.tasks.items c.evict_tasks.new.net c.unlink_slots.new.net
     c.args.place c.args.name (parts_of c.parts.inside)
     → Mirrors (record (graph_of c.self.inside) {
       rows = c.drain-evicted.new.self;
       net = c.drop_node.new.net;
       machines = c.remove-parts.new.self.items;
-      tasks = (with_items c.self.inside.tasks c.forget_machine.new.tasks).items;
+      tasks = c.forget_machine.new.tasks.items;
     })
 kept c e =
     let g : Graph = graph_of c.self.inside in
     let name : List ℕ = c.args.name in
     let place : ℕ = c.args.place in
-    let now : Graph = vacated g name c.evict_tasks.new.net c.forget_machine.new.tasks in
+    let now : Graph = vacated g name c.evict_tasks.new.net c.forget_machine.new.tasks.items in
     let rows = c.drain-evicted.ensures.rows
     ∙ ap (without_machine g.rows) (name-at (machine_names g.rows) name place e.named).0 in
     said (machine_dropped now c.drop_node.new.net place) c.drain-evicted.new.self c.remove-parts.new.self.items now.jobs
-    (with_items c.self.inside.tasks c.forget_machine.new.tasks).items
+    c.forget_machine.new.tasks.items
     (machine-rows c.drain-evicted.new.self g.rows name place rows c.drain-evicted.ensures.machines)
     c.remove-parts.ensures.items refl
-    (whole c.self.inside.tasks c.deref_mut.result.now c.forget_machine.new.tasks c.deref_mut.ensures.value
-    c.forget_machine.auto.tasks)
+    refl
     (machine-dropped now c.drop_node.new.net place name (parts_of c.parts.inside) e.mirrors e.below e.at e.named
     (all-out name g.rows.tasks) (all-loose name g.rows.tasks) c.unlink_slots.new.net e.held c.drop_node.ensures.edit)
 
 pub invariant_of-self : goal.invariant_of-self
 invariant_of-self c =
-    let node : TaskParts → NodeId = λ (p : TaskParts). p.node in
-    let after : List TaskParts = (with_items c.self.inside.tasks c.forget_machine.new.tasks).items in
-    let same : after ≡ c.forget_machine.new.tasks = whole c.self.inside.tasks c.deref_mut.result.now
-    c.forget_machine.new.tasks c.deref_mut.ensures.value c.forget_machine.auto.tasks in
-    let nodes : map node after ≡ map node c.self.inside.tasks.items =
-    ap (map node) same ∙ c.forget_machine.ensures.nodes ∙ ap (map node) c.deref_mut.ensures.value in
     record {
       graph = record {
         sound = c.drain-evicted.ensures.sound;
         mirrors = kept c (emptied (goal.at.invariant_of-self c).After-unlink_slots);
       };
-      sources = c.self.invariant.sources ∙ sym nodes;
+      sources = c.self.invariant.sources ∙ sym c.forget_machine.ensures.nodes;
     }
 
 pub returns-clause-graph : goal.returns-clause-graph

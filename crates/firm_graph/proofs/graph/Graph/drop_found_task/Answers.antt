@@ -103,3 +103,13 @@ returns-clause-rows c =
     c.remove_task.ensures.rows
     ∙ seen-name task_names (graph_of c.self.inside) c.args.self.now c.args.name c.args.place c.self.view_is
     c.requires.found without_task
+
+pub remove-parts-requires : goal.remove-parts-requires
+remove-parts-requires c =
+    omega (
+      arith,
+      seen-below task_names (graph_of c.self.inside) c.args.self.now c.args.name c.args.place c.self.view_is
+          c.requires.found,
+      length-map c.self.inside.rows.tasks (λ (t : Task). t.name),
+      c.self.invariant.graph.mirrors.tasks,
+    )

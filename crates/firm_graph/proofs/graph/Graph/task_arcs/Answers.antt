@@ -8,9 +8,9 @@ use Rattle.firm_graph.proofs.graph.Graph.task_arcs.Goals as goal
 
 pub returns-clause-preferences : goal.returns-clause-preferences
 returns-clause-preferences c =
-    let P : Graph → Type 0 = λ (g : Graph). length c.index.result.now.arcs.preferred
+    let P : Graph → Type 0 = λ (g : Graph). length c.at.result.now.arcs.preferred
     ≡ length (demand (view_of g).case c.args.place).preferred in
     let Q : Graph → Type 0 = λ (g : Graph). c.args.place < length g.rows.tasks in
     subst P c.self.view_is
-    (preferences-counted (graph_of c.self.inside) c.args.place c.index.result.now c.self.invariant.graph.mirrors
-    (subst Q (sym c.self.view_is) c.requires) c.index.ensures)
+    (preferences-counted (graph_of c.self.inside) c.args.place c.at.result.now c.self.invariant.graph.mirrors
+    (subst Q (sym c.self.view_is) c.requires) c.at.ensures)

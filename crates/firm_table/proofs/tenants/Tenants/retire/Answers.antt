@@ -8,7 +8,7 @@ use Rattle.firm_table.proofs.Books.{retirements_are_answered, retirements_are_re
 use Rattle.firm_table.proofs.Seated.{seated_within, seated_set}
 use Rattle.firm_table.proofs.tenants.Tenants.retire.Goals as goal
 
--- what an answer of the register tells of the tenant's place
+-- the tenant's place by the register's answer
 found_some : (found : Option ℕ) (at : ℕ) → Ok at ≡ ok_or {E = OperatorRefusal} found NoSuchTenant → found ≡ Some at
 found_some None at e = absurd (cc)
 found_some (Some place) at e = cc

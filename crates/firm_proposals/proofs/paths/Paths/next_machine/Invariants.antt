@@ -1,0 +1,5 @@
+use Rattle.firm_levels.specs.Work.{GoesOn}
+use Rattle.firm_proposals.proofs.paths.Paths.next_machine.Given as goal
+
+abbrev pub invariant-loop-number : goal.invariant-loop-number
+invariant-loop-number l = GoesOn l.initial.work l.work

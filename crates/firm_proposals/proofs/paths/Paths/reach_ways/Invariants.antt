@@ -1,5 +1,0 @@
-use Rattle.firm_levels.specs.Work.{GoesOn}
-use Rattle.firm_proposals.proofs.paths.Paths.reach_ways.Given as goal
-
-abbrev pub invariant-loop-number : goal.invariant-loop-number
-invariant-loop-number l = GoesOn l.initial.work l.work

@@ -1,5 +1,0 @@
-use Rattle.firm_levels.specs.Work.{GoesOn}
-use Rattle.firm_proposals.proofs.paths.Paths.see_tasks.Given as goal
-
-abbrev pub invariant-loop : goal.invariant-loop
-invariant-loop l = GoesOn l.initial.work l.work
