@@ -1,0 +1,1 @@
+"""firmctl: the commands of users and operators."""

@@ -1,0 +1,1 @@
+"""Modules that several programs of the service share: rosters, rows, files, sockets, settings and messages."""

@@ -1,0 +1,1 @@
+"""firmd: accepts clients' lines in turn, journals them, passes them to firm, and makes snapshots."""

@@ -1,0 +1,1 @@
+"""A journal that several hosts share through etcd: the leading firmd appends lines there, and all others follow."""

@@ -1,1 +1,0 @@
-"""One door to the tenants of many firmd: HAProxy's configuration."""

@@ -1,1 +1,0 @@
-"""firm-queue: users of a cluster submit work to firm, and agents run it."""
