@@ -1,14 +1,14 @@
 #!/usr/bin/env python3
-"""Proves the crates that a program stands on, and builds the program.
+"""Prove the crates that a program depends on, and build the program.
 
-usage: build.py [CRATE..]            proves and builds these programs and libraries, firm where none is named
+usage: build.py [CRATE..]            proves and builds these programs and libraries, by default firm
        build.py --run ARGUMENT..     does so with firm, and then becomes it, as ./firm does
 
-Crates are proved lowest first. The one with the most behind it gets all processors; others go on beside it where it
-leaves some idle, at lower priority and with fewer jobs, as memory allows. What an interrupted run has proved stands,
-and the next goes on from there: a crate is proved again where its sources, or those of a crate below, have changed.
-crates/NAME/out/statements has what was made of a crate, and the log of its check. Exit status: 0, 1 where a crate
-could not be proved or built, 2 for a wrong word, 127 without the kit, 128 plus the number of a signal.
+Crates are proved lowest first. The crate with the longest chain of proofs after it gets all processors. Others go on
+beside it if it leaves some idle, at lower priority and with fewer jobs, as memory allows. The proofs of an interrupted
+run stand, and the next run continues from there: a crate is proved again if its sources, or those of a crate below,
+have changed. crates/NAME/out/statements has a crate's library or program, and the log of its check. Exit status: 0, 1
+if a crate could not be proved or built, 2 for a wrong word, 127 without the kit, 128 plus the number of a signal.
 """
 
 from __future__ import annotations
@@ -30,12 +30,12 @@ import prover  # noqa: E402 (this leaves no file behind)
 from prover import ROOT, Crate  # noqa: E402
 
 PROGRAM = "firm"
-# What a check takes at most, as measured, and each further job of it: jobs share what they only read.
+# Measured maxima of a check's memory, and of each further job of it: jobs share memory that they only read.
 CHECK_BYTES = 4_000_000_000
 JOB_BYTES = 500_000_000
-MOST_JOBS = 8  # more seldom help, by the kit's own word
-NICENESS = 5  # of a check, for each beside it that more waits for
-# A check also reads the crates below, in about the time of so many of its own bytes of source.
+MAX_JOBS = 8  # the kit's documentation: more seldom help
+NICENESS = 5  # of a check, for each check beside it on which more depends
+# A check also reads the crates below, in about the time of this many bytes of its source.
 BELOW_PER_OWN = 20
 GLANCE_SECONDS = 0.1
 NEWS_SECONDS = 30
@@ -45,30 +45,30 @@ NO_KIT_STATUS = 127
 
 
 class Failed(Exception):
-    """A crate is not proved, or the program did not come of it."""
+    """Signals that a crate is not proved, or its program not built."""
 
 
 class Stopped(Exception):
-    """A signal asks for an end."""
+    """Signals a request to end."""
 
     def __init__(self, number: int) -> None:
         super().__init__(number)
         self.number = number
 
 
-# The signals that have come. They are heeded between steps, so that no check is started and then lost sight of.
+# Pending signals. They are handled between steps, so that no started check is lost.
 come: list[int] = []
 
 
 def glance() -> None:
-    """Waits a moment, and raises where a signal has come."""
+    """Wait a moment, and raise if a signal is pending."""
     time.sleep(GLANCE_SECONDS)
     if come:
         raise Stopped(come[0])
 
 
 def say(text: str) -> None:
-    """A line on standard error. That may be closed: the build goes on without it."""
+    """Write a line to standard error. That may be closed: the build goes on without it."""
     try:
         print(f"firm: {text}", file=sys.stderr, flush=True)
     except OSError:
@@ -81,12 +81,12 @@ def elapsed(since: float) -> str:
 
 
 def program_file(crate: Crate) -> Path:
-    """Where the program is run from."""
+    """Return the path that the program is run from."""
     return crate.folder / "out" / crate.name
 
 
 def size(crate: Crate) -> int:
-    """What the time of its check goes by, roughly."""
+    """Return a rough measure of its check's time."""
     return own_bytes(crate) + sum(map(own_bytes, crate.below)) // BELOW_PER_OWN
 
 
@@ -95,7 +95,8 @@ def own_bytes(crate: Crate) -> int:
 
 
 def in_order_of_chains(crates: list[Crate]) -> list[Crate]:
-    """The crates, those first behind which the most is to be proved in turn: their ends decide when all is proved."""
+    """Return the crates, first those with the longest chain of proofs after them, which decides the time of the
+    whole build."""
     chain: dict[Crate, int] = {}
     for crate in reversed(crates):
         above = [chain[other] for other in crates if crate in other.below]
@@ -104,7 +105,7 @@ def in_order_of_chains(crates: list[Crate]) -> list[Crate]:
 
 
 def free_bytes() -> int:
-    """The memory that is free, by Linux's count; enough for one check where that can't be told."""
+    """Return Linux's count of free memory; enough for one check if it can't be read."""
     try:
         found = re.search(r"MemAvailable:\s+(\d+) kB", Path("/proc/meminfo").read_text())
     except OSError:
@@ -113,7 +114,7 @@ def free_bytes() -> int:
 
 
 class Sources(NamedTuple):
-    """What tells whether a crate's sources are still those that a check began with; empty where they can't be read."""
+    """Return a stamp of a crate's sources, to see whether a check's are still current; empty if they can't be read."""
 
     content: str
     dates: str
@@ -122,7 +123,7 @@ class Sources(NamedTuple):
     def of(crate: Crate) -> Sources:
         try:
             return Sources(prover.sum_of_sources(crate), prover.sum_of_dates(crate))
-        except FileNotFoundError:  # a file went away meanwhile, as an editor's do
+        except FileNotFoundError:  # a file vanished meanwhile, as an editor's do
             return Sources("", "")
 
 
@@ -137,7 +138,7 @@ class Group:
         self.guard = subprocess.Popen(guard, stdin=subprocess.PIPE, stderr=subprocess.DEVNULL, process_group=0)
 
     def start(self, words: list[str], crate: Crate, log: Path, temporary: Path) -> subprocess.Popen[bytes]:
-        """Starts a command in a crate's folder, which writes to the log."""
+        """Start a command in a crate's folder, which writes to the log."""
         with open(log, "ab") as file:
             return subprocess.Popen(
                 words,
@@ -154,7 +155,7 @@ class Group:
         self.guard.communicate()
 
     def pause(self) -> None:
-        """Stops this process and all checks, until this one is told to go on."""
+        """Stop this process and all checks, until this one is continued."""
         os.killpg(self.guard.pid, signal.SIGSTOP)
         self.guard.send_signal(signal.SIGCONT)  # it still ends the checks if this process is killed
         os.kill(os.getpid(), signal.SIGSTOP)
@@ -162,7 +163,7 @@ class Group:
 
 
 class Check:
-    """A running check of a crate, which makes its rlib or its program in a folder of its own."""
+    """A running check of a crate, which makes its rlib or its program in a separate folder."""
 
     def __init__(self, crate: Crate, jobs: int, ahead: int, group: Group) -> None:
         self.crate, self.jobs, self.ahead, self.group = crate, jobs, ahead, group
@@ -183,21 +184,21 @@ class Check:
         shutil.rmtree(self.work, ignore_errors=True)
 
     def aim(self) -> list[str]:
-        """What rattle is to make, and where."""
+        """Return rattle's words for what it makes, and where."""
         if self.crate.is_program:
             return ["--toolchain", f"{prover.kit()}/toolchain", "--backend", "llvm", "-o", f"{self.new}.o"]
         return ["--statements", "-o", str(self.new)]
 
     @property
     def most_bytes(self) -> int:
-        """The memory that it takes at most."""
+        """Return the most memory that it takes."""
         return CHECK_BYTES + (self.jobs - 1) * JOB_BYTES
 
     def start(self, tool: str, words: list[str]) -> subprocess.Popen[bytes]:
         return self.group.start([f"{prover.kit()}/bin/{tool}", *words], self.crate, self.log, self.work)
 
     def is_well(self) -> bool:
-        """Whether the crate is proved and, of a program, linked: rattle says so by its status alone."""
+        """Return whether the crate is proved and, for a program, linked: rattle reports it only by its status."""
         if self.process.returncode == 0 and self.crate.is_program:
             kit = prover.kit()
             words = ["--target", "x86_64-unknown-linux-gnu", "--toolchain", f"{kit}/toolchain", "-o", str(self.new)]
@@ -207,11 +208,11 @@ class Check:
         return self.process.returncode == 0 and self.new.exists()
 
     def keep(self, below: list[str]) -> str:
-        """Puts what was made into its place, over rlibs with these stamps; its own stamp, empty if it can't be told.
+        """Put the product into its place, over rlibs with these stamps; return its own stamp, empty if unknown.
 
-        It can't where a source has been edited during the check, or one of a crate below had been during its own.
+        It is unknown if a source was edited during the check, or one of a crate below during its own.
         """
-        prover.stamp_file(self.crate).unlink(missing_ok=True)  # before what it is of
+        prover.stamp_file(self.crate).unlink(missing_ok=True)  # before the product itself changes
         if self.made.is_dir():
             shutil.rmtree(self.made)
         self.new.replace(self.made)
@@ -224,7 +225,7 @@ class Check:
 
 
 class Build:
-    """The checks of the needed crates: which are left, which run, and the stamps of those that are proved."""
+    """The checks of the needed crates: those left, those running, and the stamps of the proved ones."""
 
     def __init__(self, wanted: list[Crate]) -> None:
         needed = dict.fromkeys(crate for each in wanted for crate in (*each.below, each))
@@ -233,14 +234,14 @@ class Build:
         self.left = list(self.order)
         self.running: list[Check] = []
         self.stamps: dict[Crate, str] = {}
-        self.began, self.told = time.monotonic(), time.monotonic()
+        self.began, self.reported = time.monotonic(), time.monotonic()
         self.processors, self.memory = len(os.sched_getaffinity(0)), free_bytes()
         self.most_checks = max(self.processors, 2)
         self.take_standing()
         self.count = len(self.left)
 
     def run(self, advice: str) -> None:
-        """Proves all that is left and builds the programs, or raises at the first crate that is not proved."""
+        """Prove all crates left and build the programs, or raise at the first crate that is not proved."""
         if self.left:
             warn_of_logic()
             names = " and ".join(program.name for program in self.programs)
@@ -261,7 +262,7 @@ class Build:
                 glance()
                 self.take_ended(group)
                 self.take_standing()
-                self.tell_now_and_then()
+                self.report_progress()
         finally:
             group.end()
             for check in self.running:
@@ -272,11 +273,12 @@ class Build:
         return [self.stamps[library] for library in crate.below]
 
     def startable(self) -> list[Crate]:
-        """The crates whose libraries are proved."""
+        """Return the crates whose libraries are proved."""
         return [crate for crate in self.left if self.stamps.keys() >= set(crate.below)]
 
     def take_standing(self) -> None:
-        """Takes from those left what an earlier run has proved, of the same sources over the same libraries."""
+        """Remove from those left the crates that an earlier run has proved, from the same sources over the same
+        libraries."""
         while standing := [crate for crate in self.startable() if self.stands(crate)]:
             for crate in standing:
                 self.left.remove(crate)
@@ -287,8 +289,8 @@ class Build:
         return bool(made) and all(below) and made == prover.stamp(Sources.of(crate).content, below)
 
     def start_checks(self, group: Group) -> None:
-        """Starts what can be, as far as the memory allows: the first in the order of chains with a job a processor, the
-        next with three for four, and those behind it with half as many. More would idle less at times, but a check of
+        """Start as many checks as the memory allows: the first in the order of chains with a job a processor, the
+        next with three for four, and later ones with half as many. More would idle less at times, but a check of
         several jobs takes up to a third more processor time than one of one."""
         startable = self.startable()
         for place, crate in enumerate(startable):
@@ -298,7 +300,7 @@ class Build:
                 return
             kept = CHECK_BYTES * min(more, len(startable) - place - 1)
             ahead = sum(self.order.index(check.crate) < self.order.index(crate) for check in self.running)
-            most_jobs = max(min(self.processors, MOST_JOBS) * max(4 - ahead, 2) // 4, 1)
+            most_jobs = max(min(self.processors, MAX_JOBS) * max(4 - ahead, 2) // 4, 1)
             jobs = min(1 + max(spare - kept, 0) // JOB_BYTES, most_jobs)
             self.left.remove(crate)
             self.running.append(Check(crate, jobs, ahead, group))
@@ -308,27 +310,27 @@ class Build:
             self.running.remove(check)
             if check.is_well():
                 self.stamps[check.crate] = check.keep(self.stamps_below(check.crate))
-                self.tell(f"{check.crate.name} is proved, in {elapsed(check.began)}")
+                self.report(f"{check.crate.name} is proved, in {elapsed(check.began)}")
             elif check.process.returncode == -signal.SIGKILL and check.jobs > 1:
                 self.running.append(Check(check.crate, 1, check.ahead, group))
-                self.tell(f"{check.crate.name} was killed, most likely for memory: once more, with one job")
+                self.report(f"{check.crate.name} was killed, most likely for memory: once more, with one job")
             else:
                 check.clear()
                 raise Failed(f"{check.crate.name} could not be proved and built: {check.log} says why")
 
-    def tell(self, news: str) -> None:
-        self.told = time.monotonic()
+    def report(self, news: str) -> None:
+        self.reported = time.monotonic()
         left = len(self.left) + len(self.running)
         say(f"{news}; {left} of {self.count} left, {elapsed(self.began)} so far")
 
-    def tell_now_and_then(self) -> None:
-        if self.running and time.monotonic() - self.told > NEWS_SECONDS:
+    def report_progress(self) -> None:
+        if self.running and time.monotonic() - self.reported > NEWS_SECONDS:
             at = (f"{check.crate.name} for {elapsed(check.began)}" for check in self.running)
-            self.tell("at " + " and ".join(at))
+            self.report("at " + " and ".join(at))
 
 
 def warn_of_logic() -> None:
-    """Says where the kit has another logic than the one that the crates are known to be proved in."""
+    """Warn if the kit's logic is not the one in which the crates' proofs were recorded."""
     logic = prover.kit_logic()
     if logic != prover.LOGIC:
         found = f"logic {logic}" if logic else "a logic that it does not tell"
@@ -336,7 +338,7 @@ def warn_of_logic() -> None:
 
 
 def install(program: Crate) -> None:
-    """Puts a program where it is run from, if it is not there; one that runs meanwhile is not disturbed."""
+    """Put a program into the place that it is run from, if it is missing there; a running one is not disturbed."""
     made, file = prover.made(program), program_file(program)
     if not file.exists() or file.read_bytes() != made.read_bytes():
         new = made.with_name("new")
@@ -345,7 +347,7 @@ def install(program: Crate) -> None:
 
 
 def wait_for_turn() -> None:
-    """Waits until no other run builds. Others wait until this one ends or is the program."""
+    """Wait until no other run builds. Others wait until this one ends or becomes the program."""
     turn = os.open(ROOT / "crates.txt", os.O_RDONLY)
     has_said = False
     while True:
@@ -360,14 +362,14 @@ def wait_for_turn() -> None:
 
 
 def become(file: Path, arguments: list[str]) -> None:
-    """Runs the file in place of this process."""
+    """Run the file in place of this process."""
     for number in (signal.SIGPIPE, signal.SIGXFSZ):
         signal.signal(number, signal.SIG_DFL)  # Python ignores them, and a program would inherit that
     os.execv(file, [str(file), *arguments])
 
 
 def build(wanted: list[Crate], advice: str) -> None:
-    """Builds the crates. Programs get the date of the build's begin: an edit made meanwhile is newer."""
+    """Build the crates. Programs get the date of the build's start: a later edit is newer."""
     wait_for_turn()
     began = time.time()
     build = Build(wanted)
@@ -378,7 +380,7 @@ def build(wanted: list[Crate], advice: str) -> None:
 
 
 def read_crates(names: list[str]) -> list[Crate]:
-    """The crates of these names."""
+    """Return the crates of these names."""
     crates = prover.crates_of_repository()
     wrong = [name for name in names if name not in crates]
     if wrong:

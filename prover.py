@@ -1,7 +1,7 @@
-"""What the scripts know of the prover: the kit's folder, the repository's crates, a crate's words for `rattle`, stamps.
+"""Facts about the prover for scripts: the kit's folder, the crates, a crate's words for `rattle`, stamps.
 
-A crate is built into an *rlib*, which the crates above it are proved over. A *stamp* is a sum over all that an rlib was
-made of: where a crate's is the same again, so is its rlib, and nothing needs to be proved.
+A crate is built into an *rlib*, which the crates above it are proved over. A *stamp* is a sum over all inputs of an
+rlib: if a crate's stamp is unchanged, so is its rlib, and nothing needs to be proved.
 """
 
 from __future__ import annotations
@@ -15,18 +15,18 @@ from pathlib import Path
 from typing import Callable, Iterable
 
 ROOT = Path(__file__).resolve().parent
-# The logic in which the crates are proved. A kit is known by it: two kits of one logic prove the same.
+# The logic in which the crates are proved. It identifies a kit: two kits of one logic prove the same.
 LOGIC = "dac8208d650f15bf"
 PARTS = ("src", "specs", "proofs")  # the folders of a crate that the prover reads
 
 
 class NoKit(Exception):
-    """There is no kit: rt is not on the PATH, or names none."""
+    """Signals that there is no kit: rt is not on the PATH, or names none."""
 
 
 @functools.cache
 def kit() -> Path:
-    """The kit's folder: that of the page which `rt doc` names."""
+    """Return the kit's folder: that of the page which `rt doc` names."""
     try:
         done = subprocess.run(["rt", "doc"], stdin=subprocess.DEVNULL, capture_output=True, text=True)
     except FileNotFoundError:
@@ -38,7 +38,7 @@ def kit() -> Path:
 
 
 def kit_identity() -> str:
-    """What the kit calls itself, as `rattle-kit-13b logic dac8208d650f15bf`."""
+    """Return the kit's identity, as `rattle-kit-13b logic dac8208d650f15bf`."""
     for name in ("KIT-ID", "WHAT"):
         if (kit() / name).exists():
             return (kit() / name).read_text().strip()
@@ -46,7 +46,7 @@ def kit_identity() -> str:
 
 
 def kit_logic() -> str:
-    """The logic of the kit, by its own word; empty where it does not tell."""
+    """Return the kit's logic, by its own word; empty if it does not report one."""
     found = re.search(r"\blogic (\w+)", kit_identity())
     return found[1] if found else ""
 
@@ -65,7 +65,7 @@ class Crate:
 
     @functools.cached_property
     def below(self) -> tuple[Crate, ...]:
-        """All crates of the repository that it stands on, lowest first."""
+        """Return all crates of the repository that it depends on, lowest first."""
         found: dict[Crate, None] = {}
         for library in self.libraries:
             found.update(dict.fromkeys([*library.below, library]))
@@ -76,12 +76,12 @@ class Crate:
         return (self.folder / "src" / "main.rt").exists()
 
     def sources(self) -> list[Path]:
-        """The files that the prover reads of it."""
+        """Return the files that the prover reads of it."""
         return sorted(file for part in PARTS for file in (self.folder / part).rglob("*") if file.is_file())
 
 
 def crates_of_repository() -> dict[str, Crate]:
-    """The crates of crates.txt by their names, each behind those that it stands on."""
+    """Return the crates of crates.txt by their names, each after its dependencies."""
     lines = (line.partition("#")[0].partition(":") for line in (ROOT / "crates.txt").read_text().splitlines())
     listed = {name.split()[0]: libraries.split() for name, _, libraries in lines if name.strip()}
     found: dict[str, Crate] = {}
@@ -98,9 +98,10 @@ def crates_of_repository() -> dict[str, Crate]:
 
 
 def words(crate: Crate, libraries: Callable[[Crate], Path]) -> list[str]:
-    """How `rattle check` and `rattle build`, run in the crate's folder, name it and what it stands on.
+    """Return the words of `rattle check` and `rattle build`, run in the crate's folder, for the crate and its
+    dependencies.
 
-    `libraries` tells where the rlib of each crate below lies.
+    `libraries` returns the path of each crate's rlib.
     """
     place = kit()
     found = ["--crate-name", crate.name, "src/main.rt" if crate.is_program else "src/lib.rt"]
@@ -116,23 +117,23 @@ def words(crate: Crate, libraries: Callable[[Crate], Path]) -> list[str]:
 
 
 def made(crate: Crate) -> Path:
-    """Where build.py puts what it makes of a crate: its rlib, of statements alone, or the program."""
+    """Return the folder of build.py's results for a crate: its rlib, of statements alone, or the program."""
     return crate.folder / "out" / "statements" / (crate.name if crate.is_program else f"{crate.name}.rlib")
 
 
 def stamp_file(crate: Crate) -> Path:
-    """The file that has the stamp of what was made of a crate; it is there only beside what it is of."""
+    """Return the file with the stamp of a crate's product; the file exists only beside that product."""
     return made(crate).with_name("stamp")
 
 
 def stamp_of_made(crate: Crate) -> str:
-    """The stamp of what was made of a crate; empty where nothing was, or it may be of other sources."""
+    """Return the stamp of a crate's product; empty without a product, or if it may be of other sources."""
     file = stamp_file(crate)
     return file.read_text() if file.exists() and made(crate).exists() else ""
 
 
 def sum_of_sources(crate: Crate) -> str:
-    """A sum over the crate's name, its line in crates.txt, and its files by path and content."""
+    """Return a sum over the crate's name, its line in crates.txt, and its files by path and content."""
     libraries = sorted([*(library.name for library in crate.libraries), *crate.of_kit])
     parts = [crate.name.encode(), " ".join(libraries).encode()]
     for file in crate.sources():
@@ -141,17 +142,17 @@ def sum_of_sources(crate: Crate) -> str:
 
 
 def sum_of_dates(crate: Crate) -> str:
-    """A sum that tells whether a file of the crate was written in the meantime, be it what it was before."""
+    """Return a sum that changes if a file of the crate is written, even with its former content."""
     return sum_of(f"{file} {file.stat().st_mtime_ns}".encode() for file in crate.sources())
 
 
 def stamp(sources: str, below: Iterable[str]) -> str:
-    """The stamp of what the kit makes of a crate with this sum of its sources, over rlibs with these stamps."""
+    """Return the stamp of the kit's product of a crate with this sum of its sources, over rlibs with these stamps."""
     return sum_of(part.encode() for part in (kit_identity(), sources, *sorted(below)))
 
 
 def sum_of(parts: Iterable[bytes]) -> str:
-    """A sum that no other list of parts has."""
+    """Return a sum that no other list of parts has."""
     total = hashlib.sha256()
     for part in parts:
         total.update(hashlib.sha256(part).digest())

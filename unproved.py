@@ -1,11 +1,11 @@
 #!/usr/bin/env python3
-"""Answers commands once, without any proof, and keeps nothing.
+"""Answer commands once, without any proof and without stored state.
 
 usage: ./firm --unproved (--roster FILE | --state FILE) [OPTION..] < COMMANDS
 
-This is a first look before a proved program is there: `rt try` runs the sources. No answer is sent before all
-commands are there, so it serves no live client. Exit status: the program's own; 2 where it can't be asked so, 70 where
-no answer came, 128 plus the number of a signal.
+This is for a first look before the program is proved: `rt try` runs the sources. It reads all commands before it sends
+the first answer, so it serves no live client. Exit status: the program's own; 2 for words that don't fit, 70 without an
+answer, 128 plus the number of a signal.
 """
 
 from __future__ import annotations
@@ -22,26 +22,26 @@ from pathlib import Path
 from typing import BinaryIO, NamedTuple, NoReturn
 
 CRATE = Path(__file__).resolve().parent / "crates" / "firm"
-MOST_BYTES = 64 << 20  # that rt try gives to a program
-MOST_SECONDS = 60  # that the program may run
+MAX_BYTES = 64 << 20  # the limit of rt try on a program's input
+MAX_SECONDS = 60  # the program's limit
 USAGE_STATUS = 2
 NO_ANSWER_STATUS = 70
 STOPS = (signal.SIGINT, signal.SIGTERM, signal.SIGHUP)
-# The last line of rt try where the program ended by itself, and the lines that are not the program's.
+# The last line of rt try for a program that ended by itself, and the lines that are not the program's.
 ENDED = re.compile(r"run=ended status=(\d+)")
 OF_RT = re.compile(r"(checked|races|interpreter|run)[:=]")
 
 
 class Stopped(Exception):
-    """A signal asks for an end."""
+    """Signals a request to end."""
 
     def __init__(self, number: int) -> None:
         super().__init__(number)
         self.number = number
 
 
-class Asked(NamedTuple):
-    """The option that names the file to open with, what the file holds, and the other words for the program."""
+class Request(NamedTuple):
+    """The option that names the file to open with, the file's contents, and the other words for the program."""
 
     option: str
     file: bytes
@@ -57,7 +57,7 @@ def refuse(text: str) -> NoReturn:
     sys.exit(USAGE_STATUS)
 
 
-def read_words(arguments: list[str]) -> Asked:
+def read_words(arguments: list[str]) -> Request:
     parser = argparse.ArgumentParser("firm --unproved", add_help=False, allow_abbrev=False)
     parser.add_argument("--roster")
     parser.add_argument("--state")
@@ -68,26 +68,26 @@ def read_words(arguments: list[str]) -> Asked:
         refuse("give --roster FILE or --state FILE, one of the two")
     ((name, path),) = given.items()
     try:
-        return Asked(f"--{name}", Path(path).read_bytes(), words)
+        return Request(f"--{name}", Path(path).read_bytes(), words)
     except OSError as error:
         refuse(f"no {name}: {path}: {error.strerror}")
 
 
 def read_input(to: BinaryIO) -> None:
-    """Reads all commands: rt try itself would cut an input that is silent for two seconds."""
+    """Read all commands: rt try itself would cut an input that is silent for two seconds."""
     while block := os.read(sys.stdin.fileno(), 1 << 20):
         to.write(block)
-        if to.tell() > MOST_BYTES:
-            refuse(f"more than {MOST_BYTES >> 20} MiB of commands")
+        if to.tell() > MAX_BYTES:
+            refuse(f"more than {MAX_BYTES >> 20} MiB of commands")
 
 
-def try_program(asked: Asked, folder: Path) -> int:
-    """Runs the program on the input in the folder, where rt try writes what it says; the status of rt."""
-    (folder / "opened").write_bytes(asked.file)
-    words = ["rt", "try", "--seconds", str(MOST_SECONDS), "--data", f"opened={folder}/opened"]
+def try_program(request: Request, folder: Path) -> int:
+    """Run the program on the input in the folder, to which rt try writes its output; return rt's status."""
+    (folder / "opened").write_bytes(request.file)
+    words = ["rt", "try", "--seconds", str(MAX_SECONDS), "--data", f"opened={folder}/opened"]
     with open(folder / "input", "rb") as given, open(folder / "said", "wb") as said:
         process = subprocess.Popen(
-            [*words, "--", asked.option, "opened", *asked.words],
+            [*words, "--", request.option, "opened", *request.words],
             cwd=CRATE,
             env={**os.environ, "TMPDIR": str(folder)},
             stdin=given,
@@ -96,16 +96,16 @@ def try_program(asked: Asked, folder: Path) -> int:
     try:
         return process.wait()
     except BaseException:
-        process.terminate()  # it ends what it started
+        process.terminate()  # it ends the processes that it started
         process.wait()
         raise
 
 
-def answer(asked: Asked, folder: Path) -> int:
+def answer(request: Request, folder: Path) -> int:
     with open(folder / "input", "wb") as commands:
         read_input(commands)
     say("UNPROVED: no proof stands behind this answer, which takes about two minutes")
-    try_program(asked, folder)
+    try_program(request, folder)
     lines = (folder / "said").read_text(errors="replace").splitlines()
     # The statuses of rt itself look like the program's: the line tells them apart.
     ended = ENDED.match(lines[-1]) if lines else None
@@ -113,7 +113,7 @@ def answer(asked: Asked, folder: Path) -> int:
         if not (ended and OF_RT.match(line)):
             print(line, file=sys.stderr)
     if not ended:
-        say(f"UNPROVED: no answer in {MOST_SECONDS} s and 1 MiB; ./firm without --unproved has no such limits")
+        say(f"UNPROVED: no answer in {MAX_SECONDS} s and 1 MiB; ./firm without --unproved has no such limits")
         return NO_ANSWER_STATUS
     say("UNPROVED: no proof stands behind this answer; ./firm without --unproved proves the program first")
     return int(ended[1])
@@ -131,12 +131,12 @@ def main(arguments: list[str]) -> int:
             signal.signal(number, stop)
     if shutil.which("rt") is None:
         refuse("rt of the Rattle kit is not on the PATH")
-    asked = read_words(arguments)
+    request = read_words(arguments)
     if sys.stdin is None or sys.stdin.isatty():
         refuse("it answers once all commands are there: give them by < FILE")
     try:
         with tempfile.TemporaryDirectory(prefix="firm-unproved-") as folder:
-            return answer(asked, Path(folder))
+            return answer(request, Path(folder))
     except Stopped as stopped:
         return 128 + stopped.number
 

@@ -1,4 +1,4 @@
-"""Measures firm-api over a queue on this host: submissions, the status of a task beside them, and a user's list.
+"""Measure firm-api over a queue on this host: submissions, the status of a task beside them, and a user's list.
 
 usage: tools/run bench/api.py [--seconds N] [--folder DIR]
 Each line is a figure, with the load of the host beside it. It needs the built program and what tests/api.py needs. The
@@ -21,7 +21,8 @@ from pathlib import Path
 
 from api_kit import Site
 from harness.program import BUILT
-from queue_kit import Case, Client
+from queue_client import as_user_does
+from queue_kit import Case
 
 CLIENTS, BATCH, USERS, OF_USER = 50, 100, 100, 1_000
 PAUSE_SECONDS = 0.005  # between two reads of a status
@@ -36,7 +37,7 @@ def request_of(path: str, count: int, key: str) -> bytes:
 
 
 async def answer(reader: asyncio.StreamReader) -> bytes:
-    """The head of an answer, whose body is read too."""
+    """Read an answer with its body; return its head."""
     head = await reader.readuntil(b"\r\n\r\n")
     size = int(head.lower().split(b"content-length:")[1].split(b"\r\n")[0])
     await reader.readexactly(size)
@@ -83,7 +84,7 @@ async def statuses(site: Site, task: str, seconds: float, took: list[float]) -> 
 
 
 def measure(site: Site, what: str, count: int, gap: float, seconds: float) -> None:
-    """Prints how many tasks are submitted in a second, and how long a status takes meanwhile."""
+    """Print the tasks submitted in a second, and the time of a status meanwhile."""
     made, read = list[float](), list[float]()
     child = os.fork()
     if child == 0:  # the readers' process has nothing else to do
@@ -107,8 +108,8 @@ def measure(site: Site, what: str, count: int, gap: float, seconds: float) -> No
     asyncio.run(run())
     rate = len(made) * count / (time.monotonic() - began)
     os.waitpid(child, 0)
-    own = (processor_seconds(site) - before) / (time.monotonic() - began)
-    print(f"{what}: the process for reads works {own:.0%} of the time", flush=True)
+    reads, changes = ((now - then) / (time.monotonic() - began) for now, then in zip(processor_seconds(site), before))
+    print(f"{what}: the process for reads works {reads:.0%} of the time, that for changes {changes:.0%}", flush=True)
     report(f"{what}: {rate:,.0f} submissions/s, a request of {count}", made)
 
 
@@ -119,13 +120,14 @@ def report(what: str, took: Sequence[float]) -> None:
     print(f"{what}: p50 {middle:.1f} ms, p99 {late:.1f} ms, {len(found):,} times (load {load:.0f})", flush=True)
 
 
-def fill(case: Case) -> None:
-    """Submits the tasks of many users, in whose names root asks the queue."""
+def fill(site: Site) -> None:
+    """Submit the tasks of many users."""
+    one = {"command": ["sleep", "2"], "dir": "/tmp", "hold": True}
     for user in range(USERS):
-        with Client(case.socket) as client:
-            client.ask("as", user=FIRST_USER + user, operator=False)
-            one = {"command": ["sleep", "2"], "dir": "/tmp", "hold": True}
-            client.ask("submit-all", submissions=[one] * OF_USER)
+        body = {"submissions": [one] * OF_USER}
+        status = as_user_does(FIRST_USER + user, lambda: site.ask("POST", site.of("submissions"), body).status)
+        if status != 201:
+            raise RuntimeError(f"status {status}")
 
 
 def lists(site: Site, times: int) -> None:
@@ -137,35 +139,34 @@ def lists(site: Site, times: int) -> None:
         if len(found["tasks"]) != OF_USER:
             raise RuntimeError(f"{len(found['tasks'])} rows")
     report(f"the {OF_USER:,} tasks of one user among {USERS * OF_USER:,}", took)
-    own = (processor_seconds(site) - before) / times
+    own = (processor_seconds(site)[0] - before[0]) / times
     print(f"of which the process for reads works {own * 1_000:.0f} ms", flush=True)
 
 
-def processor_seconds(site: Site) -> float:
-    """The time that the process for reads has worked."""
-    fields = Path(f"/proc/{site.reads_process()}/stat").read_text().rpartition(")")[2].split()
-    return (int(fields[11]) + int(fields[12])) / os.sysconf("SC_CLK_TCK")
+def processor_seconds(site: Site) -> tuple[float, ...]:
+    """Return the processor time of the processes for reads and for changes."""
+    stats = (Path(f"/proc/{pid}/stat").read_text() for pid in (site.reads_process(), site.pid))
+    rows = (text.rpartition(")")[2].split() for text in stats)
+    return tuple((int(fields[11]) + int(fields[12])) / os.sysconf("SC_CLK_TCK") for fields in rows)
 
 
 def main() -> None:
     parser = argparse.ArgumentParser(description=(__doc__ or "").splitlines()[0])
-    parser.add_argument("--seconds", type=float, default=10.0, metavar="N", help="of each measurement")
+    parser.add_argument("--seconds", type=float, default=10.0, metavar="N", help="seconds of each measurement")
     parser.add_argument("--folder", type=Path, default=Path(tempfile.gettempdir()), metavar="DIR")
     given = parser.parse_args()
-    with Case(str(BUILT), "--lease=600", "--most-in-all=10000000", folder=given.folder) as case:
-        case.start()
-        site = Site(case).start()
-        try:
-            site.submit("x", hold=True)
-            fill(case)
-            lists(site, 3 * USERS // 5)
-            measure(site, "quiet", 1, 1e9, given.seconds / 2)
-            steady = f"{CLIENTS} clients by {BATCH}, 2,000 tasks a second"
-            measure(site, steady, BATCH, CLIENTS * BATCH / 2_000, given.seconds)
-            measure(site, f"{CLIENTS} clients, closed loop by {BATCH}", BATCH, 0, given.seconds)
-            measure(site, f"{CLIENTS} clients, closed loop, single", 1, 0, given.seconds)
-        finally:
-            site.kill()
+    options = ("--lease=600", "--most-in-all=10000000", "--socket-mode=666")
+    with Case(str(BUILT), *options, folder=given.folder) as case:
+        case.folder.chmod(0o755)
+        site = Site(case.start())
+        site.submit("x", hold=True)
+        fill(site)
+        lists(site, 3 * USERS // 5)
+        measure(site, "quiet", 1, 1e9, given.seconds / 2)
+        steady = f"{CLIENTS} clients by {BATCH}, 2,000 tasks a second"
+        measure(site, steady, BATCH, CLIENTS * BATCH / 2_000, given.seconds)
+        measure(site, f"{CLIENTS} clients, closed loop by {BATCH}", BATCH, 0, given.seconds)
+        measure(site, f"{CLIENTS} clients, closed loop, single", 1, 0, given.seconds)
 
 
 if __name__ == "__main__":

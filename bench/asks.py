@@ -1,11 +1,11 @@
-"""Measures how long firmctl's questions take on a full tenant, and where that time goes.
+"""Measure the time of firmctl's questions on a full tenant, and the parts of that time.
 
 usage: tools/run bench/asks.py [--kinds KIND,..] [--tasks N] [--machines N] [--repeats N] [--keep]
-Prints tables in Markdown of milliseconds by the clock, each the median of some runs. Of a kind of stream, before its
-last round: `view` is the state's way from the viewer's rows to firmctl, `what-if` a drain of a machine and a round,
-`why` the reasons for a task that waits, with trials of its weight, each with the state at hand; `firm` and
-`firm_explain` are one run of these programs within them. `firmctl` is a start of the program that asks nothing, and
-`python` one of Python.
+Prints tables in Markdown of milliseconds by the clock, each the median of some runs. The questions concern a kind of
+stream, before its last round: `view` is the state's way from the viewer's rows to firmctl, `what-if` a drain of a
+machine and a round, `why` the reasons for a task that waits, with trials of its weight, each with the state at hand;
+`firm` and `firm_explain` are one run of these programs within them. `firmctl` is a start of the program without a
+question, and `python` one of Python.
 """
 
 from __future__ import annotations
@@ -30,7 +30,7 @@ COLUMNS = ("kind", "rows", "view", "what-if", "firm", "why", "firm_explain")
 
 
 def median_of(question: Callable[[], object], repeats: int) -> str:
-    """The median of some runs, in milliseconds."""
+    """Return the median of some runs, in milliseconds."""
     found = []
     for _ in range(repeats):
         begun = time.perf_counter()
@@ -40,7 +40,7 @@ def median_of(question: Callable[[], object], repeats: int) -> str:
 
 
 def state_before(stream: Stream) -> str:
-    """The state before the last round of a stream."""
+    """Return the state before the last round of a stream."""
     *former, last = ["".join(f"{line}\n" for line in lines) for lines in stream.parts]
     text = "".join(f"{lines}{TENANT} round\n" for lines in former) + last
     with tempfile.NamedTemporaryFile(prefix="firm-", suffix=".csv") as roster:

@@ -1,9 +1,9 @@
 // Clients of a Unix socket that each send a request, wait for its reply and send the next.
 //
 // usage: clients SOCKET CLIENTS REQUESTS REQUEST
-// REQUEST is sent as it stands, with \r and \n for themselves; a reply is what comes up to a line feed. Prints requests a
-// second, and the median and the 99th percentile of a request's time in milliseconds. Exit status 1, with the reason on
-// standard error, where a client is not served.
+// REQUEST is sent with \r and \n replaced by their bytes; a reply ends with a line feed. Prints requests a second, and
+// the median and the 99th percentile of a request's time in milliseconds. Exit status 1, with the reason on standard
+// error, if a client is not served.
 
 #include <errno.h>
 #include <stdio.h>
@@ -50,7 +50,7 @@ static int connected(const char *path) {
     }
     strcpy(address.sun_path, path);
     int client = socket(AF_UNIX, SOCK_STREAM, 0);
-    // A full queue of connections asks for another try, as the kernel says.
+    // The kernel asks for another try while the queue of connections is full.
     while (connect(client, (struct sockaddr *)&address, sizeof address) != 0) {
         if (errno != EAGAIN) {
             fail(path);

@@ -1,9 +1,9 @@
-"""Measures three replicas with a journal in etcd beside a firmd alone, a client's silence, and what a shard takes.
+"""Measure three replicas with a journal in etcd beside a single firmd, a client's silence, and the load of a shard.
 
 usage: tools/run bench/cluster.py [--program FILE] [--folder DIR] [--requests N] [--lines N] [--seconds N] [--keep]
-In turn firmd alone, three replicas over three members of etcd, and these behind the door are asked by the same clients;
-all are on this host, with their files in one folder, so they share its processors and its disk. It needs a C compiler,
-etcd-server, haproxy and openssl. --keep writes docs/results/cluster.md.
+It measures in turn firmd alone, three replicas over three members of etcd, and the API of the leading one. All are on
+this host, with their files in one folder, so they share its processors and its disk. It needs a C compiler,
+etcd-server, openssl and python3-aiohttp. --keep writes docs/results/cluster.md.
 """
 
 from __future__ import annotations
@@ -28,11 +28,13 @@ import results
 from requests import Figure, started
 from shared import BUILT, ROOT, CannotRun, Missed, run_script
 
-from door import Door, start_replicas
 from etcd_kit import NAMES, Members, Replicas, is_served, require_programs, until
 from harness.checks import Skipped
 from harness.guard import guard
+from replica_apis import Apis
 from replica_chaos import KILLED, STOPPED, Chaos
+
+from firm.client.calls import lines
 
 ROSTER = "tenant,nodes,arcs,life,spread,churn\nalpha,4096,65536,1099511627776,1,500\n"
 TENANTS = 64  # of a shard
@@ -65,7 +67,7 @@ def replicas_in(options: Options, roster: str = ROSTER) -> Iterator[tuple[Member
 
 
 def flood(path: Path, count: int) -> float:
-    """Lines a second of a client that doesn't wait for replies."""
+    """Return the lines a second of a client that doesn't wait for replies."""
     text = b"".join(b"alpha where nobody-%05d\n" % (number % 99_999) for number in range(count))
     with socket.socket(socket.AF_UNIX) as connected:
         connected.connect(str(path))
@@ -98,7 +100,7 @@ def row_of(options: Options, clients: Path, path: Path) -> list[str]:
 
 
 def beside(options: Options, clients: Path) -> None:
-    """Lines and requests a second."""
+    """Measure lines and requests a second."""
     print("## Beside a firmd alone\n")
     print(
         "Lines a second of one client that doesn't wait; and requests a second of clients that wait for each reply, in"
@@ -118,15 +120,15 @@ def beside(options: Options, clients: Path) -> None:
         print(f"| {label} |", " | ".join(cells), "|", flush=True)
 
 
-def by_door(options: Options) -> None:
-    """A request by the door, and by the leader's own socket."""
-    with tempfile.TemporaryDirectory(dir=options.folder, prefix="firm-") as name, replicas_in(options) as (_, replicas):
-        here = Door(Path(name))
+def by_api(options: Options) -> None:
+    """Measure a request by the API of the leader's host, over TLS, and by the leader's own socket."""
+    with replicas_in(options) as (_, replicas):
+        apis = Apis(replicas, "alpha")
         try:
-            here.write({"one": list(NAMES)}, {"alpha": ["one"]})
-            start_replicas(here, replicas)
-            until(lambda: here.serves("alpha"), "alpha is served")
-            with here.visit("alpha") as visitor, socket.socket(socket.AF_UNIX) as plain:
+            replicas.start(*NAMES)
+            apis.start(*NAMES)
+            client = apis.client()
+            with socket.socket(socket.AF_UNIX) as plain:
                 plain.connect(str(replicas.socket(replicas.leads())))
                 stream = plain.makefile("rwb", buffering=0)
 
@@ -134,14 +136,14 @@ def by_door(options: Options) -> None:
                     stream.write(b"alpha show\n")
                     stream.readline()
 
-                found = [
-                    timed(ask, options.requests // 20),
-                    timed(lambda: visitor.ask("alpha show"), options.requests // 20),
-                ]
+                count = options.requests // 20
+                found = [timed(ask, count), timed(lambda: client.ask(lines("alpha", ["alpha show"])), count)]
         finally:
-            here.stop()
-    at_socket, at_door = found
-    print(f"\nOne client in Python waits {at_socket:.2f} ms at the leader's socket, {at_door:.2f} ms at the door.\n")
+            apis.stop()
+    at_socket, by_tls = found
+    print(
+        f"\nOne client in Python waits {at_socket:.2f} ms at the leader's socket, {by_tls:.2f} ms at its API by TLS.\n"
+    )
 
 
 def timed(ask: Callable[[], object], count: int) -> float:
@@ -154,14 +156,14 @@ def timed(ask: Callable[[], object], count: int) -> float:
 
 
 def silences(options: Options) -> None:
-    """How long clients hear nothing."""
+    """Measure the time without replies to clients."""
     from replica_chaos import ROSTER as CHAOS_ROSTER
 
     with replicas_in(options, CHAOS_ROSTER.decode()) as (members, replicas):
         verdict = Chaos(members, replicas, 1).run(options.seconds, ["leader", "stop"])
     if verdict.lost or verdict.twice or not verdict.are_equal:
         raise Missed(str(verdict))
-    print("## Silence\n\nSeconds without any answer to 16 clients, behind the event; a lease is three seconds.\n")
+    print("## Silence\n\nSeconds without any answer to 16 clients, after the event; a lease is three seconds.\n")
     print("| | events | least | median | most |\n| --- | ---: | ---: | ---: | ---: |")
     for what in (KILLED, STOPPED):
         found = sorted(event.silence for event in verdict.events if event.what == what)
@@ -170,7 +172,7 @@ def silences(options: Options) -> None:
 
 
 def shards(options: Options) -> None:
-    """What a shard takes: rounds of all its tenants at a time."""
+    """Measure the rounds of all tenants of a shard at a time."""
     print(
         f"## A shard\n\nA firmd of {TENANTS} tenants, all alike. Each one's client ends a task, begins another and asks"
     )
@@ -235,7 +237,7 @@ def shard_row(options: Options, machines: int, slots: int, tasks: int) -> str:
 
 
 def churn(path: Path, name: str, shape: tuple[int, int, int], is_over: threading.Event, times: list[float]) -> None:
-    """A tenant whose tasks come and go; each change has a round."""
+    """Play a tenant whose tasks come and go; each change has a round."""
     machines, slots, tasks = shape
     with socket.socket(socket.AF_UNIX) as connected:
         connected.connect(str(path))
@@ -269,7 +271,7 @@ def megabytes(pid: int) -> float:
 
 
 def memory_of(pid: int, name: str) -> float:
-    """That of a child by its name."""
+    """Return the memory of a child by its name."""
     for child in Path(f"/proc/{pid}/task/{pid}/children").read_text().split():
         if Path(f"/proc/{child}/comm").read_text().strip() == name:
             return megabytes(int(child))
@@ -283,7 +285,7 @@ def show(options: Options) -> int:
         clients = Path(name) / "clients"
         subprocess.run(["cc", "-O2", "-o", clients, ROOT / "bench" / "clients.c"], check=True)
         beside(options, clients)
-    by_door(options)
+    by_api(options)
     silences(options)
     shards(options)
     print(f"\nLoad of the last minute at the end {os.getloadavg()[0]:.1f}.")
@@ -293,17 +295,17 @@ def show(options: Options) -> int:
 def main() -> int:
     parser = argparse.ArgumentParser(description=(__doc__ or "").splitlines()[0])
     parser.add_argument("--program", default=str(BUILT))
-    parser.add_argument("--folder", type=Path, default=ROOT / "out", help="on a disk")
+    parser.add_argument("--folder", type=Path, default=ROOT / "out", help="folder on a disk")
     parser.add_argument("--requests", type=int, default=10_000)
     parser.add_argument("--lines", type=int, default=300_000)
-    parser.add_argument("--seconds", type=float, default=80, help="of kills; a quarter of it for each shard")
+    parser.add_argument("--seconds", type=float, default=80, help="seconds of kills; a quarter of them for each shard")
     parser.add_argument("--keep", action="store_true", help=results.HELP)
     found = parser.parse_args()
     guard()
     found.folder.mkdir(exist_ok=True)
     options = Options(found.program, found.folder, found.requests, found.lines, found.seconds, found.keep)
     try:
-        require_programs("etcd", "haproxy", "openssl")
+        require_programs("etcd", "openssl")
     except Skipped as reason:
         raise CannotRun(str(reason)) from None
     return results.show_and_keep("cluster", options.keep, partial(show, options))

@@ -1,9 +1,8 @@
-"""Measures firmd beside firm alone: lines and requests a second, times of a request and of a small round, the replay.
+"""Measure firmd beside firm alone: lines and requests a second, times of a request and of a small round, the replay.
 
 usage: tools/run bench/firmd.py [--program FILE] [--folder DIR] [--lines N] [--requests N] [--repeats R]
-The journal is in a new folder under DIR, /dev/shm where none is named. Each figure is the best of R runs, in turn with
-firm alone: the same lines over its pipes, by the same client. Every reply is counted, and the last one's number is
-checked.
+The journal is in a new folder under DIR, by default /dev/shm. Each figure is the best of R runs, in turn with firm
+alone: the same lines over its pipes, by the same client. Every reply is counted, and the last one's number is checked.
 """
 
 from __future__ import annotations
@@ -43,7 +42,7 @@ CLIENTS = 50
 
 @dataclass(frozen=True)
 class Pair:
-    """A figure of firm alone, 0 where it has none, and the same of firmd."""
+    """A figure of firm alone, 0 if it has none, and the same of firmd."""
 
     alone: float
     served: float
@@ -51,7 +50,7 @@ class Pair:
 
 @dataclass
 class Pipes:
-    """One way to speak with a firm: where to write, and where to read."""
+    """The pipes to and from a firm."""
 
     write: int
     read: int
@@ -69,7 +68,7 @@ class Setup:
 
     @contextmanager
     def alone(self) -> Iterator[Pipes]:
-        """firm alone, with the rows."""
+        """Start firm alone, with the rows."""
         words = [self.program, "--roster", str(self.roster)]
         with subprocess.Popen(words, stdin=subprocess.PIPE, stdout=subprocess.PIPE, bufsize=0) as firm:
             if firm.stdin is None or firm.stdout is None:
@@ -81,7 +80,7 @@ class Setup:
 
     @contextmanager
     def served(self) -> Iterator[Path]:
-        """firmd over a new state, with the rows; the path of its socket."""
+        """Start firmd over a new state, with the rows; yield the path of its socket."""
         with tempfile.TemporaryDirectory(dir=self.folder) as name:
             path = Path(name) / "socket"
             with self.daemon(Path(name) / "state", path):
@@ -91,7 +90,7 @@ class Setup:
 
     @contextmanager
     def daemon(self, state: Path, path: Path) -> Iterator[str]:
-        """firmd over a state; what it said when it was ready."""
+        """Start firmd over a state; yield its messages until it was ready."""
         words = [sys.executable, str(ROOT / "service" / "firmd"), "--firm", self.program, "--state", str(state)]
         words += ["--roster", str(self.roster), "--socket", str(path)]
         with subprocess.Popen(words, stderr=subprocess.PIPE, text=True) as daemon:
@@ -124,7 +123,7 @@ def add_rows(pipes: Pipes) -> None:
 
 
 def receive(pipes: Pipes, count: int) -> bytes:
-    """Reads this number of replies; returns the last bytes."""
+    """Read this number of replies; return the last bytes."""
     last = b""
     while count > 0:
         chunk = os.read(pipes.read, 1 << 20)
@@ -142,7 +141,7 @@ def write_all(pipes: Pipes, text: bytes) -> None:
 
 
 def lines_a_second(pipes: Pipes, text: bytes) -> float:
-    """One client that sends without waiting."""
+    """Return the lines a second of one client that sends without waiting."""
     count, begun = text.count(b"\n"), time.perf_counter()
     sender = Thread(target=write_all, args=(pipes, text))
     sender.start()
@@ -156,7 +155,7 @@ def lines_a_second(pipes: Pipes, text: bytes) -> float:
 
 
 def times_of_requests(pipes: Pipes, line: bytes, count: int) -> list[float]:
-    """One client that waits for each reply."""
+    """Return the times of one client that waits for each reply."""
     found = []
     for _ in range(count):
         begun = time.perf_counter()
@@ -167,7 +166,7 @@ def times_of_requests(pipes: Pipes, line: bytes, count: int) -> list[float]:
 
 
 def requests_a_second(path: Path, count: int) -> tuple[float, float]:
-    """Clients that wait for each reply: requests a second of all, and the median of a request."""
+    """Run clients that wait for each reply; return the requests a second of all, and the median of a request."""
     poll, times = select.epoll(), list[float]()
     clients: dict[int, socket.socket] = {}
     sent: dict[int, float] = {}
@@ -211,7 +210,7 @@ def measure_lines(setup: Setup, text: bytes) -> Pair:
 
 
 def measure_median(setup: Setup, line: bytes, count: int) -> Pair:
-    """The median of a request of one client that waits, in milliseconds."""
+    """Return the median of a request of one client that waits, in milliseconds."""
 
     def alone() -> float:
         with setup.alone() as pipes:
@@ -225,7 +224,8 @@ def measure_median(setup: Setup, line: bytes, count: int) -> Pair:
 
 
 def measure_replay(setup: Setup, text: bytes) -> Pair:
-    """Lines a second of a replay: of firmd until it serves, of firm alone from file to file; both with their start."""
+    """Return the lines a second of a replay: of firmd until it serves, of firm alone from file to file; both with
+    their start."""
     count = text.count(b"\n")
     with tempfile.TemporaryDirectory(dir=setup.folder) as name:
         state, path, journal = Path(name) / "state", Path(name) / "socket", Path(name) / "journal.txt"
@@ -265,7 +265,7 @@ def mixed(count: int) -> bytes:
 
 
 def numbered(form: list[str], count: int) -> bytes:
-    """The rows, and then the form again and again, each time with the next number for its names."""
+    """Return the rows, and then the form again and again, each time with the next number for its names."""
     lines = [line % number if "%" in line else line for number in range(count // len(form)) for line in form]
     return text_of(ROWS + lines)
 

@@ -1,13 +1,13 @@
-"""Runs the gate and says what it cost: processor minutes by crate, for its proof, its tests and its edits.
+"""Run the gate and print its cost: processor minutes by crate, for its proof, its tests and its edits.
 
 usage: tools/run bench/gate.py [--keep] [COMMAND ...]
-The command is `tests/gate --all --anew` where none is named; `tests/edits firm_net` for some edits alone.
-The command's own output goes to standard error, the table to standard output; the exit status is the command's. --keep
-writes the crates' minutes to docs/results/gate.csv, by which tests/gate says how long it will take.
+The default command is `tests/gate --all --anew`; `tests/edits firm_net` measures some edits alone. The command's own
+output goes to standard error, the table to standard output; the exit status is the command's. --keep writes the crates'
+minutes to docs/results/gate.csv, from which tests/gate predicts its time.
 
-Each check of a crate is a process of the prover's: five times a second this script reads how much time each of them has
-taken (user and system, with that of the copies that it forks), so a check's last fifth of a second may be missing from
-its row. The last row is what the system charged for all.
+Each check of a crate is a separate process of the prover. This script reads the time of each of them five times a
+second (user and system, with that of the copies that it forks), so a check's last fifth of a second may be missing from
+its row. The last row is the system's total for all.
 """
 
 from __future__ import annotations
@@ -28,7 +28,7 @@ from shared import ROOT, CannotRun, run_script
 
 KEPT = ROOT / "docs" / "results" / "gate.csv"
 GATE = [str(ROOT / "tests" / "gate"), "--all", "--anew"]
-# Where edits are tried: by tests/edits, and by rt itself.
+# The programs that try edits: tests/edits, and rt itself.
 FOLDERS_OF_EDITS = ("firm-edits-", "rt-edit-")
 PAUSE = 0.2
 TICKS = os.sysconf("SC_CLK_TCK")
@@ -36,14 +36,14 @@ PARTS = ("proof", "tests", "edits")
 
 
 class Process(NamedTuple):
-    """A process as the system shows it: who started it, and the seconds that it and its ended children took."""
+    """A process as the system shows it: its parent, and the seconds that it and its ended children took."""
 
     parent: int
     seconds: float
 
 
 def processes() -> dict[int, Process]:
-    """All processes by their number."""
+    """Return all processes by their number."""
     found = {}
     for folder in Path("/proc").glob("[0-9]*"):
         try:
@@ -65,14 +65,14 @@ class Check(NamedTuple):
 
 
 class Cost(NamedTuple):
-    """A check, and the seconds that it took."""
+    """A check, and its seconds."""
 
     check: Check
     seconds: float
 
 
 def check_of(number: int) -> Check | None:
-    """What a process works on; None where it is none of the prover's."""
+    """Return the check that a process works on; None if it is none of the prover's."""
     folder = Path("/proc") / str(number)
     try:
         words = (folder / "cmdline").read_bytes().decode(errors="replace").split("\0")
@@ -87,7 +87,7 @@ def check_of(number: int) -> Check | None:
 
 
 def below(number: int, known: dict[int, Process]) -> list[int]:
-    """A process and all that it started, directly or not."""
+    """Return a process and all its descendants."""
     found = [number]
     for parent in found:
         found += (child for child, process in known.items() if process.parent == parent)
@@ -95,7 +95,7 @@ def below(number: int, known: dict[int, Process]) -> list[int]:
 
 
 def follow(command: list[str]) -> tuple[int, list[Cost]]:
-    """Runs the command; its exit status, and what each check cost."""
+    """Run the command; return its exit status, and the cost of each check."""
     costs: dict[int, Cost] = {}
     with subprocess.Popen(command, stdin=subprocess.DEVNULL, stdout=sys.stderr) as gate:
         while gate.poll() is None:
@@ -111,7 +111,7 @@ def follow(command: list[str]) -> tuple[int, list[Cost]]:
 
 
 def minutes_of(costs: list[Cost]) -> Minutes:
-    """The minutes of each crate by part, the dearest crate first."""
+    """Return the minutes of each crate by part, the dearest crate first."""
     minutes: Minutes = defaultdict(lambda: dict.fromkeys(PARTS, 0.0))
     for check, seconds in costs:
         minutes[check.crate][check.part] += seconds / 60
@@ -119,7 +119,7 @@ def minutes_of(costs: list[Cost]) -> Minutes:
 
 
 def print_table(minutes: Minutes) -> None:
-    """A row for each crate, and one for all."""
+    """Print a row for each crate, and one for all."""
     print("| crate | proof | tests | edits | sum |\n| --- | ---: | ---: | ---: | ---: |")
     for crate, parts in minutes.items():
         print(row(f"`{crate}`", [parts[part] for part in PARTS]))
@@ -127,7 +127,7 @@ def print_table(minutes: Minutes) -> None:
 
 
 def keep(minutes: Minutes) -> None:
-    """Writes the table down for tests/gate."""
+    """Write the table for tests/gate."""
     KEPT.parent.mkdir(parents=True, exist_ok=True)
     with open(KEPT, "w", newline="") as file:
         rows = csv.writer(file, lineterminator="\n")
@@ -142,7 +142,7 @@ def row(name: str, minutes: list[float]) -> str:
 def main() -> int:
     parser = argparse.ArgumentParser(description=(__doc__ or "").splitlines()[0])
     parser.add_argument("--keep", action="store_true", help="write the minutes to docs/results/gate.csv")
-    parser.add_argument("command", nargs=argparse.REMAINDER, metavar="COMMAND", help="what is measured")
+    parser.add_argument("command", nargs=argparse.REMAINDER, metavar="COMMAND", help="the command to measure")
     options = parser.parse_args()
     command: list[str] = options.command or GATE
     if shutil.which(command[0]) is None:

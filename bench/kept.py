@@ -1,4 +1,4 @@
-"""What measurements keep: a record a line, as JSON, in out/bench."""
+"""Records of measurements in out/bench: one line of JSON for each."""
 
 from __future__ import annotations
 
@@ -17,7 +17,7 @@ RATES = "workers.jsonl"
 
 @dataclass
 class RoundRecord:
-    """A measured round; times are in seconds, None where there is no other program or no LEMON."""
+    """A measured round; times are in seconds, None without another program or without LEMON."""
 
     kind: str
     size: str
@@ -40,12 +40,12 @@ class RoundRecord:
 
     @property
     def ratio(self) -> float | None:
-        """The round's time as a part of that of LEMON's faster solver."""
+        """Return the round's time as a part of that of LEMON's faster solver."""
         return self.part_of_lemon(self.firm)
 
     @property
     def beside_ratio(self) -> float | None:
-        """The same of the other program's time."""
+        """Return the same of the other program's time."""
         return None if self.beside is None else self.part_of_lemon(self.beside)
 
     def part_of_lemon(self, seconds: float) -> float | None:
@@ -58,7 +58,7 @@ class RoundRecord:
 
 @dataclass
 class RateRecord:
-    """Rounds a second of a program with a number of workers, none where it serves on one thread."""
+    """Rounds a second of a program with a number of workers, none if it serves on one thread."""
 
     program: str
     workers: int | None
@@ -73,7 +73,7 @@ Record = TypeVar("Record", RoundRecord, RateRecord)
 
 
 def begin(name: str) -> TextIO:
-    """The file of this name, empty."""
+    """Open the file of this name, and empty it."""
     FOLDER.mkdir(parents=True, exist_ok=True)
     return open(FOLDER / name, "w")
 
@@ -84,10 +84,10 @@ def keep(file: TextIO, records: Iterable[RoundRecord | RateRecord]) -> None:
 
 
 def read(name: str, record: type[Record], folder: Path = FOLDER) -> list[Record]:
-    """The records of the last run."""
+    """Return the records of the last run."""
     path = folder / name
     lines = path.read_text().splitlines() if path.exists() else []
     if not lines:
-        raise CannotRun(f"no run is kept in {path}")
+        raise CannotRun(f"no records in {path}")
     fields: list[dict[str, Any]] = [json.loads(line) for line in lines]
     return [record(**each) for each in fields]

@@ -1,11 +1,11 @@
-"""Measures lines a second of the built program, and its memory over a long input.
+"""Measure lines a second of the built program, and its memory over a long input.
 
 usage: tools/run bench/lines.py [--program FILE] [--lines N] [--repeats R] [--bytes B] [--rates] [--single] [--keep]
-Streams of refused adders, `show`, `where`, and all three in turn, for a tenant of 10 rows and for one of 4,000, from a
-file to a file. Times are processor times (user and system), the least of R runs, less those of a run that only adds
-the rows; where valgrind is installed, also instructions. Every output is checked: its last number is the count of
-lines, or the exit status is 1. With `--single` the program is a `firm_explain`, which measures on one thread; with
-`--rates` nothing but lines a second is measured.
+It sends streams of refused adders, `show`, `where`, and all three in turn, for a tenant of 10 rows and for one of
+4,000, from a file to a file. Times are processor times (user and system), the least of R runs, less those of a run that
+only adds the rows; with valgrind, also instructions. Every output is checked: the exit status is 1 unless its last
+number is the count of lines. With `--single` the program is a `firm_explain`, which measures on one thread; with
+`--rates` only lines a second are measured.
 """
 
 from __future__ import annotations
@@ -39,7 +39,7 @@ class Book(NamedTuple):
 
 SMALL, LARGE = 10, 4000
 BOOKS = {SMALL: Book(3, 2, 5), LARGE: Book(1000, 50, 2950)}
-# Each line is refused or only asks, so the rows stay as they are.
+# Each line is refused or a query, so the rows stay as they are.
 LINES = {
     "refused adders": ["t machine m1 2", "t job j1 5", "t task j1 t1"],
     "show": ["t show"],
@@ -60,7 +60,7 @@ class Options:
 
 
 class Text(NamedTuple):
-    """An input, and how many commands it has."""
+    """An input, and its number of commands."""
 
     text: str
     commands: int
@@ -72,14 +72,14 @@ class Text(NamedTuple):
 
 
 class Spent(NamedTuple):
-    """Seconds of processor time, and the most memory in kilobytes."""
+    """Seconds of processor time, and the maximum of memory in kilobytes."""
 
     seconds: float
     kilobytes: int
 
 
 def opening(rows: int) -> Text:
-    """Lines that add the rows of a tenant."""
+    """Return lines that add the rows of a tenant."""
     book = BOOKS[rows]
     lines = [f"t machine m{place} 3" for place in range(book.machines)]
     lines += [f"t job j{place} 100" for place in range(book.jobs)]
@@ -102,7 +102,7 @@ class Bench:
         self.words = [*program, "--roster", str(folder / "roster.csv")]
 
     def run(self, commands: int) -> Spent:
-        """A run on the file `input`; the last reply must have the number of the commands."""
+        """Run the program on the file `input`; the last reply must have the number of the commands."""
         before = resource.getrusage(resource.RUSAGE_CHILDREN)
         with open(self.folder / "input") as source, open(self.folder / "output", "wb") as output:
             words = [TIME, "-f", "%M", *self.words]
@@ -120,13 +120,13 @@ class Bench:
             return output.read().splitlines()[-1].decode()
 
     def least(self, text: Text, repeats: int) -> Spent:
-        """The least time of some runs on a text, and their most memory."""
+        """Return the least time of some runs on a text, and their maximum of memory."""
         (self.folder / "input").write_text(text.text)
         found = [self.run(text.commands) for _ in range(repeats)]
         return Spent(min(spent.seconds for spent in found), max(spent.kilobytes for spent in found))
 
     def instructions(self, text: Text) -> int:
-        """How many instructions a run on a text takes, by valgrind's callgrind; no load changes it."""
+        """Return the number of instructions of a run on a text, by valgrind's callgrind; no load changes it."""
         words = ["valgrind", "--tool=callgrind", "--callgrind-out-file=/dev/null", *self.words]
         done = subprocess.run(
             words, input=text.text, stdout=subprocess.DEVNULL, stderr=subprocess.PIPE, text=True, check=True
@@ -150,7 +150,7 @@ def print_lines(bench: Bench) -> None:
 
 
 def print_instructions(bench: Bench) -> None:
-    """Instructions for a line, from runs on 20,000 lines less those that only add the rows."""
+    """Print instructions for a line, from runs on 20,000 lines less those that only add the rows."""
     heads = "| lines | 10 rows, instructions a line | 4,000 rows, instructions a line | times more |"
     print(f"\n{heads}\n| --- | ---: | ---: | ---: |")
     bare = {rows: bench.instructions(opening(rows)) for rows in BOOKS}
@@ -163,7 +163,7 @@ def print_instructions(bench: Bench) -> None:
 
 
 def print_memory(bench: Bench) -> None:
-    """The most memory for an input of many bytes, and for a hundredth of it."""
+    """Print the maximum of memory for an input of many bytes, and for a hundredth of it."""
     line = sum(len(line) + 1 for line in LINES["mixed"]) / len(LINES["mixed"])
     print("\n| bytes of input | lines | seconds | most memory, kB |\n| ---: | ---: | ---: | ---: |")
     for size in (bench.options.bytes // 100, bench.options.bytes):
@@ -178,14 +178,14 @@ def read_options() -> Options:
     parser.add_argument("--lines", type=int, default=1_000_000)
     parser.add_argument("--repeats", type=int, default=5)
     parser.add_argument("--bytes", type=int, default=100_000_000)
-    parser.add_argument("--rates", action="store_true", help="nothing but lines a second")
-    parser.add_argument("--single", action="store_true", help="the program is a firm_explain, which measures")
+    parser.add_argument("--rates", action="store_true", help="measure only lines a second")
+    parser.add_argument("--single", action="store_true", help="measure a firm_explain, on one thread")
     parser.add_argument("--keep", action="store_true", help=results.HELP)
     return Options(**vars(parser.parse_args()))
 
 
 def show(options: Options) -> int:
-    """Measures and prints; the exit status."""
+    """Measure and print; return the exit status."""
     if not Path(TIME).exists():
         raise CannotRun(f"it needs {TIME} (Debian's package time)")
     with tempfile.TemporaryDirectory(prefix="firm-") as folder:

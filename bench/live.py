@@ -1,11 +1,11 @@
-"""Measures the built program as a live client sees it, who holds its input open: a line, a round, and idle time.
+"""Measure the built program's times for a live client, which holds its input open: a line, a round, and idle time.
 
 usage: tools/run bench/live.py [--program FILE] [--beside FILE] [--workers 1,2,8] [--rounds N] [--paused N]
                                [--seconds S] [--repeats R] [--keep]
-Times are from the write of a line to its last reply, by the clock on the wall: the median and the 90th percentile,
-of the best of R runs; beside them the processor time of the service for each. With `--beside` another built
-program is measured in turn with it. A round is one of no tasks. Where no reply to it comes in two seconds while no
-further line does, there is no figure.
+Times are from the write of a line to its last reply, by the clock on the wall: the median and the 90th percentile, of
+the best of R runs; beside them the processor time of the service for each. With `--beside` another built program is
+measured in turn with it. A round is one of no tasks. If no reply to it comes in two seconds without a further line,
+there is no figure.
 """
 
 from __future__ import annotations
@@ -48,7 +48,7 @@ class Options:
 
 
 class Request(NamedTuple):
-    """The name of a measurement, what is sent, how many replies come, and whether a pause stands before each."""
+    """The name of a measurement, its lines, the number of replies, and whether a pause stands before each."""
 
     name: str
     text: bytes
@@ -75,7 +75,7 @@ class Figures(NamedTuple):
 
 
 class Silent(Exception):
-    """No reply came in time."""
+    """Signals that no reply came in time."""
 
 
 class Served:
@@ -97,7 +97,7 @@ class Served:
         self.output.close()
 
     def seconds_of(self, request: Request) -> float:
-        """The time until the replies are there."""
+        """Return the time until the replies are there."""
         begun, left = time.perf_counter(), request.replies
         self.input.write(request.text)
         while left:
@@ -107,13 +107,13 @@ class Served:
         return time.perf_counter() - begun
 
     def processor_seconds(self) -> float:
-        """The processor time of all its threads so far."""
+        """Return the processor time of all its threads so far."""
         times = Path(f"/proc/{self.process.pid}/task").glob("*/schedstat")
         return sum(int(text.read_text().split()[0]) for text in times) / 1e9
 
 
 def measure(served: Served, request: Request, count: int) -> Figures | None:
-    """The figures of a request that is sent again and again; None where there was no reply."""
+    """Return the figures of a repeated request; None without a reply."""
     before, times = served.processor_seconds(), []
     try:
         for _ in range(count):
@@ -127,7 +127,7 @@ def measure(served: Served, request: Request, count: int) -> Figures | None:
 
 
 def best(runs: Sequence[Figures | None]) -> Figures | None:
-    """The run with the least median; None where a run has none."""
+    """Return the run with the least median; None if a run has none."""
     known = [figures for figures in runs if figures is not None]
     return min(known) if len(known) == len(runs) else None
 
@@ -153,7 +153,7 @@ def print_requests(options: Options, roster: Path) -> None:
 
 
 def idle_part(served: Served, seconds: float) -> float:
-    """The part of a processor that a service takes to which nothing comes, in hundredths."""
+    """Return the part of a processor that an idle service takes, in hundredths."""
     before = served.processor_seconds()
     time.sleep(seconds)
     return 100 * (served.processor_seconds() - before) / seconds
@@ -179,14 +179,14 @@ def read_options() -> Options:
     parser.add_argument("--workers", default="1,2,8")
     parser.add_argument("--rounds", type=int, default=2000, help="lines and rounds without a pause")
     parser.add_argument("--paused", type=int, default=200, help="lines and rounds with a pause before each")
-    parser.add_argument("--seconds", type=float, default=5, help="for which the service is idle")
+    parser.add_argument("--seconds", type=float, default=5, help="seconds of the idle service")
     parser.add_argument("--repeats", type=int, default=3)
     parser.add_argument("--keep", action="store_true", help=results.HELP)
     return Options(**vars(parser.parse_args()))
 
 
 def show(options: Options) -> int:
-    """Measures and prints; the exit status."""
+    """Measure and print; return the exit status."""
     print(f"load before: {os.getloadavg()[0]:.1f} on {os.cpu_count()} processors\n")
     with tempfile.TemporaryDirectory(prefix="firm-") as folder:
         roster = Path(folder) / "roster.csv"

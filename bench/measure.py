@@ -16,16 +16,16 @@ from shared import TENANT, CannotRun, Roster, Stream, compile_source, hear, hear
 
 HERE = Path(__file__).resolve().parent
 LONG = 45  # seconds after which a stream is not run again
-SHORT = 2.0  # seconds for which a stream is run again at least
+SHORT = 2.0  # the least seconds of repeated runs of a stream
 REST = 0.005  # seconds before a round, in which all threads of the program fall asleep
 BATCH = 64  # lines
-MOST_PIPED = 1 << 20  # bytes, the most that Linux gives
+MAX_PIPED = 1 << 20  # bytes, Linux's maximum
 SOLVED = "3"  # times that LEMON solves a network in each turn
 ROUND = f"{TENANT} round"
 
 
 class Round(NamedTuple):
-    """A round's cost, its network with how large that is, and how many tasks there are."""
+    """A round's cost, its network and the network's size, and the number of tasks."""
 
     cost: int
     arcs: int
@@ -34,7 +34,7 @@ class Round(NamedTuple):
 
 
 class Timed(NamedTuple):
-    """A round, and the least seconds that each program and each of LEMON's solvers took for it."""
+    """A round, and the least seconds of each program and of each of LEMON's solvers for it."""
 
     round: Round
     programs: list[float]
@@ -42,7 +42,7 @@ class Timed(NamedTuple):
 
 
 class Counts(NamedTuple):
-    """The searches of a round, the looks at arcs that they took, and the looks of its proposal."""
+    """A round's searches, the looks at arcs in them, and the looks of its proposal."""
 
     searches: int
     looks: int
@@ -69,11 +69,11 @@ class Served:
         self.words = [*words, "--roster", self.file.name]
 
     def run(self) -> Measured:
-        """Asks the stream of all tenants, part by part, each with a round of each tenant behind it."""
+        """Send the stream of all tenants, part by part, each part followed by a round of each tenant."""
         measured = Measured([], [])
         with subprocess.Popen(self.words, stdin=subprocess.PIPE, stdout=subprocess.PIPE) as process:
             assert process.stdin and process.stdout
-            fcntl.fcntl(process.stdout, fcntl.F_SETPIPE_SZ, MOST_PIPED)
+            fcntl.fcntl(process.stdout, fcntl.F_SETPIPE_SZ, MAX_PIPED)
             clock = clock_of(process.pid)
             for part in self.stream.parts:
                 replies = [self.ask_all(process, lines) for lines in batches(part)]
@@ -87,7 +87,7 @@ class Served:
         return measured
 
     def ask_all(self, process: subprocess.Popen[bytes], lines: list[str]) -> list[str]:
-        """The replies to these lines of the stream, which must be the same for each tenant."""
+        """Return the replies to these lines of the stream, which must be the same for each tenant."""
         assert process.stdin and process.stdout
         process.stdin.write("".join(of_tenant(line, name) + "\n" for name in self.names for line in lines).encode())
         process.stdin.flush()
@@ -99,8 +99,8 @@ class Served:
 
 
 class ReadWhole(Served):
-    """A program that reads all its input before it answers. A round's time is that of a run from file to file that ends
-    with the round, less that of one that ends a line earlier."""
+    """A program that reads all its input before it answers. A round's time is that of a run from file to file that
+    ends with the round, less that of one that ends a line earlier."""
 
     def run(self) -> Measured:
         measured, lines = Measured([], []), list[str]()
@@ -114,7 +114,7 @@ class ReadWhole(Served):
         return measured
 
     def run_file(self, lines: list[str]) -> tuple[list[str], float]:
-        """The replies to these lines, asked for one tenant, and the processor time of the whole run."""
+        """Return the replies to these lines of one tenant, and the processor time of the whole run."""
         (name,) = self.names
         with tempfile.TemporaryFile("w+") as text, tempfile.TemporaryFile("w+") as output:
             text.writelines(of_tenant(line, name) + "\n" for line in lines)
@@ -128,28 +128,28 @@ class ReadWhole(Served):
 
 
 def of_tenant(text: str, name: str) -> str:
-    """A row or a line of the stream as that of a tenant of this name."""
+    """Return a row or a line of the stream as that of a tenant of this name."""
     return name + text.removeprefix(TENANT)
 
 
 def of_stream(reply: str, name: str) -> str:
-    """The reply of the stream that this reply to a tenant stands for."""
+    """Return the stream's reply that corresponds to this tenant's reply."""
     require(reply.startswith(name) and reply.endswith("\n"), "the program ended, or left a line without a reply")
     return TENANT + reply[len(name) : -1]
 
 
 def clock_of(pid: int) -> int:
-    """The system's clock of the processor time that all threads of a process take."""
+    """Return the system's clock of the processor time of all threads of a process."""
     return (~pid << 3) | 2
 
 
 def batches(lines: list[str]) -> list[list[str]]:
-    """The lines in pieces whose replies a pipe holds for all tenants."""
+    """Return the lines in pieces whose replies fit into a pipe for all tenants."""
     return [lines[start : start + BATCH] for start in range(0, len(lines), BATCH)]
 
 
 class Subjects(NamedTuple):
-    """What is measured: programs by their first words, with this many tenants, and one over LEMON's solvers, if any."""
+    """The measured programs by their first words, with this many tenants, and one over LEMON's solvers, if any."""
 
     programs: list[list[str]]
     tenants: int
@@ -158,9 +158,9 @@ class Subjects(NamedTuple):
 
 
 def time_stream(subjects: Subjects, stream: Stream, repeats: int) -> list[Timed]:
-    """The rounds of a stream, with the least times of some turns, of more where they are short and of fewer where they
-    take long: what a host does beside only adds to a time. Of differences of two runs, which it may lessen too, it is
-    the median. All programs must give the same replies."""
+    """Return the rounds of a stream, with the least times of some turns, of more if they are short and of fewer if
+    they take long: other load of a host only adds to a time. Load may also lessen a difference of two runs, so that
+    is the median. All programs must give the same replies."""
     kind = ReadWhole if subjects.read_whole else Served
     services = [kind(words, stream, subjects.tenants) for words in subjects.programs]
     rounds = rounds_of(stream, services[0].run().replies)
@@ -182,7 +182,7 @@ def time_stream(subjects: Subjects, stream: Stream, repeats: int) -> list[Timed]
 
 
 def rounds_of(stream: Stream, heard: list[list[str]]) -> list[Round]:
-    """The rounds of a stream that has these replies; each placement must be legal and cost what its reply says."""
+    """Return the rounds of a stream with these replies; each placement must be legal and cost what its reply says."""
     tenant, rounds = open_rows(stream.roster), []
     for lines, replies in zip(stream.parts, heard):
         for line, reply in zip(lines, replies):
@@ -194,7 +194,7 @@ def rounds_of(stream: Stream, heard: list[list[str]]) -> list[Round]:
 
 
 def read_counts(words: list[str], stream: Stream) -> list[Counts]:
-    """The counts of each round, by the program of these words that writes them behind the replies."""
+    """Return the counts of each round, by the program of these words, which writes them after the replies."""
     lines = [line for part in stream.parts for line in (*part, ROUND)]
     text = "".join(line + "\n" for line in lines).encode()
     with Roster(stream.roster.encode()) as path:
@@ -206,7 +206,7 @@ def read_counts(words: list[str], stream: Stream) -> list[Counts]:
 
 
 def build_lemon(folder: str) -> str | None:
-    """The program over LEMON's solvers, or None where LEMON is not installed."""
+    """Build the program over LEMON's solvers; return None if LEMON is not installed."""
     program = str(Path(folder) / "lemon")
     try:
         compile_source(["g++", "-O2", "-std=c++14", "-w", "-o", program, str(HERE / "lemon.cc")])
@@ -217,7 +217,7 @@ def build_lemon(folder: str) -> str | None:
 
 
 def solve(lemon: str, found: Round) -> dict[str, float]:
-    """The least seconds of each of LEMON's solvers for a round's network; each must find the round's cost."""
+    """Return the least seconds of each of LEMON's solvers for a round's network; each must find the round's cost."""
     done = subprocess.run([lemon, SOLVED], input=found.network, capture_output=True, text=True, check=True)
     seconds = {}
     for name, least, _, cost in map(str.split, done.stdout.splitlines()):

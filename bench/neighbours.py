@@ -1,15 +1,15 @@
-"""Measures how long a small tenant's reply takes beside large neighbours, by a client that holds its input open.
+"""Measure a small tenant's reply time beside large neighbours, by a client that holds its input open.
 
 usage: tools/run bench/neighbours.py [--program FILE] [--beside FILE] [--workers N] [--kind crowded] [--size 2500x700]
                            [--tenants N] [--repeats R] [--usual] [--keep]
-Lines are written at once: a round of tenant `a`, which is small, and lines of others behind it. Times are from the
-write to a's reply, by the clock on the wall: the least, the median and the 90th percentile. In the last row a
-large tenant's round, and a line that waits for it, stand before another's round, whose reply is timed. Each is of a new
-service, in which the rounds of the large tenants are their first. With `--beside` another built program is measured by
-turns with it.
+Lines are written at once: a round of tenant `a`, which is small, followed by lines of others. Times are from the write
+to a's reply, by the clock on the wall: the least, the median and the 90th percentile. In the last row a large tenant's
+round, and a line that waits for it, stand before another's round, whose reply is timed. Each is of a new service, in
+which the rounds of the large tenants are their first. With `--beside` another built program is measured by turns with
+it.
 
 The client has a priority above all others, so that a time ends once the service has written the reply. With `--usual`
-it has the usual one: then a time also has the client's own wait for a processor, since a kernel may wake it behind a
+it has the usual one: then a time also has the client's own wait for a processor, since a kernel may wake it after a
 worker that solves a large tenant's round. The service has the usual priority in both.
 """
 
@@ -50,7 +50,8 @@ class Options:
 
 
 class Case(NamedTuple):
-    """Its name, how many workers there are, the lines that are written at once, and whose first reply is timed."""
+    """A case's name, its number of workers, the lines that are written at once, and the tenant whose first reply is
+    timed."""
 
     name: str
     workers: int
@@ -59,7 +60,7 @@ class Case(NamedTuple):
 
 
 class Large(NamedTuple):
-    """What a large tenant opens with: the roster's heading, its row and its lines, each behind its name."""
+    """A large tenant's opening: the roster's heading, its row and its lines, each after its name."""
 
     heading: str
     row: str
@@ -96,7 +97,7 @@ class Served:
         self.output.close()
 
     def seconds_of(self, lines: list[str], name: str) -> float:
-        """The time from the write of these lines to the first reply of this tenant. All replies are read."""
+        """Return the time from the write of these lines to the first reply of this tenant. All replies are read."""
         begun, left, text, found = time.perf_counter(), len(lines), b"", None
         self.input.write("".join(f"{line}\n" for line in lines).encode())
         while left:
@@ -134,7 +135,7 @@ def cells(times: list[float]) -> str:
 
 
 def run_first() -> None:
-    """From now on this process runs before those of the usual priority, as those that it starts are."""
+    """Give this process, and those that it starts, priority over those of the usual priority from now on."""
     try:
         os.sched_setscheduler(0, os.SCHED_FIFO | os.SCHED_RESET_ON_FORK, os.sched_param(1))
     except PermissionError:
@@ -142,7 +143,7 @@ def run_first() -> None:
 
 
 def show(options: Options) -> int:
-    """Measures and prints; the exit status."""
+    """Measure and print; return the exit status."""
     if not options.is_usual:
         run_first()
     programs = [options.program, *([options.beside] if options.beside else [])]
@@ -168,11 +169,11 @@ def read_options() -> Options:
     parser.add_argument("--program", type=program_file, default=str(BUILT))
     parser.add_argument("--beside", type=program_file, help="another built program")
     parser.add_argument("--workers", type=int, default=2)
-    parser.add_argument("--kind", choices=list(kinds.KINDS), default="crowded", help="of the large tenants' rows")
+    parser.add_argument("--kind", choices=list(kinds.KINDS), default="crowded", help="kind of the large tenants' rows")
     parser.add_argument("--size", type=read_size, default="2500x700", help="tasks and machines of a large tenant")
-    parser.add_argument("--tenants", type=int, default=12, help="how many are large in the last row")
+    parser.add_argument("--tenants", type=int, default=12, help="number of large tenants in the last row")
     parser.add_argument("--repeats", type=int, default=20)
-    parser.add_argument("--usual", dest="is_usual", action="store_true", help="the client has the usual priority")
+    parser.add_argument("--usual", dest="is_usual", action="store_true", help="give the client the usual priority")
     parser.add_argument("--keep", action="store_true", help=results.HELP)
     return Options(**vars(parser.parse_args()))
 

@@ -1,9 +1,9 @@
-"""Draws tables of docs/results: rounds beside LEMON, their growth with the arcs, rounds a second by workers.
+"""Draw tables of docs/results: rounds beside LEMON, their growth with the arcs, rounds a second by workers.
 
 usage: tools/run bench/pictures.py [--to FOLDER] [PICTURE ...]
-The pictures are ratios and growth (of rounds.md) and workers (of workers.md), all where none is named; PICTURE.svg
-comes into docs/pictures. The same tables give the same bytes. It needs Debian's python3-matplotlib; where another
-python3 is first on the PATH, PYTHON=/usr/bin/python3 names Debian's. The exit status is 2 where a table is missing.
+The pictures are ratios and growth (of rounds.md) and workers (of workers.md), by default all; PICTURE.svg goes into
+docs/pictures. The same tables give the same bytes. It needs Debian's python3-matplotlib; if another python3 is first on
+the PATH, PYTHON=/usr/bin/python3 names Debian's. The exit status is 2 if a table is missing.
 """
 
 from __future__ import annotations
@@ -18,7 +18,7 @@ from typing import Any, Callable, Iterable
 from shared import ROOT, CannotRun, run_script
 
 RESULTS = ROOT / "docs" / "results"
-# Seven colours that can be told apart, also by most of the colour-blind; from the eighth on they come again, dashed.
+# Seven colours that most of the colour-blind can tell apart; from the eighth on they repeat, dashed.
 COLOURS = ("#3b7dd8", "#e08a1e", "#3c9d5d", "#b0508e", "#c2504a", "#7a6fd0", "#7d8b99")
 STYLE = {
     "axes.axisbelow": True,
@@ -45,7 +45,7 @@ class Options:
 
 
 def once(values: Iterable[str]) -> list[str]:
-    """The values, each once, in the order in which they come first."""
+    """Return the values, each once, in the order of their first occurrences."""
     return list(dict.fromkeys(values))
 
 
@@ -54,7 +54,7 @@ def cells(line: str) -> list[str]:
 
 
 def table(page: str, *columns: str) -> Rows:
-    """The rows of the page's first table with these columns."""
+    """Return the rows of the page's first table with these columns."""
     lines = (RESULTS / page).read_text().splitlines()
     for number, line in enumerate(lines):
         names = cells(line)
@@ -65,7 +65,7 @@ def table(page: str, *columns: str) -> Rows:
 
 
 def tasks_of(size: str) -> int:
-    """The tasks of a size, as 3,000 of 3000x1000."""
+    """Return the tasks of a size, as 3,000 of 3000x1000."""
     return int(size.partition("x")[0])
 
 
@@ -74,14 +74,14 @@ def figure(text: str) -> float:
 
 
 def mark(axis: Any) -> None:
-    """Has a logarithmic axis marked at 1, 2 and 5 times powers of ten."""
+    """Mark a logarithmic axis at 1, 2 and 5 times powers of ten."""
     axis.get_major_locator().set_params(subs=TICKS)
     axis.get_minor_locator().set_params(subs=())
     axis.set_major_formatter(lambda value, _: f"{value / 1000:g}k" if value >= 1000 else f"{value:g}")
 
 
 def draw_ratios(plot: Any) -> Any:
-    """A row for each kind, a dot for each size's cold round and a ring for the worst that follows."""
+    """Draw a row for each kind, a dot for each size's cold round and a ring for the worst that follows."""
     rows = table("rounds.md", "kind", "size", "round", "firm / faster")
     kinds, sizes = once(row["kind"] for row in rows), sorted(once(row["size"] for row in rows), key=tasks_of)
     drawn, axes = plot.subplots(figsize=(7.2, 4.2))
@@ -108,7 +108,7 @@ def draw_ratios(plot: Any) -> Any:
 
 
 def heights_of(names: dict[str, float]) -> dict[str, float]:
-    """The heights of names, as parts of a picture's, from the top, moved down where two would be too close."""
+    """Return the heights of names, as parts of a picture's, from the top, moved down if two would be too close."""
     found: dict[str, float] = {}
     last = 1 + LEAST_GAP
     for name, height in sorted(names.items(), key=lambda item: -item[1]):
@@ -117,7 +117,7 @@ def heights_of(names: dict[str, float]) -> dict[str, float]:
 
 
 def draw_curves(axes: Any, curves: dict[str, list[tuple[float, float]]], title: str) -> None:
-    """A line for each name, whose name stands at its end."""
+    """Draw a line for each name, with the name at its end."""
     for place, points in enumerate(curves.values()):
         look = {"color": COLOURS[place % len(COLOURS)], "linestyle": "--" if place >= len(COLOURS) else "-"}
         axes.loglog(*zip(*points), marker="o", markersize=4, linewidth=1.2, **look)
@@ -137,7 +137,7 @@ def draw_curves(axes: Any, curves: dict[str, list[tuple[float, float]]], title: 
 
 
 def draw_growth(plot: Any) -> Any:
-    """What a cold round takes for each arc, in time and in looks, by the arcs of its network."""
+    """Draw a cold round's cost for each arc, in time and in looks, by the arcs of its network."""
     rows = table("rounds.md", "kind", "round", "arcs", "looks", "proposed", "firm ms")
     cold = sorted((row for row in rows if row["round"] == COLD), key=lambda row: figure(row["arcs"]))
     drawn, (left, right) = plot.subplots(1, 2, figsize=(7.2, 3.8))
@@ -153,7 +153,7 @@ def draw_growth(plot: Any) -> Any:
 
 
 def draw_workers(plot: Any) -> Any:
-    """Rounds a second by the number of workers; level for the program that serves on one thread."""
+    """Draw rounds a second by the number of workers; level for the program that serves on one thread."""
     rows = table("workers.md", "workers", "rounds a second")
     drawn, axes = plot.subplots(figsize=(7.2, 3.4))
     own = [(int(row["workers"]), figure(row["rounds a second"])) for row in rows if row["workers"].isdigit()]

@@ -1,10 +1,11 @@
-"""Measures requests to firmd beside writes to redis, by clients that wait for each reply.
+"""Measure requests to firmd beside writes to redis, by clients that wait for each reply.
 
 usage: tools/run bench/requests.py [--program FILE] [--disk DIR] [--memory DIR] [--requests N] [--repeats R]
                                    [--clients N..]
-Both keep what they acknowledge: firmd's journal is synced before each reply; redis' file by `appendfsync always`, and
-for comparison `everysec`. In turn, on a disk and in memory, each is asked over a Unix socket by the same program in C.
-Each figure is of the run with the most requests a second of R. It needs a C compiler, and redis-server for its half.
+Both store what they acknowledge: firmd's journal is synced before each reply; redis' file by `appendfsync always`, and
+for comparison `everysec`. The same program in C sends requests to each in turn over a Unix socket, on a disk and in
+memory. Each figure is from the run with the most requests a second of R. It needs a C compiler, and redis-server for
+its half.
 """
 
 from __future__ import annotations
@@ -42,7 +43,7 @@ class Figure(NamedTuple):
 
 class Server(NamedTuple):
     name: str
-    serve: Callable[[Path], AbstractContextManager[Path]]  # in a folder; gives the path of its socket
+    serve: Callable[[Path], AbstractContextManager[Path]]  # in a folder; yields the path of its socket
     request: str
 
 
@@ -56,7 +57,7 @@ def wait_for(path: Path, process: subprocess.Popen[bytes]) -> None:
 
 @contextmanager
 def started(words: list[str], socket: Path) -> Iterator[Path]:
-    """A server in a process of its own, until it is no longer needed."""
+    """Run a server as a separate process, until it is no longer needed."""
     with subprocess.Popen(words, stdout=subprocess.DEVNULL, stderr=subprocess.DEVNULL) as process:
         try:
             wait_for(socket, process)
@@ -90,8 +91,8 @@ def figure(program: Path, server: Server, folder: Path, clients: int, requests: 
 def main() -> int:
     parser = argparse.ArgumentParser(description=(__doc__ or "").splitlines()[0])
     parser.add_argument("--program", default=str(ROOT / "crates" / "firm" / "out" / "firm"))
-    parser.add_argument("--disk", type=Path, default=ROOT / "out", help="a folder on a disk")
-    parser.add_argument("--memory", type=Path, default=Path("/dev/shm"), help="a folder in memory")
+    parser.add_argument("--disk", type=Path, default=ROOT / "out", help="folder on a disk")
+    parser.add_argument("--memory", type=Path, default=Path("/dev/shm"), help="folder in memory")
     parser.add_argument("--requests", type=int, default=60_000)
     parser.add_argument("--repeats", type=int, default=3)
     parser.add_argument("--clients", type=int, nargs="+", default=[1, 50, 500])

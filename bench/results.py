@@ -1,4 +1,4 @@
-"""Results for readers: what a script prints, also kept as a page of docs/results, with the date, command and host."""
+"""Results for readers: a script's output, also written to a page of docs/results, with the date, command and host."""
 
 from __future__ import annotations
 
@@ -31,7 +31,7 @@ class Copied(io.StringIO):
 
 
 def processor() -> str:
-    """The name of the host's processors."""
+    """Return the name of the host's processors."""
     lines = Path("/proc/cpuinfo").read_text().splitlines()
     return next((line.partition(": ")[2] for line in lines if line.startswith("model name")), "unknown")
 
@@ -42,7 +42,7 @@ def heading(name: str) -> str:
 
 
 def show_and_keep(name: str, is_kept: bool, show: Callable[[], int]) -> int:
-    """Has a script print its results, and keeps them as the page of this name if that is wanted and all was well."""
+    """Run a script's output function; on request, and if all is well, write the output to the page of this name."""
     if not is_kept:
         return show()
     text = Copied(sys.stdout)

@@ -1,20 +1,20 @@
-"""Measures rounds of the built program, with LEMON's solvers on the same networks beside it where LEMON is installed.
+"""Measure rounds of the built program, with LEMON's solvers, if installed, on the same networks beside it.
 
 usage: tools/run bench/rounds.py [--program FILE] [--measure FILE] [--beside FILE] [--sizes 100x20,..]
                                  [--kinds fresh,..] [--tenants N] [--repeats N] [--seeds 1,2,..] [--all-rounds]
                                  [--last] [--keep] [--search] [--single]
-Prints tables in Markdown and keeps each round as a line of JSON in out/bench/rounds.jsonl; with `--search`, which times
-rounds found by searches alone, in out/bench/searched.jsonl. Every placement is checked to be legal and to cost what the
-reply says, and that cost against LEMON's optimum; the exit status is 1 where one is wrong. Each stream is drawn by five
-seeds, as the numbers of one say little: tables show the worst of them, and the ranges of the ratios.
+Prints tables in Markdown and writes each round as a line of JSON to out/bench/rounds.jsonl; with `--search`, which
+times rounds found by searches alone, to out/bench/searched.jsonl. Every placement is checked to be legal and to cost
+what the reply says, and that cost against LEMON's optimum; the exit status is 1 if one is wrong. Each stream is drawn
+by five seeds, as the numbers of one say little: tables show the worst of them, and the ranges of the ratios.
 
-Several tenants have the same stream and ask its rounds at once: as many as have 3,000 tasks together, 64 at most. A
+Several tenants have the same stream and request its rounds at once: as many as have 3,000 tasks together, 64 at most. A
 round's time, with one worker, is the processor time of all threads of the program from the first of these lines to the
 last reply, divided by the number of tenants: the least of some runs. It includes the ways of the line, to the worker
-and back, the choice, the changes and their text. A round that is asked alone (`--tenants 1`) takes longer, by the looks
-of the threads that wait for it before they sleep. With `--search` one tenant asks, from file to file. LEMON's time is
+and back, the choice, the changes and their text. A single round (`--tenants 1`) takes longer, by the looks of the
+threads that wait for it before they sleep. With `--search` there is one tenant, from file to file. LEMON's time is
 `run()` of `NetworkSimplex` and `CostScaling` on the same network, without building it (as long again or less) or
-choosing among equal costs: the least of three times behind each of firm's runs. Looks are exact.
+choosing among equal costs: the least of three times after each of firm's runs. Looks are exact.
 """
 
 from __future__ import annotations
@@ -32,13 +32,13 @@ import kept
 import results
 from kept import RoundRecord
 from measure import Subjects, build_lemon, read_counts, time_stream
-from shared import BUILT, EXPLAIN, CannotRun, Missed, kinds, measuring, program_file, require, run_script
+from shared import BUILT, EXPLAIN, CannotRun, Missed, kinds, measuring, program_file, run_script
 
 SIZES = "100x20,500x100,2000x500,3000x1000"
 SEEDS = "1,2,3,4,5"
 ONE_WORKER = ("--workers", "1")
-MOST_TASKS = 3_000  # of all tenants together, so that their rows fit a processor's caches, as LEMON's network does
-MOST_TENANTS = 64
+MAX_TASKS = 3_000  # of all tenants together, so that their rows fit a processor's caches, as LEMON's network does
+MAX_TENANTS = 64
 
 
 @dataclass(frozen=True)
@@ -59,18 +59,18 @@ class Options:
 
     @property
     def kept(self) -> str:
-        """The file of the records."""
+        """Return the file of the records."""
         return kept.SEARCHED if self.search else kept.ROUNDS
 
     def tenants_at(self, tasks: int) -> int:
-        """How many tenants have a stream of this many tasks."""
+        """Return the number of tenants with a stream of this many tasks."""
         if self.search:
             return 1
-        return self.tenants or max(1, min(MOST_TENANTS, MOST_TASKS // tasks))
+        return self.tenants or max(1, min(MAX_TENANTS, MAX_TASKS // tasks))
 
 
 def row(record: RoundRecord, timed: Iterable[str]) -> str:
-    """The record as a row of the table, with these of its times."""
+    """Return the record as a row of the table, with these of its times."""
     cells = [record.kind, record.size, str(record.round + 1), str(record.tasks), str(record.arcs)]
     cells += [f"{record.searches:,}", f"{record.looks:,}", f"{record.proposed:,}"]
     cells += [f"{record.all_looks / record.arcs:.1f}"]
@@ -85,7 +85,7 @@ def milliseconds(seconds: float | None) -> str:
 
 
 def words_of(options: Options) -> tuple[list[str], list[str]]:
-    """The first words of the program whose rounds are timed, and of the one that counts."""
+    """Return the first words of the program whose rounds are timed, and of the one that counts."""
     measure = measuring(options.measure)
     if options.search:
         return [*measure, "--search"], [*measure, "--search"]
@@ -95,7 +95,7 @@ def words_of(options: Options) -> tuple[list[str], list[str]]:
 
 
 def measure_stream(options: Options, lemon: str | None, kind: str, size: str, seed: int) -> list[RoundRecord]:
-    """One record for each round of a stream."""
+    """Return a record for each round of a stream."""
     tasks, machines = kinds.read_size(size)
     stream = kinds.make(kind, tasks, machines, seed)
     served, measure = words_of(options)
@@ -124,28 +124,28 @@ def measure_stream(options: Options, lemon: str | None, kind: str, size: str, se
 
 
 def worst(records: list[RoundRecord]) -> RoundRecord:
-    """The record of the worst ratio, or of the longest time where LEMON was not measured."""
+    """Return the record of the worst ratio, or of the longest time without LEMON's."""
     return max(records, key=lambda record: (record.ratio or 0, record.firm))
 
 
 def split(found: list[RoundRecord]) -> tuple[list[RoundRecord], list[RoundRecord]]:
-    """The cold rounds, and those that follow."""
+    """Return the cold rounds, and those that follow."""
     return [record for record in found if record.round == 0], [record for record in found if record.round > 0]
 
 
 def span(ratios: list[float]) -> str:
-    """The least and the greatest, where these differ."""
+    """Return the least and the greatest, if these differ."""
     found = [f"{ratio:.2f}" for ratio in (min(ratios, default=0.0), max(ratios, default=0.0))]
     return " to ".join(dict.fromkeys(found)) if ratios else ""
 
 
 def names_of(found: Iterable[str]) -> list[str]:
-    """The names, each once, in the order in which they come first."""
+    """Return the names, each once, in the order of their first occurrences."""
     return list(dict.fromkeys(found))
 
 
 def print_table(records: list[RoundRecord], sizes: list[str], all_rounds: bool) -> None:
-    """A row for each kind's worst cold round, and for the worst that follows, of all seeds."""
+    """Print a row for each kind's worst cold round, and for the worst that follows, of all seeds."""
     timed = [name for name, seconds in records[0].times().items() if seconds is not None]
     heads = ("kind", "size", "round", "tasks", "arcs", "searches", "looks", "proposed", "looks / arc")
     print("| " + " | ".join(heads) + " | " + "".join(f"{name} ms | " for name in timed) + "firm / faster |")
@@ -160,7 +160,7 @@ def print_table(records: list[RoundRecord], sizes: list[str], all_rounds: bool) 
 
 
 def print_ratios(records: list[RoundRecord], sizes: list[str], of_each: Callable[[RoundRecord], float | None]) -> None:
-    """By size, a ratio of the cold round and the greatest of those that follow: its range over the seeds."""
+    """Print by size a ratio of the cold round and the greatest of those that follow: its range over the seeds."""
     print("| kind | " + " | ".join(f"{size}, cold | later" for size in sizes) + " |")
     print("| --- |" + " ---: | ---: |" * len(sizes))
     for kind in names_of(record.kind for record in records):
@@ -175,7 +175,7 @@ def print_ratios(records: list[RoundRecord], sizes: list[str], of_each: Callable
 
 
 def print_growth(records: list[RoundRecord], sizes: list[str], of_each: Callable[[RoundRecord], float]) -> None:
-    """The cold round's figure for each arc, by size, and how it grows; of the worst seed."""
+    """Print the cold round's figure for each arc, by size, and its growth; of the worst seed."""
     print("| kind | " + " | ".join(sizes) + " | last / first |\n| --- |" + " ---: |" * (len(sizes) + 1))
     for kind in names_of(record.kind for record in records):
         cold = [record for record in records if record.kind == kind and record.round == 0]
@@ -200,7 +200,7 @@ def print_tables(records: list[RoundRecord], all_rounds: bool) -> None:
 
 
 def measure_all(options: Options, lemon: str | None, file: TextIO) -> tuple[list[RoundRecord], int]:
-    """The records of all streams, and how many streams were wrong."""
+    """Return the records of all streams, and the number of wrong streams."""
     records: list[RoundRecord] = []
     wrong = 0
     seeds = map(int, options.seeds.split(","))
@@ -229,10 +229,10 @@ def read_options() -> Options:
     parser.add_argument("--beside", type=program_file, help=beside)
     parser.add_argument("--sizes", default=SIZES)
     parser.add_argument("--kinds", default=",".join(kinds.KINDS))
-    parser.add_argument("--tenants", type=int, help="how many have the stream")
+    parser.add_argument("--tenants", type=int, help="number of tenants with the stream")
     parser.add_argument("--repeats", type=int, default=5)
-    parser.add_argument("--seeds", default=SEEDS, help="of each stream (default: %(default)s)")
-    parser.add_argument("--all-rounds", action="store_true", help="a row for each round")
+    parser.add_argument("--seeds", default=SEEDS, help="runs of each stream (default: %(default)s)")
+    parser.add_argument("--all-rounds", action="store_true", help="print a row for each round")
     parser.add_argument("--last", action="store_true", help="measure nothing, print the tables of the last run")
     parser.add_argument("--keep", action="store_true", help=results.HELP)
     search = "the rounds of the program that counts, found by searches alone"
@@ -243,7 +243,7 @@ def read_options() -> Options:
 
 
 def show(options: Options) -> int:
-    """Measures and prints; the exit status."""
+    """Measure and print; return the exit status."""
     if options.last:
         print_tables(kept.read(options.kept, RoundRecord), options.all_rounds)
         return 0

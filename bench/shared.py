@@ -1,4 +1,4 @@
-"""What these programs share with the checks: the parts of tests/harness that they use."""
+"""The parts of tests/harness that these programs use."""
 
 from __future__ import annotations
 

@@ -1,12 +1,12 @@
-"""Measures how long a start of firmd takes from a snapshot and the lines behind it.
+"""Measure the time of a start of firmd from a snapshot and the lines after it.
 
 usage: tools/run bench/starts.py [--firm FILE] [--state FILE] [--tenants N] [--tasks N] [--machines N] [--lines N]
                                  [--every N]
-A service of tenants with so many tasks and machines, each after a round, is saved by firm_state, and firmd begins with
-it. Then lines of all tenants come, one in `every` a round, and firmd is killed before it makes a snapshot of them: a
-start reads the state and replays the lines. As many lines before them are in a snapshot. Prints the lines, the
-bytes of the state, and the seconds from the start of the process to `ready`, with the processor time of firmd and of
-firm until then, which alone tells on a busy host how long it takes elsewhere.
+firm_state saves a service of tenants with this many tasks and machines, each after a round, and firmd begins with it.
+Then lines of all tenants come, one in `every` a round, and firmd is killed before it makes a snapshot of them: a start
+reads the state and replays the lines. As many lines before them are in a snapshot. Prints the lines, the bytes of the
+state, and the seconds from the start of the process to `ready`. The processor time of firmd and of firm until then is
+printed too: on a busy host it alone predicts the time elsewhere.
 """
 
 from __future__ import annotations
@@ -31,7 +31,7 @@ BURST = 1_000  # lines that wait for their replies
 
 
 class Seconds(NamedTuple):
-    """Of a start: by the clock, and of the processor for firmd and for firm, which run beside each other."""
+    """A start's seconds: by the clock, and of the processor for firmd and for firm, which run beside each other."""
 
     clock: float
     firmd: float
@@ -54,7 +54,7 @@ class Service:
         self.process: subprocess.Popen[bytes] | None = None
 
     def start(self, restored: Path | None, lines: int) -> Seconds:
-        """Starts it, to make snapshots after so many lines; what it takes until it serves."""
+        """Start it, with a snapshot due after this many lines; return its cost until it serves."""
         words = [*FIRMD, "--firm", self.options.firm, "--state", str(self.folder / "served")]
         words += ["--socket", str(self.folder / "any"), "--snapshot-lines", str(lines)]
         words += ["--restore", str(restored)] if restored else []
@@ -80,7 +80,7 @@ class Service:
         return any((self.folder / "served" / "snapshots").glob("*.snapshot"))
 
     def send(self, count: int) -> None:
-        """Gives it lines of all tenants, in turn."""
+        """Send it lines of all tenants, in turn."""
         options = self.options
         with socket.socket(socket.AF_UNIX) as client:
             client.connect(str(self.folder / "any"))
@@ -100,7 +100,7 @@ def line_of(number: int, options: argparse.Namespace) -> str:
 
 
 def full_state(options: argparse.Namespace, folder: Path) -> bytes:
-    """The state of tenants that differ in their names alone, each after its first round."""
+    """Return the state of tenants that differ in their names alone, each after its first round."""
     stream = kinds.make(options.kind, options.tasks, options.machines)
     roster, state = folder / "roster.csv", [options.state, "--roster", str(folder / "roster.csv")]
     roster.write_text(stream.roster)
@@ -149,7 +149,7 @@ def main() -> int:
     parser.add_argument("--tasks", type=int, default=300)
     parser.add_argument("--machines", type=int, default=100)
     parser.add_argument("--lines", type=int, default=100_000)
-    parser.add_argument("--every", type=int, default=1_000, help="one line of so many asks for a round")
+    parser.add_argument("--every", type=int, default=1_000, help="one line of this many requests a round")
     options = parser.parse_args()
     with tempfile.TemporaryDirectory(prefix="firm-") as name:
         measure(options, Path(name))

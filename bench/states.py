@@ -1,11 +1,11 @@
-"""Measures how long the built firm_state takes to read a state and to write it again, and where that time goes.
+"""Measure the times of the built firm_state for reading a state and writing it again, by parts.
 
 usage: tools/run bench/states.py [--state FILE] [--kind KIND] [--tasks N] [--machines N] [--tenants N,..] [--repeats N]
 A tenant of a kind of stream is brought to its first round, and its state is multiplied. Prints a table in Markdown of
-times in milliseconds, each the median of some runs: `start` is that of a run without a state; `read` what a run takes
-beyond it to read and judge the text, as a text that is faulty in its last line tells; `tenants` what it takes beyond
-that to open the tenants and to write their state; `whole` is the whole run by the clock, `processor` its processor
-time. The exit status is 1 where a state is not written as it was read.
+times in milliseconds, each the median of some runs. `start` is that of a run without a state. `read` is the further
+time to read and judge the text, measured by a text with a fault in its last line. `tenants` is the further time to open
+the tenants and to write their state. `whole` is the whole run by the clock, `processor` its processor time. The exit
+status is 1 if a state is not written as it was read.
 """
 
 from __future__ import annotations
@@ -27,7 +27,7 @@ COLUMNS = ("tenants", "rows", "KiB", "start", "read", "tenants", "whole", "proce
 
 
 class Timed(NamedTuple):
-    """The seconds of a run, by the clock and of the processor, and what it wrote."""
+    """The seconds of a run, by the clock and of the processor, and its output."""
 
     clock: float
     processor: float
@@ -42,13 +42,13 @@ class MedianRun(NamedTuple):
 
 
 def processor_seconds() -> float:
-    """What the ended programs took so far."""
+    """Return the processor time of the ended programs so far."""
     used = resource.getrusage(resource.RUSAGE_CHILDREN)
     return used.ru_utime + used.ru_stime
 
 
 def timed(words: Sequence[str], status: int = 0) -> Timed:
-    """One run with no input, which must end with the status."""
+    """Run once with no input; require this status."""
     before, begun = processor_seconds(), time.perf_counter()
     done = subprocess.run(words, stdin=subprocess.DEVNULL, capture_output=True)
     ended = time.perf_counter()
@@ -62,7 +62,7 @@ def median_of(words: Sequence[str], repeats: int, status: int = 0) -> MedianRun:
 
 
 def rows_of_tenant(options: argparse.Namespace, folder: Path) -> list[str]:
-    """The rows of the place of one tenant after the first round of a stream."""
+    """Return the rows of the place of one tenant after the first round of a stream."""
     stream = kinds.make(options.kind, options.tasks, options.machines)
     (folder / "roster.csv").write_text(stream.roster)
     lines = "".join(f"{line}\n" for line in [*stream.parts[0], f"{TENANT} round"])
@@ -75,7 +75,7 @@ def rows_of_tenant(options: argparse.Namespace, folder: Path) -> list[str]:
 
 
 def state_of(rows: list[str], tenants: int) -> str:
-    """The state of tenants that differ in their names alone."""
+    """Return the state of tenants that differ in their names alone."""
     heading = f"tenant {TENANT} "
     many = [
         row.replace(heading, f"tenant {TENANT}{number} ") if row.startswith(heading) else row
@@ -86,7 +86,7 @@ def state_of(rows: list[str], tenants: int) -> str:
 
 
 def cells(options: argparse.Namespace, text: str, tenants: int, folder: Path) -> list[str]:
-    """The cells of the table for a state."""
+    """Return the cells of the table for a state."""
     path, faulty = folder / "state", folder / "faulty"
     path.write_text(text)
     count = text.count("\n") - 2

@@ -1,8 +1,8 @@
-"""Measures how long a submission takes to become a process: by firmd, firm-queue and firm-agent, as a user has them.
+"""Measure the time from a submission to its process: by firmd, firm-api and firm-agent, as a user has them.
 
 usage: tools/run bench/submits.py [--firm FILE] [--count N]
-One client submits a command, waits until that has ended, and submits the next. Prints the milliseconds from `submit` to
-the first instruction of the process, which tells the clock's time, with the load of the host.
+One client submits a command, waits until it has ended, and submits the next. Prints the milliseconds from `submit` to
+the first instruction of the process, which prints the clock's time, with the load of the host.
 """
 
 from __future__ import annotations
@@ -18,14 +18,15 @@ from collections.abc import Iterator
 from contextlib import contextmanager
 from pathlib import Path
 
-from firm_service.queue.client import Queue, Submission
+from firm.client.calls import submit, wait
+from firm.client.blocking import ApiClient
 
 from shared import ROOT, built, compile_source, program_file, require, run_script
 
 SERVICE = ROOT / "service"
 ROSTER = "tenant,nodes,arcs,life,spread,churn\nalpha,60,400,1000000000,0,1000\n"
 SECONDS = 60.0  # for all to be there
-# A process that says when it began, with as little before that as can be.
+# A process that prints its time of start, with as little before that as possible.
 SOURCE = """\
 #include <stdio.h>
 #include <time.h>
@@ -39,7 +40,7 @@ int main(void) {
 
 @contextmanager
 def started(*commands: list[str]) -> Iterator[None]:
-    """Programs that run until the `with` block ends."""
+    """Start programs that run until the `with` block ends."""
     processes = [subprocess.Popen(words, stdin=subprocess.DEVNULL, stderr=subprocess.DEVNULL) for words in commands]
     try:
         yield
@@ -50,10 +51,9 @@ def started(*commands: list[str]) -> Iterator[None]:
             process.wait()
 
 
-def firmctl(queue: Path, *words: str) -> str:
-    done = subprocess.run(
-        [sys.executable, SERVICE / "firmctl", *words, "--queue", queue], capture_output=True, text=True
-    )
+def firmctl(server: str, *words: str) -> str:
+    at = ["--server", server, "--tenant", "alpha"]
+    done = subprocess.run([sys.executable, SERVICE / "firmctl", *words, *at], capture_output=True, text=True)
     require(done.returncode == 0, f"{words}: {done.stderr}")
     return done.stdout
 
@@ -63,25 +63,28 @@ def measure(firm: str, count: int, folder: Path) -> None:
     (folder / "clock.c").write_text(SOURCE)
     clock = folder / "clock"
     compile_source(["cc", "-O1", "-o", str(clock), str(folder / "clock.c")])
-    lines, view, queue = folder / "lines", folder / "state" / "view", folder / "queue"
+    lines = folder / "lines"
     words = [[str(SERVICE / "firmd"), "--firm", firm, "--roster", f"{folder}/roster.csv", "--state", f"{folder}/state"]]
     words[0] += ["--socket", str(lines)]
-    words += [[str(SERVICE / "firm-queue"), "run", "--tenant", "alpha", "--socket", str(queue)]]
-    words[1] += ["--state", f"{folder}/queue-state", "--firm", str(lines), "--view", str(view)]
-    words += [[str(SERVICE / "firm-agent"), "run", "--queue", str(queue), "--view", str(view), "--name", "a1"]]
-    words[2] += ["--machines", "m1=4", "--state", f"{folder}/agent"]
+    words += [[str(SERVICE / "firm-api"), "run", "--state", f"{folder}/state", "--socket", f"{folder}/api"]]
+    places = {"lines": lines, "queue": folder / "queue-state"}
+    words[1] += [f"--{name}=alpha={path}" for name, path in places.items()]
+    words += [[str(SERVICE / "firm-agent"), "run", f"--server=unix:{folder}/api", "--tenant=alpha", "--name=a1"]]
+    words[2] += ["--machines=m1=4", f"--state={folder}/agent"]
+    server = f"unix:{folder / 'api'}"
     with started(*words):
         ends = time.monotonic() + SECONDS
-        while not queue.exists() or " up " not in firmctl(queue, "machines"):
+        while not (folder / "api").exists() or " up " not in firmctl(server, "machines"):
             require(time.monotonic() < ends, "they are not there in time")
             time.sleep(0.2)
         took = []
-        with Queue(queue) as client:
-            for _ in range(count):
-                sent = time.monotonic()
-                number = client.submit(Submission(command=(str(clock),), dir=str(folder))).id
-                client.wait([number])
-                took.append(1_000 * (float(b"".join(client.log(number))) - sent))
+        client = ApiClient(server, "alpha")
+        for _ in range(count):
+            sent = time.monotonic()
+            (made,) = client.ask(submit([{"command": [str(clock)], "dir": str(folder)}]))
+            number = str(made["number"])
+            client.ask(wait([number]))
+            took.append(1_000 * (float(b"".join(client.log(number))) - sent))
     load = ", ".join(f"{one:.1f}" for one in os.getloadavg())
     middle, least, most = statistics.median(took), min(took), max(took)
     print(f"{count} submissions: {middle:.0f} ms by median, {least:.0f} at least, {most:.0f} at most; load {load}")

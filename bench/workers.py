@@ -1,12 +1,12 @@
-"""Measures rounds a second of the built program with some numbers of workers.
+"""Measure rounds a second of the built program with some numbers of workers.
 
 usage: tools/run bench/workers.py [--program FILE] [--beside FILE] [--measure FILE] [--workers 1,2,4] [--tenants N]
                         [--size 500x100] [--rounds N] [--repeats R] [--keep]
-Each tenant has a full cold book and asks its rounds in turn with the others, from a file to a file: the best of R runs,
-less a run that only adds the rows, by the clock on the wall and by processor time. With each number of workers the
-output must be the same, and that of `firm_explain measure`, on one thread, where it is built; the exit status is 1
-where one differs. With `--beside` another built program is measured in turn with it. Each row of the table is kept as a
-line of JSON in out/bench/workers.jsonl. bench/live.py measures what one client sees, and an idle service.
+Each tenant has a full cold book and requests its rounds in turn with the others, from a file to a file: the best of R
+runs, less a run that only adds the rows, by the clock on the wall and by processor time. With each number of workers
+the output must be the same, and that of `firm_explain measure`, on one thread, if it is built; the exit status is 1 if
+one differs. With `--beside` another built program is measured in turn with it. Each row of the table is written as a
+line of JSON to out/bench/workers.jsonl. bench/live.py measures a client's view, and an idle service.
 """
 
 from __future__ import annotations
@@ -47,7 +47,7 @@ class Options:
 
 
 class Service(NamedTuple):
-    """A program, the number of its workers, and how it is started."""
+    """A program, the number of its workers, and the command that starts it."""
 
     name: str
     workers: int | None  # None: it serves on one thread
@@ -67,7 +67,7 @@ def roster(tenants: list[str]) -> str:
 
 
 def opening(name: str, tasks: int, machines: int) -> list[str]:
-    """The lines that add a tenant's rows: a tenth more slots than tasks."""
+    """Return the lines that add a tenant's rows: a tenth more slots than tasks."""
     slots = max(1, -(-11 * tasks // (10 * machines)))
     lines = [f"{name} machine m{place} {slots}" for place in range(machines)]
     lines += [f"{name} job j{place} {10 + place}" for place in range(10)]
@@ -97,7 +97,7 @@ def run(command: list[str], path: Path) -> Spent:
 
 
 def best_of(commands: list[list[str]], repeats: int, path: Path) -> list[Spent]:
-    """Of each command the least times of some runs, taken in turn, and its output."""
+    """Return for each command the least times of some runs, taken in turn, and its output."""
     found = [[run(command, path) for command in commands] for _ in range(repeats)]
     return [
         Spent(min(spent.wall for spent in runs), min(spent.processor for spent in runs), runs[0].output)
@@ -116,7 +116,7 @@ def services_of(options: Options) -> list[Service]:
 
 
 def measure(options: Options, folder: Path) -> tuple[list[RateRecord], bool]:
-    """The rate of each service, and whether all outputs were the same."""
+    """Return the rate of each service, and whether all outputs were the same."""
     inputs, services = Inputs(folder, options), services_of(options)
     commands = [[*service.command, "--roster", str(inputs.roster)] for service in services]
     rows, whole = (best_of(commands, options.repeats, path) for path in (inputs.rows, inputs.all))
@@ -129,7 +129,7 @@ def measure(options: Options, folder: Path) -> tuple[list[RateRecord], bool]:
 
 
 def print_rates(records: list[RateRecord]) -> None:
-    """A row for each service."""
+    """Print a row for each service."""
     print(TABLE)
     for record in records:
         workers = "none" if record.workers is None else str(record.workers)
@@ -146,14 +146,14 @@ def read_options() -> Options:
     parser.add_argument("--workers", default="1,2,4")
     parser.add_argument("--tenants", type=int, default=8)
     parser.add_argument("--size", type=read_size, default="500x100", help="tasks and machines of a tenant")
-    parser.add_argument("--rounds", type=int, default=50, help="of each tenant")
+    parser.add_argument("--rounds", type=int, default=50, help="rounds of each tenant")
     parser.add_argument("--repeats", type=int, default=3)
     parser.add_argument("--keep", action="store_true", help=results.HELP)
     return Options(**vars(parser.parse_args()))
 
 
 def show(options: Options) -> int:
-    """Measures and prints; the exit status."""
+    """Measure and print; return the exit status."""
     print(f"load before: {os.getloadavg()[0]:.1f} on {os.cpu_count()} processors\n")
     with tempfile.TemporaryDirectory(prefix="firm-") as name:
         records, is_alike = measure(options, Path(name))

@@ -9,12 +9,12 @@ import sys
 import tempfile
 import time
 
-from agent_kit import Case, is_there
+from agent_kit import SOON_SECONDS, Case, Row, is_there
 from harness.checks import require
-from queue_stand_in import Cluster, Row
+from queue_stand_in import LONG_SECONDS, Cluster, clock
 
 LEASE_SECONDS = 10.0
-# An agent whose disk hangs while a file is there.
+# An agent whose disk hangs while a file exists.
 HANGS = """\
 import os, sys, time
 sign, sync = sys.argv.pop(1), os.fdatasync
@@ -23,14 +23,25 @@ def hanging(file):
         time.sleep(0.05)
     sync(file)
 os.fdatasync = hanging
-from firm_service import agent
+from firm.agent import daemon as agent
 sys.exit(agent.main())
 """
-# An agent's events on a disk that takes no more at some moment, and takes back nothing either; perhaps until a kill.
+# An agent whose disk takes a second for each sync while a file is there.
+SLOW = """\
+import os, sys, time
+sign, sync = sys.argv.pop(1), os.fdatasync
+def slow(file):
+    time.sleep(os.path.exists(sign))
+    sync(file)
+os.fdatasync = slow
+from firm.agent import daemon as agent
+sys.exit(agent.main())
+"""
+# An agent whose disk for events fails at some moment, and can't undo a partial write; perhaps until a kill.
 FAILS = """\
 import errno, os, sys
 from pathlib import Path
-from firm_service.agent_state import Key, State
+from firm.agent.state import Key, State
 folder, lacking, goes_on = Path(sys.argv[1]), sys.argv[2].split(), sys.argv[3] == "goes on"
 real, failing = {name: getattr(os, name) for name in ("write", "fdatasync", "ftruncate", "unlink")}, []
 def call(name, *words):
@@ -43,9 +54,9 @@ for name in real:
     setattr(os, name, lambda *words, name=name, **more: call(name, *words))
 def start(state, task):
     return state.start(Key(task, 1, "first"), {"job": "j", "weight": 1, "machine": "m1"}).number
-state = State(folder, "a1", is_patient=True)
+state = State(folder, "a1")
 runs = [start(state, task) for task in "abc"]
-state.record("running", run=runs[0], pid=1)
+state.record("running", run=runs[0], pid=1, output=None)
 failing[:] = lacking
 state.record("ended", run=runs[0], status=0, asked=False, fault=None)
 state.record("ended", run=runs[1], status=3, asked=False, fault=None)
@@ -57,16 +68,17 @@ except OSError:
 failing.clear()
 if goes_on:
     state.write_waiting()
-    state.record("running", run=start(state, "e"), pid=5)
+    state.record("running", run=start(state, "e"), pid=5, output=None)
 state.lock.close()
-again = State(folder, "a1", is_patient=True)
+again = State(folder, "a1")
 print(*sorted(run.key.task for run in again.history.runs.values()))
-print(*sorted(key.task for key, tally in again.history.tallies.items() if tally.finished or tally.failures))
+print(*sorted({"a", "b", "c"} - {run.key.task for run in again.history.runs.values()}))
 """
 
 
 def full_disk() -> None:
-    """An agent on a full disk keeps its lease and its runs, begins nothing, and tells of all once there is room."""
+    """An agent on a full disk keeps its lease and its runs, starts nothing, and reports all events once there is
+    room."""
     with Cluster("a", "b", lease=LEASE_SECONDS) as case:
         case.start_registered()
         case.firmd.round("start a m1")
@@ -88,8 +100,8 @@ def full_disk() -> None:
 
 
 def failing_disk() -> None:
-    """What a disk neither takes nor takes back counts for nothing, and nothing is written behind it: a start finds what
-    was recorded, and no more, though the agent goes on or is killed then."""
+    """An event that the disk neither takes nor undoes does not count, and nothing is written after it. A start finds
+    the recorded events, and no more, whether the agent goes on or is killed then."""
     lacking = {"write ftruncate": "", "fdatasync ftruncate": "a", "write unlink": "", "fdatasync ftruncate unlink": "a"}
     for calls, known in lacking.items():
         for how in ("goes on", "is killed"):
@@ -103,7 +115,7 @@ def failing_disk() -> None:
 
 
 def hung_disk() -> None:
-    """An agent whose disk hangs keeps its lease, so that what runs goes on, tells how that ends, and begins nothing."""
+    """An agent whose disk hangs keeps its lease, so that runs go on; it reports their ends, and starts nothing."""
     with Cluster("a", "b", "c", lease=1.5 * LEASE_SECONDS) as case:
         sign = case.folder / "hangs"
         case.start_agent(before=[sys.executable, "-c", HANGS, str(sign)])
@@ -130,6 +142,9 @@ def hung_disk() -> None:
         require(case.queue.kept == [] and '"keep"' not in case.text("a1/events.jsonl"), "c is kept")
         case.queue.tell("a1", **keep)
         case.until(lambda: case.queue.kept == keep["tokens"], "it is kept once it is told again")
+        case.queue.lease, told = LONG_SECONDS, clock()  # a busy host takes longer than the other to start an agent
+        case.until(lambda: case.queue.agents["a1"].answered > told, "a beat has the longer lease")
+        time.sleep(SOON_SECONDS)
         case.kill_agent("a1")
         case.start_registered()
         case.go("b", "c")
@@ -138,6 +153,33 @@ def hung_disk() -> None:
         require([case.text(f"{task}.log") for task in "abc"] == ["begin m1\nend\n"] * 3, "each was run once")
 
 
+def slow_disk() -> None:
+    """An agent whose disk is slow keeps its lease while it begins many runs at once, is to keep them, and they end."""
+    others = [f"b{number}" for number in range(int(1.5 * LEASE_SECONDS))]
+    with Cluster("a", *others, lease=LEASE_SECONDS) as case:
+        sign = case.folder / "is-slow"
+        case.start_agent(machines="m1=64", before=[sys.executable, "-c", SLOW, str(sign)])
+        case.until(lambda: "a1" in case.queue.agents, "it is registered")
+        case.firmd.round("start a m1")
+        case.until_told("running", "a")
+        sign.touch()
+        case.firmd.round(" ".join(f"start {task} m1" for task in others))
+        time.sleep(2 * LEASE_SECONDS)
+        require(not case.queue.ends("a"), f"its lease was over as others began: {case.told()}")
+        sign.unlink()
+        case.until_begun("a", *others)
+        sign.touch()
+        tokens = [case.queue.token(task) for task in others]
+        case.queue.tell("a1", tell="keep", tokens=tokens)
+        case.until(lambda: set(case.queue.kept) >= set(tokens), "they are kept")
+        require(not case.queue.ends("a"), f"its lease was over as others were kept: {case.told()}")
+        case.go(*others)
+        for task in others:
+            require(case.until_told("ended", task)["status"] == 0, f"how {task} ended")
+        require(not case.queue.ends("a"), f"its lease was over as others ended: {case.told()}")
+        require([case.text(f"{task}.log") for task in others] == ["begin m1\nend\n"] * len(others), "each was run once")
+
+
 def events_of(case: Case) -> list[Row]:
-    """What the first agent has recorded."""
+    """Return the events that the first agent has recorded."""
     return [json.loads(line) for line in case.text("a1/events.jsonl").splitlines()]

@@ -1,8 +1,10 @@
-"""Checks of whose processes tasks are that a queue gives to an agent, which tests/agents.py runs."""
+"""Checks of the users under whom an agent runs a queue's tasks, which tests/agents.py runs."""
 
 from __future__ import annotations
 
 import contextlib
+import ctypes
+import errno
 import os
 import pwd
 import sys
@@ -11,25 +13,46 @@ from collections.abc import Iterator
 from pathlib import Path
 from typing import Any
 
+from agent_kit import Row
 from harness.checks import Skipped, require
-from harness.deployed import NotAllowed, agent_queue, work_of
-from queue_stand_in import Cluster, Row
+from harness.deployed import NotAllowed, agent_work, work_of
+from queue_stand_in import Cluster
 
 GAMES = 5  # an account that each Debian host has, and whose number is a system account's unless UID_MIN says otherwise
 # An agent with other groups than its tasks' users have, for which accounts from a number on are people's.
 OF_PEOPLE_FROM = """\
 import os, pathlib, sys
-from firm_service import agent, agent_queue
-agent_queue.LOGIN_DEFS = pathlib.Path(sys.argv.pop(1))
+from firm.agent import daemon as agent, work as agent_work
+agent_work.LOGIN_DEFS = pathlib.Path(sys.argv.pop(1))
 os.setgroups([0, 4])
+sys.exit(agent.main())
+"""
+KEYCTL = {"x86_64": 250, "aarch64": 219, "riscv64": 219, "ppc64le": 271, "s390x": 280}  # the system call, by machine
+# Looks for a key of the session, or adds one.
+KEYS = """\
+import ctypes, sys
+call, what, name = int(sys.argv[1]), sys.argv[2], sys.argv[3].encode()
+libc = ctypes.CDLL(None)
+if what == "add":
+    sys.exit(libc.syscall(call - 2, b"user", name, name, len(name), -3) < 0)
+sys.exit(3 if libc.syscall(call, 10, -3, b"user", name, 0) < 0 else 0)
+"""
+# An agent whose session has a key of root's, as by a login; it is for the accounts from a number on.
+WITH_KEYS = """\
+import ctypes, pathlib, sys
+from firm.agent import daemon as agent, work as agent_work
+call, libc = int(sys.argv.pop(1)), ctypes.CDLL(None)
+libc.syscall(call, 1, None)
+libc.syscall(call - 2, b"user", b"roots", b"roots", 5, -3)
+agent_work.LOGIN_DEFS = pathlib.Path(sys.argv.pop(1))
 sys.exit(agent.main())
 """
 WORK: Row = {"command": ["true"], "grace": 5, "dir": "/"}
 
 
 def other_user() -> None:
-    """As root, a task is its user's process, with that user's rights, groups, home and output; a system account, and a
-    number without an account, have none."""
+    """Under root's agent, a task is its user's process, with that user's rights, groups, home and output. A system
+    account, and a number without an account, have none."""
     if os.getuid() != 0:
         raise Skipped("it needs root")
     with Cluster() as case:
@@ -67,15 +90,37 @@ def other_user() -> None:
             require((end["status"], end["fault"]) == (126, fault), end)
 
 
+def others_keys() -> None:
+    """Under root's agent, a task finds no key in its session: neither root's nor one of another user's task."""
+    if os.getuid() != 0:
+        raise Skipped("it needs root")
+    call = KEYCTL.get(os.uname().machine, 0)
+    libc = ctypes.CDLL(None, use_errno=True)
+    if libc.syscall(call, 0, -4, 0) < 0 and ctypes.get_errno() in (errno.ENOSYS, errno.EPERM):
+        raise Skipped("there are no keys here")
+    with Cluster() as case:
+        case.folder.chmod(0o755)
+        (case.folder / "login.defs").write_text(f"UID_MIN {GAMES}\n")
+        asked = {"a": (GAMES, "find", "roots"), "b": (GAMES, "add", "games"), "c": (GAMES + 1, "find", "games")}
+        for task, (user, what, name) in asked.items():
+            case.submit(task, [sys.executable, "-c", KEYS, str(call), what, name], user=user)
+        case.start_registered(before=[sys.executable, "-c", WITH_KEYS, str(call), str(case.folder / "login.defs")])
+        statuses = {}
+        for task in asked:
+            case.firmd.round(f"start {task} m1")
+            statuses[task] = case.until_told("ended", task)["status"]
+        require(statuses == {"a": 3, "b": 0, "c": 3}, f"another user's key is readable: {statuses}")
+
+
 def whose_work() -> None:
-    """Work is run by an agent of root as the user that the queue names, or as the queue's own: as root for root's queue
+    """An agent of root runs work as the user that the queue names, or as the queue's own: as root for root's queue
     alone, and as no system account for any."""
     if os.getuid() != 0:
         raise Skipped("it needs root")
     system, people = [1, 33, 999, 65_534, 65_535], [1_000, 60_001, 123_456, 2**31, 2**32 - 2]
     with tempfile.TemporaryDirectory(prefix="firm-") as name:
         definitions = Path(name, "login.defs")
-        with replaced(agent_queue, "LOGIN_DEFS", definitions):  # there is none: the numbers from 1,000 on are people's
+        with replaced(agent_work, "LOGIN_DEFS", definitions):  # there is none: the numbers from 1,000 on are people's
             for owner in (0, 33, 1_000):
                 found = {user: user_of_work(owner, user) for user in (0, *system, *people)}
                 expected: dict[int, object] = {user: f"user {user}" for user in (0, *system)}
@@ -97,13 +142,12 @@ def whose_work() -> None:
     others: list[object] = [0, False, True, 0.0, 7.0, -1, 2**32 - 1, 2**32, "0", "7", [0], {}]
     taken = [user for user in others if is_work({**WORK, "user": user})]
     require(not taken, f"taken for users: {taken}")
-    require(work_of({**WORK, "user": 33}, 7, False).bounds == {}, "over ssh it is the login's")
-    with replaced(os, "geteuid", lambda: 1_000):  # an agent that is not root's can't become another, and isn't asked to
-        require(work_of({**WORK, "user": 1_001}, 0, True).bounds == {}, "of an agent that is not root's")
+    with replaced(os, "geteuid", lambda: 1_000):  # an agent that is not root's can't become another, and need not
+        require(work_of({**WORK, "user": 1_001}, 0).bounds == {}, "of an agent that is not root's")
 
 
 def replaced_socket() -> None:
-    """An agent of root takes no work from a socket that a third user could replace, who would have it run as any."""
+    """An agent of root takes no work from a socket that a third user could replace: that user could run it as any."""
     if os.getuid() != 0:
         raise Skipped("it needs root")
     with Cluster() as case:
@@ -120,9 +164,10 @@ def replaced_socket() -> None:
 
 
 def user_of_work(owner: int, user: int | None) -> int | str:
-    """Whose process an agent of root makes of an owner's queue's work for a user, or whom the refusal names."""
+    """Return the user under whom an agent of root runs a user's work of an owner's queue, or the user that the
+    refusal names."""
     try:
-        return int(work_of({**WORK, "user": user}, owner, True).bounds.get("user", 0))
+        return int(work_of({**WORK, "user": user}, owner).bounds.get("user", 0))
     except NotAllowed as refusal:
         require(str(refusal).endswith(": system accounts run no tasks"), refusal)
         return str(refusal).removeprefix("the queue names ").partition(":")[0]
@@ -130,7 +175,7 @@ def user_of_work(owner: int, user: int | None) -> int | str:
 
 @contextlib.contextmanager
 def replaced(place: Any, name: str, value: object) -> Iterator[None]:
-    """Has a module another value meanwhile."""
+    """Replace a value of a module meanwhile."""
     before = getattr(place, name)
     setattr(place, name, value)
     try:
@@ -140,9 +185,9 @@ def replaced(place: Any, name: str, value: object) -> Iterator[None]:
 
 
 def is_work(row: object) -> bool:
-    """Whether an agent takes what a queue of another user gives it."""
+    """Return whether an agent accepts the work of another user's queue."""
     try:
-        work_of(row, 1_000, True)
+        work_of(row, 1_000)
     except NotAllowed:
         return False
     return True

@@ -1,15 +1,16 @@
-"""Asks firm-api as users, operators and programs do, and holds its answers to its own OpenAPI document.
+"""Check firm-api with users, operators and programs, and its answers against its own OpenAPI document.
 
 usage: tools/run tests/api.py [--quick] [--only WORD] [--program FILE]
-Each check has a line; the last line is 'N passed, M failed', and the exit status is 1 where one failed. It needs the
-built program, python3-aiohttp and python3-prometheus-client; the document python3-jsonschema and openapi-specification,
-TLS openssl, the page's lines curl, and other users root. Checks that lack one of these are skipped. --quick asks less
-of each kind. `tests/api_hostile.py` has hostile clients.
+Each check prints a line; the last line is 'N passed, M failed', and the exit status is 1 if one failed. It needs the
+built program, python3-aiohttp and python3-prometheus-client. The document also needs python3-jsonschema and
+openapi-specification, TLS openssl, the page's lines curl, and other users root. Checks that lack one of these are
+skipped. --quick sends fewer requests of each kind. `tests/api_hostile.py` has hostile clients.
 """
 
 from __future__ import annotations
 
 import argparse
+import grp
 import importlib.util
 import json
 import os
@@ -17,28 +18,31 @@ import re
 import shutil
 import signal
 import socket
-import ssl
 import subprocess
 import sys
 import time
-from collections.abc import Callable, Iterator
-from contextlib import closing, suppress
+from collections.abc import Iterator
+from contextlib import closing
 from functools import partial
 from pathlib import Path
 from typing import Any
 
-from api_kit import Answer, Connection, Events, Judge, Site, certificate, connected, port_of, site
+import api_tokens
+from queue_client import LIMIT_SECONDS, Answer, Client, Connection, Json, as_user_does, connected
+from api_kit import Events, Judge, Site, certificate, port_of, site
 from harness import program
 from harness.checks import Check, Skipped, Suite, require, run_script, run_suites
 from harness.program import ROOT, built
 from harness.sessions import blocks_of
 from hostile import python_with_http
-from queue_kit import ANN, BOB, LIMIT_SECONDS, Case, Client, Json, Setup, as_user_does, claim_place
+from queue_kit import ANN, BOB, FIRM_API, Case, Setup, claim_place
 
 SCHEMA = Path("/usr/share/openapi-specification/schemas/v3.0/schema.json")
 PAGE = ROOT / "docs" / "API.md"
 OPERATIONS = ("get", "post", "put", "delete", "patch", "head")
 NO_TASK = {"tasks": ["9999"]}
+SOCKET = "/v1/tenants/{tenant}/agents/connect"  # tests/api_agents.py checks it
+GROUP = "users"  # each system has it
 MANY = 1_200  # tasks, more than a page has
 TLS_PORT = "8443"  # of the page's lines
 STREAMS = 40  # more than a user may have
@@ -51,11 +55,12 @@ exec /usr/bin/curl -sS --fail-with-body --max-time $seconds "$@"
 ROUTES = """\
 import asyncio, json, sys
 from pathlib import Path
-from firm_service.api import daemon, serving
-from firm_service.faults import Faults
+from firm.api import daemon, serving
+from firm.common.faults import Faults
 given = daemon.options_of(daemon.parser().parse_args(["run", "--state", "x", "--socket", "x"]))
 async def routes():
-    found = await serving.Server.start(given, "x", Faults(), None)
+    found = serving.ApiServer(given, "x", Faults(), None)
+    await found.start()
     return sorted({(route.method, route.resource.canonical) for route in found.app.router.routes()})
 print(json.dumps(asyncio.run(routes())))
 """
@@ -76,8 +81,8 @@ def references(found: Any) -> Iterator[str]:
 
 
 def document(setup: Setup) -> None:
-    """The document is one of OpenAPI 3.0.3, each of its references leads somewhere, and it has each route and no other.
-    The schema refuses faulty ones."""
+    """The document is one of OpenAPI 3.0.3, each of its references leads somewhere, and it has each route and no
+    other. The schema refuses faulty ones."""
     with site(setup) as served:
         found = served.get("/v1/openapi.json")
         dangling = [name for name in references(found) if not has_reference(found, name)]
@@ -127,7 +132,7 @@ def judge_of(served: Site) -> Judge:
 
 
 def run_one(case: Case, task: str, text: str = "said\n") -> Client:
-    """Has an agent run a task, which has written a text; its connection."""
+    """Run a task that writes a text, by an agent; return its connection."""
     agent = case.client()
     agent.ask("register", agent="a1", id="x", machines={"m1": 4}, runs=[])
     agent.ask("claim", token="aaaaaaaa", run=1, **claim_place(case, task))
@@ -139,24 +144,13 @@ def run_one(case: Case, task: str, text: str = "said\n") -> Client:
 
 
 def end_one(agent: Client, status: int = 0) -> None:
-    agent.ask("told", events=[{"event": "ended", "asked": False, "token": "aaaaaaaa", "status": status, "seconds": 2}])
-
-
-def lines_option(setup: Setup) -> Callable[[Site], None]:
-    """Has a site send lines by the any-tenant socket of firmd."""
-
-    def add(served: Site) -> None:
-        served.kill()
-        served.options.append(f"--lines={served.case.tenant}={served.case.firmd.any}")
-        served.start()
-
-    return add
+    end = {"event": "ended", "asked": False, "token": "aaaaaaaa", "status": status, "seconds": 2}
+    agent.ask("told", events=[{**end, "max_rss": 2**20, "cpu_seconds": 1.5}])
 
 
 def endpoints(setup: Setup) -> None:
-    """Each endpoint answers good requests as the document says, and shows what the queue and firm have."""
+    """Each endpoint answers good requests as the document says, and shows the rows of the queue and of firm."""
     with site(setup) as served:
-        lines_option(setup)(served)
         judge, of, tenant = judge_of(served), served.of, served.case.tenant
 
         def ask(method: str, path: str, body: Any = None, status: int = 200) -> Any:
@@ -172,16 +166,27 @@ def endpoints(setup: Setup) -> None:
         again = ask("POST", of("submissions"), batch)["submissions"]
         require([row["number"] for row in again] == [1, 2] and again[0]["again"], again)
         agent = run_one(served.case, "1")
+
+        def is_placed() -> bool:
+            return [row["machine"] for row in ask("GET", of("firm/tasks"))["rows"]] == ["m1"]
+
+        served.case.until(is_placed, "the process for reads has heard of it")
         rows = ask("GET", of("tasks"))["tasks"]
         require([(row["task"], row["state"]) for row in rows[:2]] == [("1", "running"), ("2_1", "blocked")], rows)
         require(rows[1]["reason"] == "waits for 1", rows[1])
         require(ask("GET", of("tasks/1"))["attempts"][0]["machine"] == "m1", "an attempt")
         require(ask("GET", of("tasks/2_3"))["spec"]["array"] == [1, 3], "its spec")
         require(ask("GET", of("tasks/1/why"))["text"], "reasons")
+        require(ask("GET", of("tasks?start=true"))["tasks"][0]["start"] is None, "it runs")
+        require(ask("GET", of("wait?tasks=1&seconds=0"))["ends"] == {"1": {"state": "running", "status": None}}, "wait")
         require(ask("GET", of("tasks/1/log")) == b"said\n", "its output")
         require(ask("GET", of("tasks/1/log?from=2")) == b"id\n", "from a place")
         machines = ask("GET", of("machines"))["machines"]
         require([(row["machine"], row["tasks"]) for row in machines] == [("m1", ["1"])], machines)
+        require(ask("GET", of("firm/tasks"))["rows"][0]["task"] == "1", "firm's rows")
+        require(ask("GET", of("firm/machines?name=m1"))["rows"][0]["tasks"] == ["1"], "one of them")
+        require(ask("GET", of("state"))["text"].startswith("firm state 1"), "its state")
+        served.case.until(lambda: ask("GET", "/v1/firmd")["lines"] > 0, "firmd's numbers, as of a moment ago")
         require(ask("GET", of("jobs"))["jobs"][0]["states"] == {"running": 1, "blocked": 3}, "states of a job")
         require(ask("GET", of("agents"))["agents"][0]["agent"] == "a1", "an agent")
         require(ask("POST", of("hold"), {"tasks": ["2_1"]})["changed"] == ["2_1"], "hold")
@@ -191,6 +196,12 @@ def endpoints(setup: Setup) -> None:
         served.case.until(lambda: not ask("GET", of("tasks"))["tasks"], "all have ended")
         past = ask("GET", of("history"))["history"]
         require({row["task"] for row in past} == {"1", "2_1", "2_2", "2_3"}, past)
+        used = {row["task"]: (row["max_rss"], row["cpu_seconds"]) for row in past}
+        require(used["1"] == (2**20, 1.5) and used["2_1"] == (None, None), used)
+        require(ask("GET", of("history?task=2"))["history"] == [row for row in past if row["number"] == 2], "of one")
+        require(ask("GET", of("wait?tasks=2"))["ends"]["2_3"]["state"] == "cancelled", "all have ended")
+        ended = [(row["task"], row["state"]) for row in ask("GET", of("tasks?states=cancelled,held"))["tasks"]]
+        require(ended == [(name, "cancelled") for name in ("1", "2_1", "2_2", "2_3")], ended)
         for verb in ("cordon", "uncordon", "drain"):
             require(ask("POST", of(verb), {"machines": ["m1"]})["changed"] == ["m1"], verb)
         replies = ask("POST", "/v1/lines", {"tenant": tenant, "lines": [f"{tenant} job x 3", f"{tenant} job x 3"]})
@@ -199,7 +210,7 @@ def endpoints(setup: Setup) -> None:
         require("cost" in found and found["tenant"] == tenant, found)
         status = ask("GET", "/v1/status")
         require(status["tenants"] == [{"tenant": tenant, "role": "operator", "lines": True, "queue": True}], status)
-        require(ask("GET", "/v1/tenants")["tenants"][0]["slots"] == 0, "counts of firm")
+        served.case.until(lambda: ask("GET", "/v1/tenants")["tenants"][0]["slots"] == 0, "counts of firm")
         require(ask("GET", f"/v1/tenants/{tenant}")["last_number"] == 2, "the queue's status")
         require(b"firm_api_requests_total" in ask("GET", "/metrics"), "metrics")
         require(b"<h1>firm</h1>" in ask("GET", "/"), "the page")
@@ -210,7 +221,8 @@ def endpoints(setup: Setup) -> None:
             headers = {name.lower(): value for name, value in answer.getheaders()}
             judge.judge("GET", of("events"), Answer(answer.status, headers, b""))
         told = {(method.upper(), path) for path, item in judge.document["paths"].items() for method in item}
-        require(judge.asked == told, f"endpoints without a request here: {told - judge.asked}")
+        rest = told - judge.asked - {("GET", SOCKET)}
+        require(not rest, f"endpoints without a request here: {rest}")
 
 
 def has_explain() -> bool:
@@ -219,14 +231,15 @@ def has_explain() -> bool:
 
 def plain_tenant(setup: Setup) -> None:
     """A tenant without a queue shows firm's rows to those who may send its lines, and to nobody else."""
-    with setup.case_alone() as case:
+    with setup.case_alone("--socket-mode=666") as case:
         case.folder.chmod(0o755)
-        served = Site(case, [f"--lines=alpha={case.firmd.any}"], has_queue=False)
+        case.has_queue = False
+        served = Site(case.start())
         try:
-            served.start()
             judge, of = judge_of(served), served.of
             rows = ["machine m1 2", "job web 10", *(f"task web {name}" for name in "abc"), "round"]
             body = {"tenant": "alpha", "lines": [f"alpha {row}" for row in rows]}
+            served.until_known()
             with Events(served, "?lines=true") as stream:
                 replies = served.ask("POST", "/v1/lines", body).good()["replies"]
                 require(replies[-1].startswith("alpha 6 ok round"), replies)
@@ -235,7 +248,9 @@ def plain_tenant(setup: Setup) -> None:
             def get(path: str) -> Any:
                 return judge.judge("GET", of(path), served.ask("GET", of(path))).good()
 
-            require(get("machines")["machines"][0]["tasks"] == ["a", "b"], "machines")
+            case.until(  # of the process for changes; the events are of that for reads
+                lambda: [row["tasks"] for row in get("machines")["machines"]] == [["a", "b"]], "machines"
+            )
             require(get("jobs")["jobs"][0]["states"] == {"running": 2, "waiting": 1}, "jobs")
             first = get("tasks?limit=2")
             names = [row["task"] for row in first["tasks"] + get(f"tasks?limit=2&cursor={first['next']}")["tasks"]]
@@ -257,13 +272,32 @@ def plain_tenant(setup: Setup) -> None:
                 asked_as(ANN, served, "GET", of("tasks")).refused(404, "no-such-tenant")
                 case.firmd.any.chmod(0o666)
                 require(len(asked_as(ANN, served, "GET", of("tasks")).good()["tasks"]) == 3, "who may send lines")
+            firmd_leaves(case, served, body)
         finally:
-            served.kill()
+            case.kill()
+
+
+def firmd_leaves(case: Case, served: Site, body: Json) -> None:
+    """While firmd is away its last rows are shown; not if it is one of several replicas, of which another may lead."""
+    with Events(served) as stream:
+        (case.firmd.state / "replica").touch()
+        case.firmd.kill()
+        require(stream.is_closed(), "the events of a replica end with its firmd")
+    paths = ("/v1/firmd", *map(served.of, ("tasks", "machines", "jobs", "events", "tasks/c/why", "firm/tasks")))
+    for path in paths:
+        case.until(lambda: served.ask("GET", path).status == 503, f"{path} is refused")
+        served.ask("GET", path).refused(503, "not-leading")
+    served.ask("POST", "/v1/lines", body).refused(503, "not-leading")
+    require("running" not in served.get("/v1/tenants")["tenants"][0], "its counts")
+    require(b"firm_slots{" not in served.ask("GET", "/metrics").body, "its metrics")
+    (case.firmd.state / "replica").unlink()
+    served.ask("POST", "/v1/lines", body).refused(503, "not-there")
+    require(len(served.get(served.of("tasks"))["tasks"]) == 3, "the rows of one that is alone")
 
 
 def pages_of_tasks(setup: Setup) -> None:
-    """Lists come in pages: each row once, in order, whatever the filter, and no more than asked for; so does the
-    history, also where many tasks end at once."""
+    """Lists come in pages: each row once, in order, whatever the filter, and no more than requested; so does the
+    history, also if many tasks end at once."""
     count = MANY if setup.is_quick else 10 * MANY
     with site(setup) as served:
         of = served.of
@@ -294,8 +328,8 @@ def all_pages(served: Site, kind: str, query: str) -> Iterator[Json]:
 
 
 def logs(setup: Setup) -> None:
-    """A log that is followed has what is written until its task ends, and then ends; one that its client has left takes
-    no room."""
+    """A followed log has its task's output until the task ends, and then ends; a log whose client has left takes no
+    room."""
     with site(setup) as served:
         served.submit("x")
         agent = run_one(served.case, "1")
@@ -312,7 +346,8 @@ def logs(setup: Setup) -> None:
                     gone.sendall(f"GET {path} HTTP/1.1\r\nHost: localhost\r\n\r\n".encode())
                     answered = b""
                     while b"said" not in answered and b"429" not in answered:
-                        answered += gone.recv(1_000)
+                        require(more := gone.recv(1_000), f"neither a log nor a refusal: {answered!r}")
+                        answered += more
             served.case.until(lambda: served.ask("GET", served.of("tasks/1/log")).status == 200, "room again")
             end_one(agent)
             require(answer.read() == b"", "its end")
@@ -328,16 +363,16 @@ def logs(setup: Setup) -> None:
 
 
 def events(setup: Setup) -> None:
-    """A stream has what changes of a task, from its submission to its end, and goes on after the last event that was
-    read; one that is not known is a reset, and so is a start of firm-api."""
+    """A stream has the changes of a task, from its submission to its end, and continues after the last event that
+    was read. An unknown event gives a reset, and so does a restart of firm-api."""
     with site(setup) as served:
-        lines_option(setup)(served)
         with Events(served, "?lines=true") as stream:
             served.submit("x")
             stream.state("1", "waiting")
             agent = run_one(served.case, "1")
             stream.state("1", "running")
-            require(any(" ok round " in data.get("reply", "") for data in stream.seen), "the round that placed it")
+            if not any(map(is_round, stream.seen)):  # events of the queue and of firmd have no common order
+                stream.until(lambda _, data: is_round(data))
             served.submit("y", hold=True)
             stream.state("2", "held")
             last = stream.last
@@ -349,20 +384,20 @@ def events(setup: Setup) -> None:
             with Events(served, "", unknown) as stream:
                 require(stream.next()[0] == "reset", unknown)
         served.ask("GET", served.of("events"), **{"Last-Event-ID": "9" * 65}).refused(400, "bad-field")
-        served.kill()
-        served.start()
+        served.restart()
         with Events(served, "", last) as stream:
             require(stream.next()[0] == "reset", "after a start")
-            served.case.stop()
-            served.case.start()
-            require(stream.next()[0] == "reset", "after a start of the queue")
+
+
+def is_round(event: Json) -> bool:
+    return " ok round " in event.get("reply", "")
 
 
 # Rights.
 
 
 def asked_as(user: int, served: Site, *request: Any, groups: tuple[int, ...] = ()) -> Answer:
-    """The answer to a user."""
+    """Return the answer to a user."""
 
     def ask() -> list[Any]:
         answer = served.ask(*request)
@@ -373,7 +408,8 @@ def asked_as(user: int, served: Site, *request: Any, groups: tuple[int, ...] = (
 
 
 def rights(setup: Setup) -> None:
-    """A user sees and changes what is theirs, through every endpoint; an operator all; another tenant is like none."""
+    """A user sees and changes only the user's own tasks, through every endpoint; an operator all; another tenant
+    looks missing."""
     if os.geteuid():
         raise Skipped("it needs root, to be other users")
     with site(setup) as served:
@@ -401,6 +437,19 @@ def rights(setup: Setup) -> None:
                 403, "operator-only"
             )
             asked_as(user, served, "GET", of("events?lines=true")).refused(403, "operator-only")
+            for path in (
+                "firm/tasks",
+                "state",
+                "state?round=1",
+                f"tasks/{own}/why?reasons=true",
+                "tasks/a/why?round=1",
+            ):
+                asked_as(user, served, "GET", of(path)).refused(403, "operator-only")
+            asked_as(user, served, "GET", "/v1/firmd").refused(403, "operator-only")
+            asked_as(user, served, "GET", of(f"wait?tasks={own},{others}&seconds=0")).refused(404, "no-such-task")
+            for path in (f"history?task={others}", "tasks?states=foreign", "tasks?states=done,failed&cursor=0.0"):
+                rows = asked_as(user, served, "GET", of(path)).good()
+                require(rows.get("tasks", rows.get("history")) == [], f"{path}: {rows}")
             asked_as(user, served, "GET", "/metrics").refused(403, "operator-only")
             for method, path, body in ((("GET", "tasks", None)), ("POST", "submissions", one), ("GET", "events", None)):
                 asked_as(user, served, method, of_other(path), body).refused(404, "no-such-tenant")
@@ -411,8 +460,10 @@ def rights(setup: Setup) -> None:
             stream.state("1", "held")
         told = as_user_does(BOB, partial(events_of, served, "1"))
         require(told == [], f"another's events: {told}")
-        served.case.socket.chmod(0o600)
+        served.restart(f"--users={served.case.tenant}={GROUP}")
         asked_as(ANN, served, "GET", of("tasks")).refused(404, "no-such-tenant")
+        members = (grp.getgrnam(GROUP).gr_gid,)
+        require(len(asked_as(ANN, served, "GET", of("tasks"), groups=members).good()["tasks"]) == 1, "a member's")
 
 
 def events_of(served: Site, task: str) -> list[str]:
@@ -426,38 +477,9 @@ def events_of(served: Site, task: str) -> list[str]:
             found += [data["task"]] if data.get("task") == task else []
 
 
-def proxy(setup: Setup) -> None:
-    """Only root and the queue's own user may act as others, at once and for good; watchers get commits alone."""
-    if os.geteuid():
-        raise Skipped("it needs root, to be other users")
-    with setup.case("--socket-mode=666") as case:
-        case.folder.chmod(0o755)
-        case.start()
-        for ask, fields in (("as", {"user": BOB, "operator": True}), ("watch", {})):
-            found = as_user_does(ANN, partial(try_ask, case, ask, fields))
-            require(found["error"] == "operator-only", found)
-        with case.client() as client, case.client() as watcher:
-            watcher.ask("watch")
-            one = {"command": ["true"], "dir": "/tmp", "hold": True}
-            client.send({"ask": "as", "user": ANN}, {"ask": "submit", **one}, {"ask": "cordon", "machines": []})
-            answers = [client.answer() for _ in range(3)]
-            require(answers[0] == {"as": {"user": ANN}} and "submit" in answers[1], answers)
-            require(answers[2]["error"] == "operator-only", answers)
-            client.refused("operator-only", "as", user=0, operator=True)
-            require(client.ask("tasks")[0]["user"] == str(ANN), "whose task it is")
-            require(watcher.line() == {"tell": "changed", "tasks": [[1, -1, ANN]]}, "what a commit has changed")
-            for user in ("x", -1, True, None):
-                watcher.refused("bad-field", "as", user=user)
-
-
-def try_ask(case: Case, ask: str, fields: Json) -> Json:
-    with case.client() as client:
-        return client.try_ask(ask, **fields)
-
-
 def closed_folders(setup: Setup) -> None:
-    """A socket for everybody gives no rights to a user whom an outer folder keeps from it. A tenant that firm has not
-    is not there for others."""
+    """A socket for everybody gives no rights to a user whom an outer folder keeps from it. A tenant that firm lacks
+    is missing for others."""
     if os.geteuid():
         raise Skipped("it needs root, to be another user")
     with site(setup) as served, closing(socket.socket(socket.AF_UNIX)) as lines:
@@ -465,68 +487,12 @@ def closed_folders(setup: Setup) -> None:
         folder.mkdir(parents=True)
         lines.bind(str(folder / "lines"))
         (folder / "lines").chmod(0o666)
-        served.kill()
-        served.options.append(f"--lines=other={folder / 'lines'}")
-        served.start()
+        served.restart(f"--lines=other={folder / 'lines'}")
         none, away = (404, "no-such-tenant"), (503, "not-there")
         for outer, inner, refusal in ((0o755, 0o755, away), (0o755, 0o700, none), (0o700, 0o755, none)):
             folder.parent.chmod(outer)
             folder.chmod(inner)
             asked_as(ANN, served, "GET", "/v1/tenants/other").refused(*refusal)
-
-
-def tokens(setup: Setup) -> None:
-    """Over TLS a token or a certificate gives a user, a role and tenants, until its line is removed."""
-    with site(setup) as served:
-        server, key = certificate(served.case.folder, "server")
-        client, client_key = certificate(served.case.folder, "client")
-        served.kill()
-        served.options += ["--tls=127.0.0.1:0", f"--certificate={server}", f"--key={key}", f"--client-ca={client}"]
-        served.options.append(f"--tokens={served.tokens}")
-        tenant, of = served.case.tenant, served.of
-        made = {role: served.token(str(ANN), role, tenant) for role in ("user", "operator", "agent")}
-        foreign = served.token(str(BOB), "operator", "other")
-        words = served.words("token", f"--tokens={served.tokens}", f"--user={BOB}", f"--tenants={tenant}")
-        done = subprocess.run([*words, f"--client-certificate={client}"], capture_output=True, text=True)
-        require((done.returncode, done.stdout) == (0, ""), done)
-        text = served.tokens.read_text()
-        require(not any(token in text for token in made.values()), "a token stands in the file")
-        require(served.tokens.stat().st_mode & 0o777 == 0o600, "others can read it")
-        served.start()
-        port = port_of(served)
-
-        def ask(token: str, *request: Any, with_certificate: bool = False) -> Answer:
-            context = ssl.create_default_context(cafile=str(server))
-            if with_certificate:
-                context.load_cert_chain(client, client_key)
-            headers = {"Authorization": f"Bearer {token}"} if token else {}
-            with closing(Connection(port, context)) as connection:
-                return connection.ask(*request, **headers)
-
-        one = {"submissions": [{"command": ["x"], "dir": "/tmp"}]}
-        ask(made["user"], "POST", of("submissions"), one).good(201)
-        require(ask(made["user"], "GET", of("tasks")).good()["tasks"][0]["user"] == str(ANN), "its user")
-        require(ask(made["operator"], "GET", of("tasks")).good()["tasks"], "an operator's")
-        ask(made["user"], "POST", of("drain"), {"machines": ["m1"]}).refused(403, "operator-only")
-        ask(made["agent"], "GET", of("tasks")).refused(404, "no-such-tenant")
-        require(ask(foreign, "GET", "/v1/status").good()["tenants"] == [], "a tenant that there is not")
-        ask(foreign, "GET", of("tasks")).refused(404, "no-such-tenant")
-        ask("", "GET", "/v1/status").refused(401, "no-token")
-        require(ask("", "GET", "/").status == ask("", "GET", "/v1/openapi.json").status == 200, "what is open to all")
-        for bad in ("x", made["user"][:-1], f"{made['user']}x", "", "é", "x" * 8_000):
-            found = ask(bad or " ", "GET", "/v1/status")
-            require(found.status in (400, 401), f"{bad[:50]!r}: {found}")
-        require(ask("", "GET", "/v1/status", with_certificate=True).good()["number"] == BOB, "a certificate's user")
-        with closing(Connection(port)) as plain, suppress(OSError):
-            plain.ask("GET", "/v1/status")
-            require(False, "an answer without TLS")
-        rest = [line for line in text.splitlines() if '"user"' not in line or '"role": "user"' not in line]
-        served.tokens.write_text("".join(f"{line}\n" for line in rest))
-        served.case.until(lambda: ask(made["user"], "GET", "/v1/status").status == 401, "a revoked token is refused")
-        require(ask(made["operator"], "GET", "/v1/status").status == 200, "the others stay")
-        served.tokens.chmod(0o666)
-        served.tokens.write_text(text)
-        served.case.until(lambda: ask(made["operator"], "GET", "/v1/status").status == 401, "others may write the file")
 
 
 # Bad requests.
@@ -567,7 +533,8 @@ BODIES: list[tuple[str, Any, int, str]] = [
     ("cordon", {"machines": 1}, 400, "bad-field"),
     ("cordon", {}, 400, "bad-field"),
     ("what-if", {"lines": []}, 400, "bad-field"),
-    ("what-if", {"lines": ["x" * 257]}, 400, "bad-field"),
+    ("what-if", {"lines": ["x" * 257]}, 400, "bad-lines"),
+    ("what-if", {"lines": ["x" * 4_097]}, 400, "bad-field"),
     ("what-if", {"lines": ["TENANT fly"]}, 400, "bad-lines"),
 ]
 QUERIES = [
@@ -600,7 +567,6 @@ QUERIES = [
 def bad_requests(setup: Setup) -> None:
     """Requests with wrong fields, types, sizes, paths and methods are refused by their names, and change nothing."""
     with site(setup) as served:
-        lines_option(setup)(served)
         tenant = served.case.tenant
         for path, body, status, name in BODIES:
             text = json.dumps(body).replace("TENANT", tenant).encode() if not isinstance(body, bytes) else body
@@ -633,9 +599,9 @@ def bad_requests(setup: Setup) -> None:
 
 
 def methods_and_kinds(served: Site) -> None:
-    """Other methods, hosts, and kinds of bodies."""
+    """Other methods, hosts, and kinds of bodies are refused."""
     for path, item in served.get("/v1/openapi.json")["paths"].items():
-        path = path.replace("{tenant}", served.case.tenant).replace("{task}", "1")
+        path = path.replace("{tenant}", served.case.tenant).replace("{task}", "1").replace("{kind}", "jobs")
         for method in OPERATIONS:
             if method not in item and method != "head":
                 found = served.ask(method.upper(), path)
@@ -689,16 +655,17 @@ def mixed(setup: Setup) -> None:
 
 
 def ends(setup: Setup) -> None:
-    """Each process ends with the other, and a start after that serves again."""
+    """Each process ends with the other, and a later start serves again."""
     with site(setup) as served:
         for is_reads in (True, False):
-            process = served.process
+            process = served.case.queue
             if process is None:
                 raise RuntimeError("it was started")
             os.kill(served.reads_process() if is_reads else process.pid, signal.SIGKILL)
             status = process.wait(LIMIT_SECONDS)
             require(status == (1 if is_reads else -signal.SIGKILL), f"status {status}")
-            require(served.start().ask("GET", "/v1/status").status == 200, "it serves again")
+            served.restart()
+            require(served.ask("GET", "/v1/status").status == 200, "it serves again")
 
 
 def curl_lines(setup: Setup) -> None:
@@ -708,17 +675,15 @@ def curl_lines(setup: Setup) -> None:
     blocks = [block.text for block in blocks_of(PAGE.read_text()) if block.kind == "sh"]
     lines = [line for block in blocks for line in block.replace("\\\n", "").splitlines() if line.strip()]
     with setup.case_alone("--lease=600", "--socket-mode=666") as case:
-        served = Site(case, [f"--lines=alpha={case.firmd.any}", f"--tokens={case.folder / 'tokens'}"])
-        served.words()
+        served = Site(case)
         server, key = certificate(case.folder, "server")
-        served.options += ["--tls=127.0.0.1:0", f"--certificate={server}", f"--key={key}"]
+        case.options += ["--tls=127.0.0.1:0", f"--certificate={server}", f"--key={key}", f"--tokens={served.tokens}"]
         (case.folder / "bin").mkdir()
-        for name, text in (("curl", CURL), ("firm-api", f"#!/bin/sh\nexec {' '.join(served.words())} \"$@\"\n")):
+        for name, text in (("curl", CURL), ("firm-api", f"#!/bin/sh\nexec {' '.join(FIRM_API)} \"$@\"\n")):
             (case.folder / "bin" / name).write_text(text)
             (case.folder / "bin" / name).chmod(0o755)
         case.start()
         try:
-            served.start()
             shown = play_lines(served, lines)
             told = {
                 (method.upper(), path)
@@ -727,19 +692,18 @@ def curl_lines(setup: Setup) -> None:
             }
             judge = Judge(served.get("/v1/openapi.json"))
             played = {(method, judge.path_of(path)) for method, path in shown}
-            require(played == told, f"endpoints without a line: {told - played}")
+            rest = told - played - {("GET", SOCKET)}
+            require(not rest and played <= told, f"endpoints without a line: {rest}")
         finally:
-            served.kill()
+            case.kill()
 
 
 def play_lines(served: Site, lines: list[str]) -> list[tuple[str, str]]:
-    """Types lines, one after another in one shell; the methods and paths that they ask."""
+    """Type lines, one after another in one shell; return the methods and paths that they request."""
     case, found, agent = served.case, list[tuple[str, str]](), None
     environment = {**os.environ, "PATH": f"{case.folder / 'bin'}:{os.environ['PATH']}"}
     before = ""
     for line in lines:
-        if "firm-api run" in line:
-            continue
         line = line.replace(TLS_PORT, str(port_of(served))).replace("--user ann", "--user root")
         done = subprocess.run(
             ["bash", "-c", before + line],
@@ -762,7 +726,7 @@ def play_lines(served: Site, lines: list[str]) -> list[tuple[str, str]]:
 
 
 def token_of(case: Case) -> str:
-    """A token for the lines after the one that makes it, whose shell has ended."""
+    """Return a token for the lines after the one that makes it, whose shell has ended."""
     return Site(case).token("root", "operator", "alpha")
 
 
@@ -785,12 +749,13 @@ def main() -> int:
         events,
         rights,
         closed_folders,
-        tokens,
+        api_tokens.tokens,
+        api_tokens.torn,
         bad_requests,
         mixed,
         ends,
     ]
-    checks += [proxy, curl_lines]
+    checks += [curl_lines]
     found: dict[str, Check] = {check.__name__.replace("_", " "): partial(check, setup) for check in checks}
     return run_suites(Suite({name: check for name, check in found.items() if given.only in name}))
 

@@ -1,7 +1,7 @@
-"""Asks firmctl why, what if and what a drain would do, and then does it: what it said is what comes.
+"""Check firmctl's predictions: ask why, what if, and about a drain; then do it, and compare.
 
 usage: tools/run tests/asks.py [--quick] [--only WORDS] [--program FILE] [--first SEED]
-Each check has a line; the last line is 'N passed, M failed', and the exit status is 1 where one failed. It needs the
+Each check prints a line; the last line is 'N passed, M failed', and the exit status is 1 if one failed. It needs the
 built firm, firm_explain and firm_state. Without --quick it has 1,000 random books in place of 50.
 """
 
@@ -19,8 +19,7 @@ import tempfile
 import time
 from collections import Counter
 from collections.abc import Callable, Iterator
-from concurrent.futures import ThreadPoolExecutor
-from contextlib import contextmanager
+from contextlib import contextmanager, nullcontext
 from dataclasses import astuple, dataclass
 from functools import partial
 from pathlib import Path
@@ -28,35 +27,38 @@ from typing import Any
 
 import firmd_kit
 from firmctl import firmctl
-from front_kit import Viewer
+from front_kit import api_of
 from firmd_kit import Client, Daemon, Setup, wait_for
 from harness import program, service
 from harness.checks import CannotRun, Check, Missed, Suite, require, run_script, run_suites
 from harness.deployed import (
     Book,
     Books,
-    Refused,
     book_of,
     past,
-    past_rounds,
     records,
     service_states,
     sizes,
     text_of,
-    trials,
     what_if,
     why,
     why_text,
 )
 from harness.small_streams import Stream
 
+from firm.explain import questions
+from firm.client.blocking import ApiClient, ApiError, Unreachable, get, one
+from firm.common.refused import Refused
+from firm.explain.questions import Questions
+
 TENANT = "alpha"
-MOST_TASKS = 6  # that the plain service places
+TENANTS = ("alpha", "beta", "worn")
+MAX_TASKS = 6  # that the plain service places
 ROSTER = firmd_kit.HEADING + b"alpha,30,300,1000000,1,2\nbeta,30,300,1000000,0,3\nworn,30,300,4,1,2\n"
 
 
 def random_row(draw: random.Random) -> str:
-    """A record of the tenant, with room for most rows."""
+    """Return a record of the tenant, with room for most rows."""
     nodes, arcs = draw.choice([(30, 300), (30, 300), (12, 60)])
     numbers = [
         nodes,
@@ -70,7 +72,7 @@ def random_row(draw: random.Random) -> str:
 
 
 def own_lines(stream: Stream, count: int) -> list[bytes]:
-    """Random lines of the tenant, some of which are refused."""
+    """Return random lines of the tenant, some of which are refused."""
     found: list[bytes] = []
     while len(found) < count:
         line = stream.line()
@@ -85,37 +87,35 @@ class Case:
 
     daemon: Daemon
     client: Client
-    commands: int = 0  # that the tenant was given
+    server: str  # firm-api's
+    commands: int = 0  # of the tenant so far
 
     def say(self, *lines: bytes) -> list[bytes]:
         return [self.client.ask(line) for line in lines]
 
     def begin(self, draw: random.Random, rows: int, slots: list[int] | None = None) -> Stream:
-        """Admits the tenant anew, with so many random commands, and machines of these slots; makes further ones."""
+        """Admit the tenant anew, with this many random commands, and machines of these slots; make further ones."""
         self.say(b"+ retire alpha", b"+ admit " + random_row(draw).encode())
-        stream = Stream(draw, [TENANT], MOST_TASKS)
+        stream = Stream(draw, [TENANT], MAX_TASKS)
         stream.slots = slots or stream.slots
         stream.operators = 0
         opening = [line for line in stream.opening() if line.startswith(b"alpha ")]
         self.commands = number_of(self.say(*opening, *own_lines(stream, rows), b"alpha show")[-1])
         return stream
 
-    def ask(self, **request: object) -> Any:
-        """What the view answers about the tenant."""
-        with Viewer(self.daemon.state) as viewer:
-            viewer.socket.settimeout(120)  # on a busy host
-            return viewer.ask(dict(request, tenant=TENANT))
+    def state(self, past: int | None = None) -> Any:
+        """Return the tenant's state, once the server has the last command, or before a past round."""
+        client, found = ApiClient(self.server, TENANT), None
 
-    def state(self) -> Any:
-        """The tenant's state, once the view has the last command."""
-        found: Any = None
-
-        def is_told() -> bool:
+        def is_current() -> bool:
             nonlocal found
-            found = self.ask(ask="state")
-            return "error" not in found and book_of(found["text"]).commands == self.commands
+            try:
+                found = client.ask(one(get("state", round=past)))
+            except Unreachable:  # the tenant is not there yet
+                return False
+            return past is not None or book_of(found["text"]).commands == self.commands
 
-        wait_for(is_told, f"the view has command {self.commands}")
+        wait_for(is_current, f"the server has command {self.commands}", 120)
         return found
 
 
@@ -127,8 +127,8 @@ def number_of(reply: bytes) -> int:
 def running(setup: Setup, *options: str) -> Iterator[Case]:
     with setup.daemon(*options, roster=firmd_kit.extended(ROSTER, service.LONGEST_PATIENCE)) as daemon:
         daemon.start()
-        with Client(daemon.operator) as client:
-            yield Case(daemon, client)
+        with Client(daemon.operator) as client, api_of(daemon.state, *TENANTS) as server:
+            yield Case(daemon, client, server)
             daemon.stop()
 
 
@@ -136,11 +136,11 @@ def seeds(setup: Setup) -> range:
     return range(setup.seed, setup.seed + (50 if setup.is_quick else 1_000))
 
 
-# What lines would do.
+# The effect of lines.
 
 
 def lines_do_what_was_said(setup: Setup) -> None:
-    """What lines of random books would do is what they do; a line that would be refused is, and then none is tried."""
+    """The predicted effect of random books' lines is the real one; a line that would be refused is refused."""
     faulty = 0
     with running(setup) as case:
         for seed in seeds(setup):
@@ -158,7 +158,7 @@ def lines_do_what_was_said(setup: Setup) -> None:
 
 
 def is_as_said(case: Case, lines: list[bytes]) -> bool:
-    """Asks, and then does it; whether no line was refused."""
+    """Request the prediction, and then send the lines; return whether no line was refused."""
     before = case.state()
     book = book_of(before["text"])
     asked = [*lines, f"{TENANT} round".encode()]
@@ -172,7 +172,7 @@ def is_as_said(case: Case, lines: list[bytes]) -> bool:
             (place, reply.split()[4].decode()) for place, reply in enumerate(replies, 1) if b" no " in reply[:30]
         ]
         said = [(fault.line, fault.fault) for fault in faulty.faults]
-        require(said == refused, f"{said} were said to be refused, and {refused} are")
+        require(said == refused, f"{said} refusals predicted, but {refused} occurred")
         return False
     require(case.state() == before, "asking changed the state")
     if lines[-1].split()[1:] == [b"round"]:
@@ -185,8 +185,8 @@ def is_as_said(case: Case, lines: list[bytes]) -> bool:
     return True
 
 
-def require_changes(before: Book, later: Book, outcome: what_if.Outcome) -> None:
-    """Asks that the changes are those between two books, and the numbers those of the later one."""
+def require_changes(before: Book, later: Book, outcome: what_if.Forecast) -> None:
+    """Require that the changes are those between two books, and the numbers those of the later one."""
     told = {change.task: (change.before, change.after) for change in outcome.changes}
     for name, task in later.tasks.items():
         former = before.tasks[name].machine if name in before.tasks else None
@@ -198,7 +198,7 @@ def require_changes(before: Book, later: Book, outcome: what_if.Outcome) -> None
 
 
 def drains_by_firmctl(setup: Setup) -> None:
-    """`plan drain` and `what-if` print what then comes, and the journal gets no line by them."""
+    """`plan drain` and `what-if` print the real outcome, and add no line to the journal."""
     with running(setup) as case, tempfile.TemporaryDirectory(prefix="firm-") as folder:
         rows = [b"machine m1 2", b"machine m2 1", b"machine m3 1", b"job web 10", b"job batch 2"]
         rows += [b"task web a", b"task web b", b"task web c", b"task batch d m1", b"round"]
@@ -207,16 +207,21 @@ def drains_by_firmctl(setup: Setup) -> None:
         journal = case.daemon.journal()
         path = Path(folder) / "lines.txt"
         path.write_bytes(b"# more\nalpha machine m4 1\n\nalpha task web e\nalpha drain m1\n")
-        state = str(case.daemon.state)
-        printed = [
-            firmctl(*words, "--state", state)
-            for words in (["plan", "drain", "m1"], ["what-if", str(path)], ["plan", "drain", "m1", "alpha", "--json"])
-        ]
+        with nullcontext(case.server) as server:
+            printed = [
+                firmctl(*words, "--server", server)
+                for words in (
+                    ["plan", "drain", "m1"],
+                    ["what-if", str(path)],
+                    ["plan", "drain", "m1", "alpha", "--json"],
+                    ["state", "alpha"],
+                )
+            ]
         require(printed[0] == (0, DRAINED.encode(), b""), printed[0].output.decode() + printed[0].faults.decode())
         wanted = WITH_MORE.format(path).encode()
         require(printed[1] == (0, wanted, b""), printed[1].output.decode() + printed[1].faults.decode())
-        done = firmctl("state", "alpha", "--state", state)
-        require(done == (0, case.state()["text"].encode(), b"firmctl: the state of alpha after line 10\n"), done)
+        wanted_state = (0, case.state()["text"].encode(), b"firmctl: the state of alpha after line 10\n")
+        require(printed[3] == wanted_state, printed[3])
         require(case.daemon.journal() == journal, "the journal has other lines")
         told = json.loads(printed[2].output)
         require((told["line"], told["cost"], told["cost_now"]) == (len(rows), 14, 1), told)
@@ -243,11 +248,11 @@ e     web    waits   -     -
 """
 
 
-# Why a task is where it is.
+# The reasons for a task's place.
 
 
 def least_weights(setup: Setup) -> None:
-    """By the least weight that is told a task runs, and by one less it waits; others yield as it was told."""
+    """At the reported least weight a task runs, and at one less it waits; others yield as predicted."""
     found = 0
     with running(setup) as case:
         for seed in seeds(setup):
@@ -264,9 +269,9 @@ def least_weights(setup: Setup) -> None:
 
 
 def full_arenas() -> None:
-    """In the largest arena a further job takes the place of one that no round needs, where there is one."""
-    tasks = sizes.MOST_NODES - sizes.HUBS - 3
-    rows = [f"tenant alpha nodes {sizes.MOST_NODES} arcs {sizes.MOST_ARCS} life {10**6} spread 0 churn 0 remote 0"]
+    """In the largest arena a further job takes the place of one that no round needs, if any."""
+    tasks = sizes.MAX_NODES - sizes.HUBS - 3
+    rows = [f"tenant alpha nodes {sizes.MAX_NODES} arcs {sizes.MAX_ARCS} life {10**6} spread 0 churn 0 remote 0"]
     rows[0] += f" commands {tasks + 3}"
     rows += ["costs", "machine m 1"]
     for second, weight in (("job twin 5", 6), ("job own 9", None)):
@@ -284,7 +289,7 @@ def full_arenas() -> None:
 
 
 def has_least_weight(book: Book, name: str) -> bool:
-    """Compares the reasons for a task with placements of the plain service; whether a least weight was told."""
+    """Compare the reasons for a task with placements of the plain service; return whether a least weight was named."""
     reasons = why.reasons(text_of(book), book, name)
     now = model_of(book)
     placement = now.placement()
@@ -311,7 +316,7 @@ def has_least_weight(book: Book, name: str) -> bool:
 
 
 def model_of(book: Book) -> service.Tenant:
-    """The plain service's tenant with a book's rows."""
+    """Return the plain service's tenant with a book's rows."""
     _, *numbers = astuple(book.limits)
     tasks = {
         name: service.Task(task.job, list(task.prefers), task.machine, book.waited(task))
@@ -335,7 +340,7 @@ def of_weight(book: Book, name: str, weight: int) -> service.Tenant:
     return found
 
 
-# Rows behind `alpha` by which a task is where it is, with spread, churn and remote; the task; and what is said.
+# Rows after `alpha` that decide a task's place, with spread, churn and remote; the task; and the expected words.
 WORDS: list[tuple[str, str, str, str]] = [
     (
         "1 2 0",
@@ -442,7 +447,7 @@ from weight 10 on it would run on n; c would wait
 
 
 def words_of(costs: str, rows: str, name: str) -> str:
-    """What is said of a task in a round behind these rows."""
+    """Return the reasons for a task in a round after these rows."""
     spread, churn, remote = costs.split()
     record = f"{TENANT},60,400,1000000,{spread},{churn},{remote}"
     lines = [f"{TENANT} {row}".encode() for row in rows.split(", ")]
@@ -467,7 +472,7 @@ def reasons_in_words() -> None:
 
 
 def past_rounds_are_kept(setup: Setup) -> None:
-    """The state before a past round is what it was then: over segments, snapshots, refusals and admissions anew."""
+    """The state before a past round is what it was then: over segments, snapshots, refusals and new admissions."""
     draw = random.Random(setup.seed)
     options = ["--segment-bytes", "2000", "--snapshot-lines", "60"]
     with running(setup, *options) as case:
@@ -484,24 +489,23 @@ def past_rounds_are_kept(setup: Setup) -> None:
             require(next(past.starts(case.daemon.state)).opening.is_state, "it is used")
             numbers = sorted(before)
             for number in {numbers[-1], *draw.sample(numbers, 1 if setup.is_quick else 8)}:
-                found = case.ask(ask="before", round=number)
-                require("error" not in found, f"round {number}: {found}")
+                found = case.state(number)
                 require(found["text"] == before[number], f"round {number}, and nothing of others: {found['text']}")
                 require(abs(time.time() - found["time"]) < 600, f"its time is {found['time']}")
 
 
 def past_rounds_by_firmctl(setup: Setup) -> None:
-    """`why --round` explains a past round, of a task that has ended too, and tells what is no round."""
+    """`why --round` explains a past round, also of an ended task, and reports lines that are no round."""
     with running(setup) as case:
         rows = ["machine m1 1", "job web 10", "task web a", "round", "task web b", "round", "done a", "round", "done b"]
         case.commands = number_of(case.say(*(f"alpha {row}".encode() for row in rows))[-1])
         case.state()
-        state = str(case.daemon.state)
-        for words, status, wanted in PAST:
-            done = firmctl("why", *words.split(), "--state", state)
-            said = done.output + done.faults
-            text = re.sub(rb"[0-9-]{10} [0-9:]{8}", b"TIME", said)
-            require((done.status, text.decode()) == (status, wanted), f"{words}: {done.status} {said.decode()}")
+        with nullcontext(case.server) as server:
+            for words, status, wanted in PAST:
+                done = firmctl("why", *words.split(), "--server", server)
+                said = done.output + done.faults
+                text = re.sub(rb"[0-9-]{10} [0-9:]{8}", b"TIME", said)
+                require((done.status, text.decode()) == (status, wanted), f"{words}: {done.status} {said.decode()}")
 
 
 WAITED = """\
@@ -526,12 +530,12 @@ PAST = [
     ("a alpha --round 6", 0, RAN),
     ("b alpha --round 8", 0, STARTED),
     ("b alpha --round 7", 1, "firmctl: command 7 of alpha is not a round; the last round before that is 6\n"),
-    ("b alpha --round 4", 1, "firmctl: the task 'b' was not there in round 4\n"),
-    ("b alpha --round 12", 1, "firmctl: command 12 of alpha was not given; the last round before that is 8\n"),
+    ("b alpha --round 4", 1, "firmctl: the task 'b' did not exist in round 4\n"),
+    ("b alpha --round 12", 1, "firmctl: command 12 of alpha does not exist; the last round before that is 8\n"),
 ]
 
 
-# What gets no answer.
+# Refused questions.
 
 
 def questions_are_refused(setup: Setup) -> None:
@@ -543,26 +547,25 @@ def questions_are_refused(setup: Setup) -> None:
         lines = case.state()["line"]
         for file, text in REFUSED_FILES.items():
             (folder / file).write_bytes(text)
-        with ThreadPoolExecutor(4) as pool:
-            runs = [
-                pool.submit(firmctl, *words.format(folder).split(), "--state", str(case.daemon.state))
-                for words, *_ in REFUSED
-            ]
-        for (words, status, part), run in zip(REFUSED, runs):
-            done = run.result()
-            require((done.status, part in (done.output + done.faults).decode()) == (status, True), f"{words}: {done}")
-        done = firmctl("what-if", str(folder / "faulty"), "--state", str(case.daemon.state))
-        require(done.output.decode() == FAULTY and b"nothing is tried" in done.faults, done)
-        for program_name, script, said in FAILING:
+        with api_of(case.daemon.state, *TENANTS) as server:
+            for words, status, part in REFUSED:
+                done = firmctl(*words.format(folder).split(), "--server", server)
+                said = (done.output + done.faults).decode()
+                require((done.status, part in said) == (status, True), f"{words}: {done}")
+            done = firmctl("what-if", str(folder / "faulty"), "--server", server)
+            require(done.output.decode() == FAULTY and b"nothing is tried" in done.faults, done)
+        for program_name, script, told in FAILING:
             stand_in = firmd_kit.stand_in(folder, script)
-            named = {program_name: stand_in}
-            done = firmctl("why", "b", "--state", str(case.daemon.state), **named)
-            require(done.status == 4 and said in done.faults, f"{script}: {done}")
+            with api_of(case.daemon.state, TENANT, **{program_name: stand_in}) as server:
+                done = firmctl("why", "b", "--server", server)
+            require(done.status == 4 and told in done.faults, f"{script}: {done}")
             require(done.output.startswith(b"alpha b (job web, weight 10) waits for "), done)
-        for number in (True, 0, -1, 1.0, "5", None, [5]):
-            require(case.ask(ask="before", round=number)["error"] == "bad-request", f"round {number!r}")
-        for word in (["a"], {"a": 1}, 1, None):
-            require(case.ask(ask="tasks", name=word)["error"] == "bad-request", f"the name {word!r}")
+        for number in ("0", "-1", "1.5", "x", "", "9" * 30):
+            try:
+                case.state(number)  # type: ignore[arg-type]
+                require(False, f"round {number} is taken")
+            except ApiError as refusal:
+                require(refusal.name == "bad-field", f"round {number}: {refusal}")
         require(case.state()["line"] == lines, "the service got a line")
 
 
@@ -588,13 +591,13 @@ line 7: alpha """
     + """: line-too-long
 """
 )
-REFUSED: list[tuple[str, int, str]] = [  # the words, {} for the files' folder; the status; a part of what is said
+REFUSED: list[tuple[str, int, str]] = [  # the words, {} for the files' folder; the status; a part of the message
     ("why z", 1, "no task 'z' is there"),
     ("why a", 2, "alpha, beta have a task 'a'"),
     ("why b gamma", 1, "no tenant 'gamma' is there"),
     ("why b --round 4", 1, "command 4 of alpha is not a round"),
-    ("why b --round 99", 1, "command 99 of alpha was not given; the last round before that is 5"),
-    ("why z alpha --round 5", 1, "the task 'z' was not there in round 5"),
+    ("why b --round 99", 1, "command 99 of alpha does not exist; the last round before that is 5"),
+    ("why z alpha --round 5", 1, "the task 'z' did not exist in round 5"),
     ("why z --round 5", 2, "name a tenant: alpha, beta, worn"),
     ("why b --round 0", 2, "'0' is not a whole number"),
     ("why w", 1, "no-round: a round of worn is refused: worn 5 no 1 worn"),
@@ -623,11 +626,12 @@ FAILING = [
 
 
 def programs_are_bounded() -> None:
-    """A program that doesn't end is stopped in time, and one that takes processor time or memory, by the system."""
+    """A program that doesn't end is stopped in time, and the system stops one that takes too much processor time or
+    memory."""
     with tempfile.TemporaryDirectory(prefix="firm-") as name:
         for bound, script, said in [
-            ("MOST_SECONDS", "#!/bin/sh\nexec sleep 1000\n", "took 1 s"),
-            ("MOST_PROCESSOR_SECONDS", "#!/bin/sh\nwhile :; do :; done\n", "1 s of processor time"),
+            ("MAX_SECONDS", "#!/bin/sh\nexec sleep 1000\n", "took 1 s"),
+            ("MAX_PROCESSOR_SECONDS", "#!/bin/sh\nwhile :; do :; done\n", "1 s of processor time"),
         ]:
             stand_in = firmd_kit.stand_in(Path(name), script)
             words = [sys.executable, "-c", BOUNDED, bound]
@@ -639,10 +643,10 @@ def programs_are_bounded() -> None:
 
 BOUNDED = """\
 import sys
-from firm_service import trials
-trials.MOST_SECONDS = 600
+from firm.explain import trials
+trials.MAX_SECONDS = 600
 setattr(trials, sys.argv[1], 1)
-trials.stand_behind()
+trials.restrict_process()
 try:
     with trials.firm("firm state 1\\nplace admissions 1\\nrows 1\\n", []) as trial:
         trial.output()
@@ -652,19 +656,16 @@ except trials.Refused as refusal:
 
 
 def questions_take_turns() -> None:
-    """A tenant has one process for past rounds at a time, all have two; more questions than wait, and long ones, are
-    refused, and leave no process."""
-
-    with tempfile.TemporaryDirectory(prefix="firm-") as folder:
-        asyncio.run(ask_at_once(Path(folder)))
+    """One question is answered at a time; a user's questions past the bound of waiting ones are refused."""
+    asyncio.run(ask_at_once())
 
 
-def past_rounds_are_bounded() -> None:
-    """A process for a past round that the system stops is told as one that takes too long."""
+def questions_are_bounded() -> None:
+    """A question whose process the system stops is reported as one that takes too long."""
     with tempfile.TemporaryDirectory(prefix="firm-") as folder:
         python, sys.executable = sys.executable, firmd_kit.stand_in(Path(folder), "#!/bin/sh\nkill -XCPU $$\n")
         try:
-            asyncio.run(past_rounds.PastRounds(Path(folder)).before(TENANT, 1))
+            asyncio.run(Questions().ask(1, "state", None, tenant=TENANT, round=1, folder=folder))
         except Refused as refusal:
             require(refusal.name == "too-long", f"{refusal.name}: {refusal}")
         else:
@@ -674,7 +675,7 @@ def past_rounds_are_bounded() -> None:
 
 
 def snapshots_go(setup: Setup) -> None:
-    """A snapshot that goes while a past round is looked for, with the lines behind it, is no damage of the journal."""
+    """A snapshot that vanishes during a search for a past round is no damage of the journal."""
     with setup.daemon(roster=ROSTER) as daemon:
         with daemon.start().client() as client:
             for line in (b"alpha machine m 1", b"alpha round"):
@@ -691,27 +692,27 @@ def snapshots_go(setup: Setup) -> None:
     require((answer["line"], book_of(answer["text"]).machines) == (1, {"m": 1}), answer)
 
 
-async def ask_at_once(folder: Path) -> None:
+async def ask_at_once() -> None:
     running, most = Counter[str](), Counter[str]()
 
-    async def answer(state: Path, tenant: str, number: int) -> bytes:
-        running[tenant] += 1
-        for name, count in [(tenant, running[tenant]), ("all", running.total())]:
+    async def answer(asked: dict[str, Any]) -> dict[str, Any]:
+        running[asked["tenant"]] += 1
+        for name, count in [(asked["tenant"], running[asked["tenant"]]), ("all", running.total())]:
             most[name] = max(most[name], count)
         await asyncio.sleep(0.01)
-        running[tenant] -= 1
-        return b"{}\n"
+        running[asked["tenant"]] -= 1
+        return {}
 
-    real, past_rounds.answer = past_rounds.answer, answer
+    real, questions.answer = questions.answer, answer
     try:
-        past = past_rounds.PastRounds(folder)
-        asked = [past.before(tenant, 1) for tenant in ("a", "b", "c") for _ in range(past_rounds.MOST_OF_TENANT + 1)]
+        one_more, found = questions.MAX_OF_USER + 1, Questions()
+        asked = [found.ask(user, "state", None, tenant="a") for user in (1, 2, 3) for _ in range(one_more)]
         ends = await asyncio.gather(*asked, return_exceptions=True)
     finally:
-        past_rounds.answer = real
+        questions.answer = real
     refused = [str(end) for end in ends if isinstance(end, Refused) and end.name == "too-many-questions"]
-    require(len(refused) == 3 and ends.count(b"{}\n") == len(ends) - 3, ends)
-    require(most == {"a": 1, "b": 1, "c": 1, "all": past_rounds.MOST_AT_A_TIME}, most)
+    require(len(refused) == 3 and ends.count({}) == len(ends) - 3, ends)
+    require(most == {"a": 1, "all": 1}, most)
 
 
 QUICK: list[Callable[[], None]] = [
@@ -719,7 +720,7 @@ QUICK: list[Callable[[], None]] = [
     full_arenas,
     programs_are_bounded,
     questions_take_turns,
-    past_rounds_are_bounded,
+    questions_are_bounded,
 ]
 OVER_FIRMD: list[Callable[[Setup], None]] = [
     lines_do_what_was_said,
@@ -735,8 +736,10 @@ OVER_FIRMD: list[Callable[[Setup], None]] = [
 def main() -> int:
     parser = argparse.ArgumentParser(description=(__doc__ or "").splitlines()[0])
     parser.add_argument("--quick", action="store_true", help="the part that tests/quick runs")
-    parser.add_argument("--only", default="", help="nothing but the checks whose names have these words")
-    parser.add_argument("--first", type=int, default=1, metavar="SEED", help="of the random books (default: 1)")
+    parser.add_argument("--only", default="", help="run only the checks whose names have these words")
+    parser.add_argument(
+        "--first", type=int, default=1, metavar="SEED", help="first seed of the random books (default: 1)"
+    )
     program.add_program(parser)
     options = parser.parse_args()
     for name in ("firm_explain", "firm_state"):

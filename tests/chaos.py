@@ -1,10 +1,10 @@
-"""Kills and stops firmd, firm, the queue, agents and supervisors at random while users submit, and judges what ran.
+"""Kill and stop firmd, firm, the queue, agents and supervisors at random while users submit, and judge the runs.
 
 usage: tools/run tests/chaos.py [--quick] [--seconds S] [--seed N] [--program FILE]
-All are real: firmd with the built program, firm-queue, two of firm-agent, and the tasks' processes. Each attempt writes
-its begin and its end to a ledger of its own; from that and the database alone it is judged that each submission was
-made once, that no two attempts of a task ran at a time, and that each task ended once, or is told as lost. The last
-line is 'N passed, M failed', and the exit status is 1 where one failed. --quick goes on for five seconds.
+All are real: firmd with the built program, firm-api, two of firm-agent, and the tasks' processes. Each attempt writes
+its start and its end to a separate ledger. From the ledgers and the database alone, the judge requires that each
+submission was made once, that no two attempts of a task ran at a time, and that each task ended once or is reported as
+lost. The last line is 'N passed, M failed', and the exit status is 1 if one failed. --quick goes on for five seconds.
 """
 
 from __future__ import annotations
@@ -27,11 +27,12 @@ from agent_kit import AGENT, is_there
 from harness import program
 from harness.checks import Suite, require, run_script, run_suites
 from queue_kills import Book, Submitter, judged_book
-from queue_kit import LIMIT_SECONDS, Case, Size
+from queue_client import LIMIT_SECONDS
+from queue_kit import Case, Size
 
-LEASE_SECONDS, MARGIN_SECONDS = 6, 20  # so late may a supervisor be on a busy host
-END_SECONDS = 300.0  # for all that was submitted, once nothing is killed any more
-MOST_LIVE = 40  # tasks, beyond which nothing is submitted
+LEASE_SECONDS, MARGIN_SECONDS = 6, 20  # a busy host may delay a supervisor by this much
+END_SECONDS = 300.0  # for all submitted tasks, after the last kill
+MAX_LIVE = 40  # tasks, beyond which none is submitted
 # The lock is the shell's alone, which ends with its supervisor.
 COMMAND = """\
 exec 9> "$CHAOS/$FIRM_ID.lock"
@@ -44,7 +45,7 @@ exit "$2"
 
 
 class RealSubmitter(Submitter):
-    """Submits tasks with processes, and not too many of them."""
+    """Submits tasks with processes, up to a bound of live ones."""
 
     pause = 0.2
 
@@ -57,24 +58,26 @@ class RealSubmitter(Submitter):
         while not self.is_over.is_set():
             with suppress(Exception):  # the queue is away
                 with self.case.client() as client:
-                    if sum(client.states().values()) < MOST_LIVE:
+                    if sum(client.states().values()) < MAX_LIVE:
                         return
             time.sleep(self.pause)
 
 
 @dataclass
 class RealAgent:
-    """firm-agent with a state of its own."""
+    """A firm-agent with a separate state."""
 
     case: Case
     name: str
     machines: str
+    before: list[str] = field(default_factory=list)  # words of another program, in the place of the agent's
+    server: list[str] = field(default_factory=list)  # options, in the place of the Unix socket
     process: subprocess.Popen[bytes] | None = None
 
     def start(self) -> None:
-        places = {"queue": self.case.socket, "view": self.case.doors.view, "state": self.case.folder / self.name}
-        words = [*AGENT, "run", f"--name={self.name}", f"--machines={self.machines}"]
-        words += [f"--{option}={path}" for option, path in places.items()]
+        words = [*(self.before or AGENT), "run", *(self.server or [f"--server=unix:{self.case.api}"])]
+        words += [f"--tenant={self.case.tenant}"]
+        words += [f"--name={self.name}", f"--machines={self.machines}", f"--state={self.case.folder / self.name}"]
         self.process = subprocess.Popen(words, stdin=subprocess.DEVNULL, stderr=self.case.log)
 
     def kill(self) -> None:
@@ -82,8 +85,16 @@ class RealAgent:
             self.process.kill()
             self.process.wait()
 
+    def send(self, number: int) -> None:
+        if self.process is not None:
+            self.process.send_signal(number)
+
+    def status(self) -> int | None:
+        """Return the exit status, once it ends."""
+        return self.process.wait(LIMIT_SECONDS) if self.process is not None else None
+
     def supervisors(self) -> list[int]:
-        """The processes that have claimed runs and are there."""
+        """Return the live processes that have claimed runs."""
         found = []
         for path in (self.case.folder / self.name / "runs").glob("*/*/process"):
             with suppress(OSError, ValueError):
@@ -95,7 +106,7 @@ class RealAgent:
 
 @dataclass
 class Chaos:
-    """What is killed, and how often."""
+    """The kinds of kills, and the count of each."""
 
     case: Case
     agents: list[RealAgent]
@@ -119,7 +130,7 @@ class Chaos:
         self.case.firmd.start()
 
     def _firm(self) -> None:
-        """firmd ends with it."""
+        """Kill firm, which ends firmd; start firmd again."""
         os.kill(self.case.firmd.firm_process(), signal.SIGKILL)
         self.case.firmd.status()
         self.case.firmd.start()
@@ -131,7 +142,7 @@ class Chaos:
         agent.start()
 
     def _long_agent(self) -> None:
-        """Its lease is over, or nearly."""
+        """Keep an agent away for about the length of its lease."""
         self._agent(self.draw.uniform(0.8, 1.5) * LEASE_SECONDS)
 
     def _supervisor(self) -> None:
@@ -141,7 +152,7 @@ class Chaos:
                 os.kill(self.draw.choice(found), signal.SIGKILL)
 
     def _stop(self) -> None:
-        """Has one stand still for a while; a supervisor for less than the lease, which it could not keep."""
+        """Suspend one for a while; a supervisor for less than the lease, which it could not keep."""
         processes = [self.case.firmd.running().pid, self.case.firmd.firm_process()]
         processes += [
             one.pid for one in (self.case.queue, *(agent.process for agent in self.agents)) if one is not None
@@ -155,7 +166,7 @@ class Chaos:
 
 
 def chaos(program_path: str, seed: int, seconds: float) -> None:
-    """Each submission ends exactly once, or is told as lost."""
+    """Each submission ends exactly once, or is reported as lost."""
     draw = random.Random(seed)
     options = (f"--lease={LEASE_SECONDS}", f"--margin={MARGIN_SECONDS}")
     with Case(program_path, *options, size=Size(churn=200)).start() as case:
@@ -194,8 +205,8 @@ def chaos(program_path: str, seed: int, seconds: float) -> None:
 
 
 def judge_ledger(book: Book, path: Path) -> None:
-    """Asks, of what processes wrote themselves, that no attempt began twice, no two ran at a time, and that what counts
-    as ended has ended."""
+    """Require, from the processes' own ledgers, that no attempt began twice, no two ran at a time, and each ended
+    attempt has ended."""
     lines = Counter(path.read_text().splitlines()) if path.exists() else Counter[str]()
     doubled = [line for line in lines if line.endswith("doubled")]
     require(not doubled, f"ran twice at a time: {doubled}")
@@ -216,8 +227,10 @@ def judge_ledger(book: Book, path: Path) -> None:
 def main() -> int:
     parser = argparse.ArgumentParser(description=(__doc__ or "").splitlines()[0])
     parser.add_argument("--quick", action="store_true", help="go on for five seconds")
-    parser.add_argument("--seconds", type=float, default=180.0, metavar="S", help="go on so long (%(default)g)")
-    parser.add_argument("--seed", type=int, default=random.randrange(10**6), metavar="N", help="of what is random")
+    parser.add_argument("--seconds", type=float, default=180.0, metavar="S", help="duration (default: %(default)g)")
+    parser.add_argument(
+        "--seed", type=int, default=random.randrange(10**6), metavar="N", help="seed of all random choices"
+    )
     program.add_program(parser)
     given = parser.parse_args()
     run = partial(chaos, given.program, given.seed, 5.0 if given.quick else given.seconds)

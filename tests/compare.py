@@ -1,11 +1,11 @@
-"""Compares the built program with the plain service of harness/service.py on random small streams and rosters.
+"""Compare the built program with the plain service of harness/service.py on random small streams and rosters.
 
 usage: tools/run tests/compare.py [--program FILE] [--under COMMAND] [--workers N,..] [--streams N] [--rosters N]
                                   [--first SEED] [--tasks T] [--pieces] [--noise] [--ages]
-Half of the streams open with a roster, the others with the plain service's state after some of the lines.
-Each difference has a line with its seed and is kept under out/tests; the exit status is 1 where there is one, or where
-500 streams or more have hardly a start, a move, a preemption, an eviction, an opening of each kind, or an admission
-with a patience, accepted or refused. `--streams 100000` takes a quarter of an hour of processor time.
+Half of the streams open with a roster, the others with the plain service's state after some of the lines. Each
+difference prints a line with its seed and is stored under out/tests. The exit status is 1 after a difference, or if 500
+streams or more have hardly a start, a move, a preemption, an eviction, an opening of each kind, or an admission with a
+patience, accepted or refused. `--streams 100000` takes a quarter of an hour of processor time.
 """
 
 from __future__ import annotations
@@ -48,7 +48,7 @@ class Case:
 
 Outcomes = Counter[str]  # count of each outcome of a line, change of a round, and kind of opening
 
-# How often 500 streams have these at least.
+# The least counts of these in 500 streams.
 MANY_STREAMS = 500
 LEAST_MET = {
     "start": 1000,
@@ -110,7 +110,7 @@ def outcomes_of(line: bytes, reply: str) -> Outcomes:
 
 
 def check(options: Options, case: Case) -> Outcomes | None:
-    """The outcomes of a run, or None where that of some number of workers differs from the definitions."""
+    """Return the outcomes of a run; None if that of some number of workers differs from the definitions."""
     wanted, outcomes = expected(case)
     for workers in options.workers.split(","):
         with program.opening(case.opening) as words:
@@ -122,7 +122,7 @@ def check(options: Options, case: Case) -> Outcomes | None:
 
 
 def tell_difference(case: Case, workers: str, got: program.Run, wanted: program.Run) -> None:
-    """Says where a run differs from the definitions, and keeps its case."""
+    """Report a run's difference from the definitions, and store its case."""
     kept = program.keep(case.name, case.opening, case.text)
     pairs = zip(got.output.split(b"\n"), wanted.output.split(b"\n"))
     lines = [(place, was, should) for place, (was, should) in enumerate(pairs) if was != should]
@@ -134,7 +134,7 @@ def tell_difference(case: Case, workers: str, got: program.Run, wanted: program.
 
 
 def check_stream(options: Options, library: str | None, seed: int) -> Outcomes | None:
-    """A random stream, from a roster or from a state, in pieces of some size where there is a library."""
+    """Check a random stream, from a roster or from a state; with a library, in pieces of some size."""
     draw = random.Random(seed)
     opening, text = random_stream(draw, options.tasks)
     text = with_noise(draw, text) if options.noise else text
@@ -160,7 +160,7 @@ def check_roster(options: Options, seed: int) -> Outcomes | None:
 
 
 def check_ages(options: Options, rounds: int = service.LONGEST_PATIENCE + 3) -> Outcomes | None:
-    """A task that waits as long as its age can grow, and longer."""
+    """Check a task that waits as long as its age can grow, and longer."""
     lines = ["a job j 5", "a task j x"] + ["a round"] * rounds
     lines += ["a where x", "a costs", "a machine m 1", "a round", "a where x", "a drain m", "a round", "a where x"]
     roster = b",".join(service.HEADING) + b"\na,5,9,1099511627776,0,0\n"
@@ -175,11 +175,11 @@ def read_options() -> Options:
     parser.add_argument("--workers", default="", metavar="N,..", help=workers)
     parser.add_argument("--streams", type=int, default=5000)
     parser.add_argument("--rosters", type=int, default=500)
-    parser.add_argument("--first", type=int, default=1, help="the first seed")
-    parser.add_argument("--tasks", type=int, default=6, help="the most tasks of a tenant")
+    parser.add_argument("--first", type=int, default=1, help="first seed of the streams")
+    parser.add_argument("--tasks", type=int, default=6, help="most tasks of a tenant")
     parser.add_argument("--pieces", action="store_true", help="pieces of all sizes, by refuse.c; needs a C compiler")
-    parser.add_argument("--noise", action="store_true", help="some bytes changed in each stream; best with --tasks 4")
-    parser.add_argument("--ages", action="store_true", help="also a task that waits for 1,000,003 rounds")
+    parser.add_argument("--noise", action="store_true", help="change some bytes in each stream; best with --tasks 4")
+    parser.add_argument("--ages", action="store_true", help="also play a task that waits for 1,000,003 rounds")
     return Options(**vars(parser.parse_args()))
 
 

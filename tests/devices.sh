@@ -11,7 +11,7 @@ folder=$(mktemp -d)
 trap 'rm -r "$folder"' EXIT
 missed=0
 
-# ends NAME STATUS FAULTS: what the run before it gave, whose status is in $? and whose words are in $folder/faults.
+# ends NAME STATUS FAULTS: compares the run before it, whose status is in $? and whose words are in $folder/faults.
 ends() {
     local status=$?
     if [ "$status" = "$2" ] && [ "$(cat "$folder/faults")" = "$3" ]; then

@@ -1,20 +1,21 @@
-"""Tries the edits of the crates: each breaks a meaning, so the prover must refuse the function that it changes.
+"""Try the edits of the crates: each breaks a meaning, so the prover must refuse the function that it changes.
 
 usage: tests/edits [--all | NAME..] [--more] [--record] [--libraries FOLDER] [--commit HASH]
-The edits are those of crates/NAME/must-fail and crates/NAME/edits, with --more also those of more-edits/. The edits of
-a crate are tried several in one check, over the libraries below it, and each must be refused for an open goal of the
-function that it changes. The first checks read no body but those of the changed functions, and judge these by the
-contracts of the others. What they don't refuse is tried with all bodies, alone where a check of several can't tell.
+The edits are those of crates/NAME/must-fail and crates/NAME/edits, with --more also those of more-edits/. Several edits
+of a crate are tried in one check, over the libraries below it, and each must be refused for an open goal of the
+function that it changes. The first checks read only the bodies of the changed functions, and judge these by the
+contracts of the others. An edit that they don't refuse is tried with all bodies, and alone if a check of several can't
+tell.
 
-With names those crates are tried, with --all all of them. With neither: each crate whose sum is not the one in
-tests/edits.tried, and a quarter of the others, picked by the commit. The sum is over all that decides what the prover
-says of a crate's edits: the kit, the crate's files, its edits, and what the libraries below it state. --record writes
+With names it tries those crates, with --all all of them. With neither it tries each crate whose sum is not the one in
+tests/edits.tried, and a quarter of the others, picked by the commit. The sum covers all inputs of the prover's verdicts
+on a crate's edits: the kit, the crate's files, its edits, and the statements of the libraries below it. --record writes
 down the sums of the crates whose edits were all refused.
 
-First come edits of which is known what must come of them, as one that changes nothing, and one that only its proof's
-names refuse: none of these may count as refused. The libraries below are built where they have changed, as for ./firm;
-those in another folder of each crate's out/, as rlib, are taken as they are. Each edit has a line; the last line is
-'N passed, M failed', and the exit status is 1 where one failed.
+It begins with edits of known results, such as one that changes nothing, and one that only its proof's names refuse:
+none of these may count as refused. The libraries below are built if they have changed, as for ./firm; rlibs in another
+folder of each crate's out/ are used as they are. Each edit prints a line; the last line is 'N passed, M failed', and
+the exit status is 1 if one failed.
 """
 
 from __future__ import annotations
@@ -40,14 +41,14 @@ TRIED = ROOT / "tests" / "edits.tried"
 HEADING = "# Each crate's sum when all of its edits were refused; written by tests/edits --record.\n"
 GATE_FOLDERS = ("must-fail", "edits")
 MORE_FOLDER = "more-edits"
-# What an rlib states to the crates above, whatever its bodies and its proofs.
+# An rlib's statements to the crates above, whatever its bodies and its proofs.
 STATEMENTS = ("interface", "lang/src", "lang/antt/specs")
 ONE_IN = 4  # of the crates that have not changed
-CHECK_BYTES = 4_000_000_000  # what a check of a crate takes at most, as measured
+CHECK_BYTES = 4_000_000_000  # measured maximum of a check's memory
 
 
 class Plan(NamedTuple):
-    """The crates whose edits are tried, the folders of edits, and where a crate's library lies."""
+    """The crates whose edits are tried, the folders of edits, and the path of each crate's library."""
 
     crates: list[Crate]
     folders: tuple[str, ...]
@@ -55,7 +56,7 @@ class Plan(NamedTuple):
 
 
 class Tried(NamedTuple):
-    """How many edits of a crate were refused, and how many were not."""
+    """The numbers of a crate's refused edits, and of the others."""
 
     crate: Crate
     passed: int
@@ -63,7 +64,7 @@ class Tried(NamedTuple):
 
 
 def library_in(folder: str, crate: Crate) -> Path:
-    """Where a folder of the crate's out/ has its library."""
+    """Return the library's place in a folder of the crate's out/."""
     return crate.folder / "out" / folder / f"{crate.name}.rlib"
 
 
@@ -72,7 +73,7 @@ def edit_files(crate: Crate, folders: Iterable[str]) -> list[Path]:
 
 
 def sum_of_edits(crate: Crate, library: Callable[[Crate], Path]) -> str:
-    """A sum over all that decides what the prover says of the crate's edits."""
+    """Return a sum over all inputs of the prover's verdicts on the crate's edits."""
     total = hashlib.sha256(kit_identity().encode())
     files = [(file, crate.folder) for file in [*crate.sources(), *edit_files(crate, GATE_FOLDERS)]]
     for below in crate.below:
@@ -85,7 +86,7 @@ def sum_of_edits(crate: Crate, library: Callable[[Crate], Path]) -> str:
 
 
 def recorded() -> dict[str, str]:
-    """The sum of each crate when all of its edits were last refused."""
+    """Return the sum of each crate when all of its edits were last refused."""
     lines = TRIED.read_text().splitlines() if TRIED.exists() else []
     return dict(line.split() for line in lines if not line.startswith("#"))
 
@@ -96,12 +97,12 @@ def record(sums: dict[str, str]) -> None:
 
 
 def is_picked(crate: Crate, commit: str) -> bool:
-    """Whether the commit picks the crate, among those that have not changed; without a commit all are."""
+    """Return whether the commit picks the crate, among those that have not changed; without a commit all are."""
     return not commit or hashlib.sha256(f"{commit} {crate.name}".encode()).digest()[0] % ONE_IN == 0
 
 
 def due(plan: Plan, commit: str) -> list[Crate]:
-    """The crates whose edits are to be tried; says of each why, or why not."""
+    """Return the crates whose edits are to be tried; print for each the reason for or against."""
     known, found = recorded(), []
     for crate in plan.crates:
         has_changed = known.get(crate.name) != sum_of_edits(crate, plan.library)
@@ -115,7 +116,7 @@ def due(plan: Plan, commit: str) -> list[Crate]:
 
 
 def try_edits(crate: Crate, plan: Plan) -> Tried:
-    """Tries the edits of a crate and prints what came of each."""
+    """Try the edits of a crate and print the result of each."""
     edits, faults = [], []
     for file in edit_files(crate, plan.folders):
         try:
@@ -133,7 +134,7 @@ def try_edits(crate: Crate, plan: Plan) -> Tried:
 
 
 def try_control(plan: Plan) -> Tried:
-    """Tries the edits of the control, and prints which of them came out otherwise than they must."""
+    """Try the edits of the control, and print those with an unexpected result."""
     crate = crates_of_repository()[control.CRATE]
     with tempfile.TemporaryDirectory(prefix="firm-kept-") as kept:
         faults = control.faults(Trial(crate, plan.library, Path(kept)).run(each.edit for each in control.CONTROLS))
@@ -145,7 +146,7 @@ def try_control(plan: Plan) -> Tried:
 
 
 def try_all(crates: list[Crate], plan: Plan) -> list[Tried]:
-    """Tries the edits of these crates, as many side by side as there are processors and memory, the largest first."""
+    """Try the edits of these crates, as many side by side as there are processors and memory, the largest first."""
     lanes = max(1, min(len(os.sched_getaffinity(0)), free_bytes() // CHECK_BYTES))
     largest_first = sorted(crates, key=lambda crate: -sum(file.stat().st_size for file in crate.sources()))
     with ThreadPoolExecutor(lanes) as pool:
@@ -155,17 +156,19 @@ def try_all(crates: list[Crate], plan: Plan) -> list[Tried]:
 
 def read_words() -> argparse.Namespace:
     parser = argparse.ArgumentParser(description=(__doc__ or "").splitlines()[0])
-    parser.add_argument("names", nargs="*", metavar="NAME", help="a crate")
-    parser.add_argument("--all", action="store_true", help="the edits of all crates")
-    parser.add_argument("--more", action="store_true", help="also those of more-edits/")
+    parser.add_argument("names", nargs="*", metavar="NAME", help="crate whose edits to try")
+    parser.add_argument("--all", action="store_true", help="try the edits of all crates")
+    parser.add_argument("--more", action="store_true", help="also try those of more-edits/")
     parser.add_argument("--record", action="store_true", help="write down which crates' edits were all refused")
-    parser.add_argument("--libraries", metavar="FOLDER", help="where in each crate's out/ its built library lies")
-    parser.add_argument("--commit", default=commit_here(), metavar="HASH", help="what picks a quarter of the crates")
+    parser.add_argument("--libraries", metavar="FOLDER", help="folder of each crate's out/ with its library")
+    parser.add_argument(
+        "--commit", default=commit_here(), metavar="HASH", help="commit that picks a quarter of the crates"
+    )
     return parser.parse_args()
 
 
 def plan_of(options: argparse.Namespace) -> Plan:
-    """What the words ask for, over libraries that are built."""
+    """Return the plan that the words describe, over libraries that it builds."""
     folders = (*GATE_FOLDERS, *([MORE_FOLDER] if options.more else []))
     all_crates = crates_of_repository()
     for name in options.names:

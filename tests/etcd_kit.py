@@ -1,4 +1,7 @@
-"""Real members of etcd and firmd replicas, each in a process of its own on the loopback, for checks that kill them."""
+"""The kit for checks of replicas: real members of etcd and firmd replicas.
+
+Each is a separate process on the loopback, which a check may kill.
+"""
 
 from __future__ import annotations
 
@@ -21,15 +24,14 @@ from harness.deployed import SERVICE
 
 NAMES = ("a", "b", "c")
 START_SECONDS = 60
-LED_STATUS, LOST_LEASE = 4, "the lease was lost"  # of firmd where it led, and what it says then
+LED_STATUS, LOST_LEASE = 4, "the lease was lost"  # of a former leader, and its last message
 QUOTA = 2 << 30
-LAST_LINES, LONGEST_LINE = 30, 400  # of a log, where a check has failed
-# Where debian's openssl says nothing else, certificates have a name and the loopback's address.
-PACKAGES = {"etcd": "etcd-server", "haproxy": "haproxy", "openssl": "openssl"}
+LAST_LINES, MAX_LINE = 30, 400  # of a log, after a failed check
+PACKAGES = {"etcd": "etcd-server", "openssl": "openssl"}
 
 
 def require_programs(*names: str) -> None:
-    """Skips a check where the host lacks a program that it needs."""
+    """Skip the check if the host lacks a program that it needs."""
     for name in names:
         if program_path(name) is None:
             raise Skipped(f"it needs {name} (apt-get install {PACKAGES.get(name, name)})")
@@ -40,7 +42,7 @@ def program_path(name: str) -> str | None:
 
 
 def free_ports(count: int) -> list[int]:
-    """Ports of the loopback that nobody has."""
+    """Return free ports of the loopback."""
     taken = [socket.socket() for _ in range(count)]
     try:
         for one in taken:
@@ -71,11 +73,11 @@ class Authority:
         folder.mkdir(exist_ok=True)
         self._new("-x509", "-days", "2", "-keyout", self._key, "-out", self.path, "-subj", f"/CN={name}")
 
-    def certificate(self, name: str, subject: str | None = None, host: str = "localhost") -> Path:
-        """A file with a certificate of the loopback and a host, and its key; the subject is that of the name."""
+    def certificate(self, name: str, subject: str | None = None) -> Path:
+        """Write a certificate for the loopback, and its key; return its file. By default the subject is the name."""
         parts = [self.folder / f"{name}.{ending}" for ending in ("csr", "crt", "key", "ext")]
         request, signed, key, extension = parts
-        extension.write_text(f"subjectAltName=IP:127.0.0.1,DNS:{host}\n")
+        extension.write_text("subjectAltName=IP:127.0.0.1,DNS:localhost\n")
         self._new("-keyout", key, "-out", request, "-subj", subject or f"/CN={name}")
         by: list[str | Path] = ["-CA", self.path, "-CAkey", self._key, "-CAcreateserial"]
         openssl("x509", "-req", "-in", request, *by, "-days", "2", "-extfile", extension, "-out", signed)
@@ -88,7 +90,7 @@ class Authority:
 
 
 class Members:
-    """etcd, of three members."""
+    """etcd with three members."""
 
     def __init__(self, folder: Path, options: tuple[str, ...] = (), scheme: str = "http") -> None:
         self.folder, self.options, self.scheme = folder, options, scheme
@@ -138,13 +140,13 @@ class Members:
 
 @dataclass
 class Replicas:
-    """firmd, of one journal."""
+    """firmd replicas of one journal."""
 
     folder: Path
     urls: str
     firm: str
     options: list[str] = field(default_factory=list)
-    opening: list[str] | None = None  # what they are to begin with; None: the roster
+    opening: list[str] | None = None  # options for their first state; None: the roster
     firmd: list[str] = field(default_factory=lambda: [sys.executable, str(SERVICE / "firmd")])
     processes: dict[str, subprocess.Popen[bytes]] = field(default_factory=dict)
 
@@ -171,11 +173,11 @@ class Replicas:
         return process
 
     def start(self, *names: str) -> None:
-        """Starts them, and waits until each follows and one leads."""
+        """Start them, and wait until each follows and one leads."""
         for name in names:
             self.spawn(name)
         for name in names:
-            until(lambda: "follows" in self.said(name) or self.has_ended(name), f"{name} follows")
+            until(lambda: "following" in self.said(name) or self.has_ended(name), f"{name} follows")
             require(not self.has_ended(name), self.said(name))
         until(lambda: self.leader() is not None, "one leads")
 
@@ -183,7 +185,7 @@ class Replicas:
         return self.processes[name].poll() is not None
 
     def refuses(self, name: str, status: int, *texts: str, options: tuple[str, ...] = ()) -> None:
-        """Asks that one ends at its start with this status and these words."""
+        """Require that one ends at its start with this status and these words."""
         self.log(name).unlink(missing_ok=True)
         ended = self.spawn(name, *options).wait(START_SECONDS)
         said = self.said(name)
@@ -199,14 +201,14 @@ class Replicas:
         return self.folder / f"{name}.sock"
 
     def revive(self) -> None:
-        """Starts again what has ended, as systemd does."""
+        """Restart the ended ones, as systemd does."""
         for name in self.processes:
             if self.has_ended(name):
                 self.spawn(name)
 
     def settle(self, *names: str) -> None:
-        """Waits until they have the same lines. One that has led and ended is started again, as systemd does: its
-        lease is lost where the members of etcd take too long to elect a leader of their own."""
+        """Wait until they have the same lines. Restart a former leader that has ended, as systemd does: it loses its
+        lease if the members of etcd take too long to elect their own leader."""
         chosen = names or NAMES
 
         def are_equal() -> bool:
@@ -224,7 +226,7 @@ class Replicas:
         return next((name for name in self.processes if is_served(self.socket(name), tenant)), None)
 
     def leads(self) -> str:
-        """Whoever leads, once one does."""
+        """Return the leader's name, once one leads."""
         found: list[str] = []
 
         def is_found() -> bool:
@@ -254,13 +256,13 @@ class Replicas:
                 process.wait()
 
     def journal(self, name: str) -> bytes:
-        """A replica's lines, without the journal's own headings."""
+        """Return a replica's lines, without the journal's own headings."""
         paths = sorted((self.folder / name / "journal").glob("*.lines"))
         return b"".join(re.sub(rb"(?m)^#.*\n", b"", path.read_bytes()) for path in paths)
 
 
 def is_served(path: Path, tenant: bytes) -> bool:
-    """Whether a firmd that leads answers there."""
+    """Return whether a leading firmd answers there."""
     with socket.socket(socket.AF_UNIX) as tried:
         try:
             tried.settimeout(1)
@@ -272,7 +274,8 @@ def is_served(path: Path, tenant: bytes) -> bool:
 
 
 def seen(members: Members, replicas: Replicas) -> str:
-    """What may say why a check has failed: who runs, how far each is, the last lines of all logs, and etcd's keys."""
+    """Return clues to a check's failure: running processes, each one's extent, the last lines of all logs, and
+    etcd's keys."""
     found = [f"  load {os.getloadavg()[0]:.1f}"]
     for name, process in replicas.processes.items():
         status = process.poll()
@@ -288,11 +291,11 @@ def seen(members: Members, replicas: Replicas) -> str:
 
 def last_lines(log: Path) -> list[str]:
     lines = log.read_text(errors="replace").splitlines() if log.exists() else ["(no log)"]
-    return [f"    {line[:LONGEST_LINE]}" for line in lines[-LAST_LINES:]]
+    return [f"    {line[:MAX_LINE]}" for line in lines[-LAST_LINES:]]
 
 
 def keys_of(members: Members) -> Iterator[str]:
-    """The leader's key with its lease, and how far the replicas are, as etcd has them."""
+    """Yield the leader's key with its lease, and the replicas' extents, as etcd has them."""
     if program_path("etcdctl") is None or members.scheme != "http":
         return
     environment = {**os.environ, "ETCDCTL_API": "3"}
@@ -300,11 +303,11 @@ def keys_of(members: Members) -> Iterator[str]:
     for words in (("endpoint", "status"), ("get", "--prefix", "/firm/leader"), ("get", "--prefix", "/firm/kept/")):
         done = subprocess.run([*command, *words], capture_output=True, text=True, env=environment)
         yield f"  etcdctl {' '.join(words)}:"
-        yield from (f"    {line[:LONGEST_LINE]}" for line in (done.stdout + done.stderr).splitlines())
+        yield from (f"    {line[:MAX_LINE]}" for line in (done.stdout + done.stderr).splitlines())
 
 
 def memory() -> str | None:
-    """A folder in memory, where there is one: what is killed here are processes, which no disk needs to outlive."""
+    """Return a folder in memory, if any: the checks kill processes, not hosts, so no disk is needed."""
     return "/dev/shm" if os.access("/dev/shm", os.W_OK) else None
 
 
@@ -312,7 +315,7 @@ def memory() -> str | None:
 def cluster(
     firm: str, roster: bytes, *options: str, members: tuple[str, ...] = ()
 ) -> Iterator[tuple[Members, Replicas]]:
-    """Three members of etcd that run, and firmd replicas that are not started yet, in a folder of their own."""
+    """Start three members of etcd; yield them and firmd replicas that are not started yet, in a separate folder."""
     require_programs("etcd")
     with tempfile.TemporaryDirectory(prefix="firm-", dir=memory()) as name:
         folder = Path(name)

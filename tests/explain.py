@@ -1,13 +1,13 @@
-"""Asks firm_explain from outside: its lines without the reasons are firm's, and tests/certificates takes its reasons.
+"""Check firm_explain from outside: its replies are firm's, and tests/certificates accepts its reasons.
 
 usage: tools/run tests/explain.py [--quick] [--program FILE] [--explain FILE] [WORD..]
-Reasons of each kind of stream at 3,000 tasks and 1,000 machines are accepted, also with --all, --why, --machine and
---rows, and those of 3,000 random streams and of 400 with noise; 1,000 outputs with one number changed are not, nor
-some with a comment line removed, doubled, moved or with another word, with replies changed, cut off or without their
-reasons, or with another placement of the same cost, whatever order is given for it. Also --tenant, statuses, pieces,
-failed writes, refused and constant memory, and time. With words only the checks whose names have one of them. Each
-check has a line; the exit status is 1 where one failed. The long run takes some ten minutes. It needs a C compiler for
-refuse.c.
+The checker accepts the reasons of each kind of stream at 3,000 tasks and 1,000 machines, also with --all, --why,
+--machine and --rows, and those of 3,000 random streams and of 400 with noise. It refuses 1,000 outputs with one number
+changed. It also refuses outputs with a comment line removed, doubled, moved or with another word; with replies changed,
+cut off or without their reasons; and with another placement of the same cost, in whatever order. Further checks cover
+--tenant, statuses, pieces, failed writes, refused and constant memory, and time. With words it runs only the checks
+whose names have one of them. Each check prints a line; the exit status is 1 if one failed. The long run takes some ten
+minutes. It needs a C compiler for refuse.c.
 """
 
 from __future__ import annotations
@@ -34,9 +34,9 @@ from harness.checks import CannotRun, Check, Missed, Suite, require, run_script,
 from harness.small_streams import random_stream, with_noise
 
 WORKED = program.ROOT / "crates" / "firm_explain"  # with the rounds that docs/EXPLAIN.md works by hand
-MOST_TIMES = 3  # firm's processor time
-TIMED_SECONDS = 1.0  # which firm takes, about, for a stream that is timed
-CHANGES = ("waits:", "preempted", "starts", "moves", "stays")  # the words behind the name in a task's line
+MAX_TIMES = 3  # firm's processor time
+TIMED_SECONDS = 1.0  # of firm, about, for a timed stream
+CHANGES = ("waits:", "preempted", "starts", "moves", "stays")  # the words after the name in a task's line
 
 Choice = str | None  # a machine; None is to wait
 
@@ -53,7 +53,7 @@ class Stream(NamedTuple):
 
 
 class Timed(NamedTuple):
-    """What a run wrote, its user and system seconds, and the kilobytes of memory that it held at most."""
+    """A run's output, its user and system seconds, and its peak memory in kilobytes."""
 
     output: bytes
     seconds: float
@@ -61,7 +61,7 @@ class Timed(NamedTuple):
 
 
 def load_checker() -> Any:
-    """tests/certificates as a module."""
+    """Return tests/certificates as a module."""
     loader = SourceFileLoader("certificates", str(Path(__file__).parent / "certificates"))
     spec = spec_from_loader("certificates", loader)
     if spec is None:
@@ -91,7 +91,7 @@ class Written:
 
 
 def said_of(words: list[str]) -> str:
-    """What the checker says."""
+    """Return the checker's output."""
     try:
         return str(CHECKER.main(words))
     except SystemExit as reason:
@@ -99,13 +99,13 @@ def said_of(words: list[str]) -> str:
 
 
 def judge(stream: Stream, output: bytes, *words: str) -> str:
-    """What the checker says of an output: how many rounds are shown, or what is not so. The words are its options."""
+    """Return the checker's verdict on an output: the number of rounds shown, or the fault. The words are options."""
     with Written(stream, output) as paths:
         return said_of([*paths, *words])
 
 
 def judge_alone(output: bytes, *words: str) -> str:
-    """The same of an output, or of a part of one, by its rows alone."""
+    """Return the same verdict on an output, or on a part of one, by its rows alone."""
     with Written(Stream(b"", b""), output) as paths:
         return said_of(["--rows", paths[-1], *words])
 
@@ -116,7 +116,7 @@ def require_refused(stream: Stream, output: bytes, what: object, *words: str) ->
 
 
 def run_timed(words: list[str], stream: Stream) -> Timed:
-    """A run that must end well."""
+    """Run a program that must end well."""
     with program.Roster(stream.roster) as path, tempfile.TemporaryFile() as given, tempfile.TemporaryFile() as output:
         given.write(stream.text)
         given.seek(0)
@@ -137,7 +137,7 @@ def rounds_in(output: bytes) -> int:
 
 
 def explained(options: Options, stream: Stream, *words: str) -> bytes:
-    """What firm_explain writes, once its replies are firm's and the checker has taken each round."""
+    """Return firm_explain's output, once its replies are firm's and the checker has accepted each round."""
     output = run_timed([options.explain, *words], stream).output
     require(without_comments(output) == run_timed([options.firm], stream).output, "other replies")
     require_shown(stream, output, *words)
@@ -145,7 +145,7 @@ def explained(options: Options, stream: Stream, *words: str) -> bytes:
 
 
 def require_shown(stream: Stream, output: bytes, *words: str) -> None:
-    """Asks that the checker takes each round and each word of its reasons, where there are rows by these alone too."""
+    """Require that the checker accepts each round and each word of its reasons; with rows also by these alone."""
     count = rounds_in(output)
     said = [judge(stream, output, *words)]
     said += [judge_alone(output, *words)] if count and "--rows" in words else []
@@ -163,14 +163,14 @@ def stream_of(kind: str, tasks: int, machines: int, seed: int = 1) -> Stream:
 
 
 def kind_is_shown(options: Options, kind: str) -> None:
-    """The rounds of a kind of bench/rounds.py's streams, with every option."""
+    """The checker accepts the rounds of a kind of bench/rounds.py's streams, with every option."""
     stream = stream_of(kind, *size_of(options))
     for words in ("", "--all", "--why t7 --machine 4", "--rows"):
         explained(options, stream, *words.split())
 
 
 def repeated(stream: Stream, times: int) -> Stream:
-    """A stream of one tenant, which is retired and admitted again before each further time."""
+    """Return a stream of one tenant, which is retired and admitted again before each further time."""
     row = stream.roster.splitlines()[1]
     again = b"+ retire %s\n+ admit %s\n" % (kinds.TENANT.encode(), row)
     return stream._replace(text=again.join([stream.text] * times))
@@ -179,7 +179,7 @@ def repeated(stream: Stream, times: int) -> Stream:
 def kind_is_quick(options: Options, kind: str) -> None:
     """The processor time of a stream, repeated until firm takes a second, is at most three times that of firm.
 
-    So it is with rows; the last number, with all choices of a task, may be any.
+    The bound also holds with rows; the last number, with all choices of a task, has no bound.
     """
     once = stream_of(kind, *size_of(options))
     seconds = min(run_timed([options.firm], once).seconds for _ in range(3))
@@ -191,7 +191,7 @@ def kind_is_quick(options: Options, kind: str) -> None:
         times.append(min(run.seconds for run in runs) / firm)
         require(runs[0].output.count(b"\n# least: ") == rounds_in(runs[0].output), "rounds without reasons")
     print(f"| {kind} | {firm:.2f} | {' | '.join(f'{time:.1f}' for time in times)} |", flush=True)
-    require(max(times[:2]) <= MOST_TIMES, times)
+    require(max(times[:2]) <= MAX_TIMES, times)
 
 
 def has_roster(stream: Stream) -> bool:
@@ -209,7 +209,7 @@ def small_stream(seed: int, noise: bool = False) -> Stream:
 
 
 def random_words(draw: random.Random) -> list[str]:
-    """Options of firm_explain."""
+    """Return random options of firm_explain."""
     words = ["--all"] if draw.random() < 0.3 else []
     words += ["--rows"] if draw.random() < 0.3 else []
     words += ["--why", draw.choice(["a", "b", "n1", "n2", "x-1"])] if draw.random() < 0.5 else []
@@ -229,7 +229,7 @@ def small_streams(options: Options, first: int, count: int, noise: bool) -> None
 
 
 def changed(draw: random.Random, output: bytes) -> bytes | None:
-    """An output with one number of a comment line changed; None where there is none."""
+    """Return an output with one number of a comment line changed, or None without any."""
     spots = [
         found.span()
         for line in re.finditer(rb"^#.*$", output, re.MULTILINE)
@@ -269,7 +269,7 @@ def changes_are_refused(options: Options, count: int) -> None:
 
 
 def worked_stream() -> Stream:
-    """The rounds that docs/EXPLAIN.md works by hand."""
+    """Return the rounds that docs/EXPLAIN.md works by hand."""
     return Stream((WORKED / "data" / "roster.csv").read_bytes(), (WORKED / "stdin").read_bytes())
 
 
@@ -327,7 +327,7 @@ WRONG_CROWDS = [
 
 
 def wrong_outputs(output: bytes) -> Iterator[tuple[str, bytes]]:
-    """Each wrong output that differs from this one in comment lines, with what is wrong."""
+    """Yield each wrong output that differs from this one in comment lines, with the fault."""
     lines = output.splitlines(keepends=True)
     for place, line in enumerate(lines):
         if line.startswith(b"#"):
@@ -340,13 +340,13 @@ def wrong_outputs(output: bytes) -> Iterator[tuple[str, bytes]]:
 
 
 def replaced(output: bytes, old: bytes, new: bytes) -> bytes:
-    """An output with the first of these words changed."""
+    """Return an output with the first of these words changed."""
     require(old in output, f"there is no {old!r}")
     return output.replace(old, new, 1)
 
 
 def has_change(line: str) -> bool:
-    """Whether a line is that of a task."""
+    """Return whether a line is that of a task."""
     return line.startswith("#") and line.split(" ")[2] in CHANGES
 
 
@@ -362,7 +362,7 @@ def wrong_outputs_are_refused(options: Options) -> None:
 
 
 def wrong_witnesses_are_refused(options: Options) -> None:
-    """No placement passes that costs something else than its line says, or has another task's changes left out."""
+    """No placement passes whose cost differs from its line's, or whose line leaves out another task's changes."""
     stream = worked_stream()
     output = explained(options, stream, "--why", "w1")
     lines = list(re.finditer(rb"^# if .*: (\d+) more(: [^;\n]*)?(; .*)?$", output, re.MULTILINE))
@@ -380,7 +380,7 @@ def wrong_witnesses_are_refused(options: Options) -> None:
 
 
 def wrong_orders_are_refused(options: Options) -> None:
-    """No order passes that does not show the placement, or is none."""
+    """No invalid order passes, and none that does not show the placement."""
     stream = worked_stream()
     output = explained(options, stream)
     for order in WRONG_ORDERS:
@@ -388,7 +388,7 @@ def wrong_orders_are_refused(options: Options) -> None:
 
 
 def wrong_crowds_are_refused(options: Options) -> None:
-    """The same where many tasks wait for the same reason."""
+    """No such output passes if many tasks wait for the same reason."""
     stream = crowded_stream()
     output = explained(options, stream)
     for old, new in WRONG_CROWDS:
@@ -399,7 +399,7 @@ def wrong_crowds_are_refused(options: Options) -> None:
 
 
 def crowded_stream() -> Stream:
-    """A stream in which tasks of two jobs wait, in the first round for two reasons."""
+    """Return a stream in which tasks of two jobs wait, in the first round for two reasons."""
     roster = b"tenant,nodes,arcs,life,spread,churn,remote\nalpha,60,400,100,3,5,2\n"
     rows = b"alpha machine m 1\nalpha machine n 1\nalpha job j 5\nalpha job k 9\n"
     tasks = b"".join(b"alpha task j t%d\nalpha task k u%d m\n" % (number, number) for number in range(25))
@@ -425,7 +425,7 @@ def wrong_sums_are_refused(options: Options) -> None:
 
 
 def wrong_replies(output: bytes) -> Iterator[tuple[str, bytes]]:
-    """Each output in which one word of a reply is another, a round has no reasons, or that is cut off behind a line."""
+    """Yield each output with another word in a reply, without a round's reasons, or cut off after a line."""
     lines = output.splitlines(keepends=True)
     for place, line in enumerate(lines):
         before, after = b"".join(lines[:place]), b"".join(lines[place + 1 :])
@@ -461,7 +461,7 @@ def wrong_replies_are_refused(options: Options) -> None:
 
 
 def least_placements(tenant: Any, cost: int) -> Iterator[dict[str, Choice]]:
-    """All placements of this cost, if none costs less."""
+    """Yield all placements of this cost, if none costs less."""
     names, load, to = list(tenant.tasks), dict.fromkeys(tenant.slots, 0), dict[str, Choice]()
 
     def place(number: int, left: int) -> Iterator[dict[str, Choice]]:
@@ -482,7 +482,7 @@ def least_placements(tenant: Any, cost: int) -> Iterator[dict[str, Choice]]:
 
 
 def random_order(draw: random.Random, places: list[str]) -> str:
-    """An order of these places, which are in order of addition."""
+    """Return a random order of these places, which are in order of addition."""
     of = [draw.randrange(len(places)) for _ in places]
     groups = ([place for place, at in zip(places, of) if at == group] for group in range(len(places)))
     order = " < ".join(" ".join(names) for names in groups if names)
@@ -490,7 +490,7 @@ def random_order(draw: random.Random, places: list[str]) -> str:
 
 
 def passes_as_first(found: Any, line: str) -> bool:
-    """Whether the checker takes this line for the round."""
+    """Return whether the checker accepts this line for the round."""
     forged = found._replace(comments=[*found.comments[:-1], line])
     try:
         forged.check_first(forged.proof(forged.comments[1]))
@@ -500,7 +500,7 @@ def passes_as_first(found: Any, line: str) -> bool:
 
 
 def forged_orders_are_refused(options: Options, count: int) -> None:
-    """No placement passes that costs as little as a round's and is another, with the round's order or a random one."""
+    """No other placement of a round's cost passes, with the round's order or a random one."""
     forged = 0
     for seed in range(1, count + 1):
         stream, draw = small_stream(seed), random.Random(seed)
@@ -523,7 +523,7 @@ def forged_orders_are_refused(options: Options, count: int) -> None:
 
 
 def least_cost(tenant: Any, slots: Mapping[str, int], fixed: Mapping[str, Choice]) -> int:
-    """What the cheapest placement costs with such slots in which the fixed tasks have these choices, of all of them."""
+    """Return the cost of the cheapest placement with such slots and these choices of the fixed tasks."""
     names, best = list(tenant.tasks), 1 << 60
     load = dict.fromkeys(slots, 0)
 
@@ -568,13 +568,24 @@ def is_of_constant_size(options: Options) -> None:
     require(many.kilobytes < few.kilobytes + 1000, f"{few.kilobytes} kB, and then {many.kilobytes} kB")
 
 
+def names_like_options(options: Options) -> None:
+    """A tenant and a task may be called `--`, or as an option is: the checker takes such names as firm_explain does."""
+    for name in ("--", "--all", "-x"):
+        roster = f"tenant,nodes,arcs,life,spread,churn\n{name},9,24,100,1,2\n"
+        text = "".join(f"{name} {line}\n" for line in ("machine m 1", "job j 5", f"task j {name}", "round"))
+        asked = [f"--tenant={name}", f"--why={name}"]
+        output = explained(options, Stream(roster.encode(), text.encode()), *asked)
+        require(f"# {name}'s rents: " in output.decode(), output)
+
+
 def statuses(options: Options) -> None:
-    """The exit statuses are firm's, and so are the texts behind the program's name."""
+    """The exit statuses are firm's, and so are the texts after the program's name."""
     roster = b"tenant,nodes,arcs,life,spread,churn\na,9,24,100,1,2\n"
     with program.Roster(roster) as path, program.Roster(b"tenant\n") as faulty:
         cases: list[tuple[list[str], int, bytes]] = [
             ([], 2, b""),
             (["--roster", path, "--fly"], 2, b""),
+            (["--roster", os.fsdecode(b"\xff")], 2, b"firm_explain: the command line is not UTF-8\n"),
             (["--roster", path, "--tenant", "A"], 2, b"firm_explain: "),
             (["--roster", path, "--machine", "65"], 2, b""),
             (["--roster", "/nonexistent"], 3, b"firm_explain: cannot read roster\n"),
@@ -585,6 +596,9 @@ def statuses(options: Options) -> None:
         for words, status, said in cases:
             done = program.run_words([options.explain, *words], b"a show\n")
             require(done.status == status and done.faults.startswith(said), f"{words}: {done}")
+        shown = program.run_words([options.explain, "--help"], b"").output
+        is_whole = shown.startswith(b"Answers as firm does") and shown.endswith(b"see firm_explain measure --help.\n")
+        require(is_whole, shown)
         folder = os.open("/", os.O_RDONLY)
         ended = subprocess.run([options.explain, "--roster", path], stdin=folder, capture_output=True)
         os.close(folder)
@@ -596,7 +610,7 @@ def statuses(options: Options) -> None:
 
 
 def faulty_stream() -> Stream:
-    """A stream of two rounds, short enough to fail each of its requests."""
+    """Return a stream of two rounds, short enough to fail each of its requests."""
     roster = b"tenant,nodes,arcs,life,spread,churn\na,20,90,100,1,2\n"
     lines = "machine m 1; machine n 2; job j 5; task j x; task j y n; task j z; task j w; round; drain m; round; show"
     return Stream(roster, "".join(f"a {line.strip()}\n" for line in lines.split(";")).encode())
@@ -631,7 +645,7 @@ def refused_memory(options: Options) -> None:
 
 
 def ends_at(whole: bytes, size: int) -> bytes:
-    """All that is written if the output fails once after this number of bytes, or in the line that they begin.
+    """Return all output if it fails once after this number of bytes, or in the line that they begin.
 
     After a reply that can't be written there is nothing; after a reason there are replies without reasons.
     """
@@ -658,7 +672,7 @@ def failed_writes(options: Options, sizes: tuple[int, ...]) -> None:
 
 
 def in_pieces(options: Options, count: int) -> None:
-    """Reads and writes of some bytes each change nothing."""
+    """Short reads and writes change nothing."""
     with tempfile.TemporaryDirectory(prefix="firm-") as folder:
         library = program.build_refusing(folder)
         for seed in range(1, count + 1):
@@ -673,10 +687,11 @@ def in_pieces(options: Options, count: int) -> None:
 
 
 def checks(options: Options) -> dict[str, Check]:
-    """Each check's name and what it runs; it passes where nothing is raised."""
+    """Return each check's name and function; it passes if nothing is raised."""
     quick = options.quick
     found: dict[str, Check] = {
         "one tenant": partial(one_tenant, options),
+        "names like options": partial(names_like_options, options),
         "statuses": partial(statuses, options),
         "refused memory": partial(refused_memory, options),
         "failed writes": partial(failed_writes, options, (7, 4096) if quick else (1, 7, 4096)),
@@ -703,7 +718,7 @@ def checks(options: Options) -> dict[str, Check]:
 
 def main() -> int:
     parser = argparse.ArgumentParser(description=(__doc__ or "").splitlines()[0])
-    parser.add_argument("words", nargs="*", metavar="WORD", help="only checks whose names have one of these words")
+    parser.add_argument("words", nargs="*", metavar="WORD", help="run only checks whose names have one of these words")
     parser.add_argument("--quick", action="store_true", help="small streams alone, in half a minute")
     program.add_program(parser)
     parser.add_argument("--explain", type=program.program_file, default=str(program.EXPLAIN), metavar="FILE")

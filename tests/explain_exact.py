@@ -1,10 +1,10 @@
-"""Asks firm_explain from outside, beside all placements of small books: its exact numbers are, and its ties fell so.
+"""Check firm_explain from outside, beside all placements of small books: its exact numbers and its ties.
 
 usage: tools/run tests/explain_exact.py [--quick] [--program FILE] [--explain FILE] [WORD..]
-Numbers that docs/EXPLAIN.md calls exact are what the cheapest of all placements says, in 300 random streams; the task
-that a line names decides a tie, and an earlier one where a line says so, in 1,000. Each kind of tie has its words, and
-no other reason passes. With words only the checks whose names have one of them. Each check has a line; the exit status
-is 1 where one failed.
+Numbers that docs/EXPLAIN.md calls exact agree with the cheapest of all placements, in 300 random streams; the task that
+a line names decides a tie, and an earlier one if a line says so, in 1,000. Each kind of tie has its words, and no other
+reason passes. With words it runs only the checks whose names have one of them. Each check prints a line; the exit
+status is 1 if one failed.
 """
 
 from __future__ import annotations
@@ -41,7 +41,7 @@ TIE = re.compile(r"# if ([a-z0-9-]+) (?:on ([a-z0-9-]+)|waits): 0 more(?:: ([^;]
 
 
 class Claim(NamedTuple):
-    """The additional cost of another choice of a task by an output, what shows it, and the words for it."""
+    """The additional cost of another choice of a task by an output, its proof, and the words for it."""
 
     task: str
     choice: Choice
@@ -51,12 +51,12 @@ class Claim(NamedTuple):
 
     @property
     def is_exact(self) -> bool:
-        """Whether it is exact by docs/EXPLAIN.md, or by the words."""
+        """Return whether it is exact by docs/EXPLAIN.md, or by the words."""
         return self.shown_by != BOTH_TABLES or self.words[2] is self.words[3] is None
 
     @property
     def has_earlier(self) -> bool:
-        """Whether an earlier task decides, by the words."""
+        """Return whether an earlier task decides, by the words."""
         return self.words[4] == "an earlier task decides"
 
 
@@ -82,7 +82,7 @@ def claims_of(found: Any) -> Iterator[Claim]:
 
 
 def claim_in(text: str) -> re.Match[str]:
-    """The words of a claim: its choices, their additional cost, and what decides a tie."""
+    """Return the words of a claim: its choices, their additional cost, and the decider of a tie."""
     found = CLAIM.fullmatch(text)
     if found is None:
         raise AssertionError(f"no claim: {text}")
@@ -99,13 +99,13 @@ def claims_are_exact(found: Any) -> Iterator[str]:
 
 
 def ranks(found: Any, task: str) -> list[Choice]:
-    """All choices of a task, in the order of docs/PLACEMENT.md."""
+    """Return all choices of a task, in the order of docs/PLACEMENT.md."""
     home = found.tenant.tasks[task].home
     return [*([home] if home else []), *(machine for machine in found.tenant.slots if machine != home), None]
 
 
 def decider_of(found: Any, other: Mapping[str, Choice]) -> str:
-    """The first task on which another placement differs from a round's, which must come before it."""
+    """Return the first task on which another placement differs from a round's, which must come before it."""
     first: str = next(task for task in found.to if found.to[task] != other[task])
     own = ranks(found, first)
     require(own.index(found.to[first]) < own.index(other[first]), f"{first} decides against the round")
@@ -113,7 +113,8 @@ def decider_of(found: Any, other: Mapping[str, Choice]) -> str:
 
 
 def ties_are_decided(found: Any) -> Iterator[str]:
-    """Each tie of a round, once all placements of its cost show that the named task, or an earlier one, decides it."""
+    """Yield each tie of a round, once all placements of its cost show that the named task, or an earlier one,
+    decides it."""
     least = list(least_placements(found.tenant, int(found.reply[5])))
     places = {task: place for place, task in enumerate(found.to)}
     for claim in claims_of(found):
@@ -139,12 +140,12 @@ def changes_in(text: str | None) -> list[str]:
 
 
 def change_in(text: str) -> tuple[str, Choice]:
-    """A task, and what it has: `t2 on m1` or `t2 waits`."""
+    """Return a task and its place, from `t2 on m1` or `t2 waits`."""
     task, *where = text.split(" ")
     return task, where[1] if where[0] == "on" else None
 
 
-# Rows behind `alpha`, with spread, churn and remote; options; and lines of the last round.
+# Rows after `alpha`, with spread, churn and remote; options; and lines of the last round.
 TIES: list[tuple[str, str, str, list[str]]] = [
     (
         "3 5 0",
@@ -274,7 +275,7 @@ def slots_are_exact(found: Any) -> Iterator[str]:
 
 
 def reasons_are_exact(options: Options, count: int) -> None:
-    """The numbers that docs/EXPLAIN.md calls exact are what the cheapest of all placements says, in small books."""
+    """The numbers that docs/EXPLAIN.md calls exact agree with the cheapest of all placements, in small books."""
     seen = Counter[str]()
     for seed in range(1, count + 1):
         stream = small_stream(seed)
@@ -306,7 +307,7 @@ WRONG_DECIDERS = [
 
 
 def wrong_deciders_are_refused(options: Options) -> None:
-    """No line passes that names another task than the one that decides, or names one without a tie."""
+    """No line passes that names another task than the decider, or names one without a tie."""
     stream, ties = worked_stream(), set[str]()
     for words in (["--why", name] for name in ("w1", "b1", "b2")):
         output = explained(options, stream, *words)
@@ -322,7 +323,7 @@ def wrong_deciders_are_refused(options: Options) -> None:
 
 
 def checks(options: Options) -> dict[str, Check]:
-    """Each check's name and what it runs; it passes where nothing is raised."""
+    """Return each check's name and function; it passes if nothing is raised."""
     quick = options.quick
     return {
         "exact numbers": partial(reasons_are_exact, options, 20 if quick else 300),
@@ -334,7 +335,7 @@ def checks(options: Options) -> dict[str, Check]:
 
 def main() -> int:
     parser = argparse.ArgumentParser(description=(__doc__ or "").splitlines()[0])
-    parser.add_argument("words", nargs="*", metavar="WORD", help="only checks whose names have one of these words")
+    parser.add_argument("words", nargs="*", metavar="WORD", help="run only checks whose names have one of these words")
     parser.add_argument("--quick", action="store_true", help="20 and 60 random streams in place of 300 and 1,000")
     program.add_program(parser)
     parser.add_argument("--explain", type=program.program_file, default=str(program.EXPLAIN), metavar="FILE")

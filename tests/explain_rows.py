@@ -1,11 +1,12 @@
-"""Asks firm_explain --rows from outside: each round stands on its rows alone, for tests/certificates and for firm.
+"""Check firm_explain --rows from outside: each round stands on its rows alone, for tests/certificates and for firm.
 
 usage: tools/run tests/explain_rows.py [--quick] [--program FILE] [--explain FILE] [WORD..]
-A round that is cut out of an output is taken by `tests/certificates --rows`, and firm that opens with its rows answers
-it alike. A number of the round changed, in its rows, reply or reasons, is refused where it bears on the round, and so
-are rows removed, doubled, moved or of another round, rows or states that firm can't have, and reasons without rows. In
-a whole output any other row than the commands give is refused. What the checker can't run with gives status 2.
-With words only the checks whose names have one of them. Each check has a line; the exit status is 1 where one failed.
+`tests/certificates --rows` accepts a round that is cut out of an output, and a firm that opens with the round's rows
+gives the same answer. A changed number in a round's rows, reply or reasons is refused if it bears on the round. So are
+rows removed, doubled, moved or of another round, rows or states that firm can't have, and reasons without rows. In a
+whole output the checker refuses any row that the commands do not give. Options or files that the checker can't use give
+status 2. With words it runs only the checks whose names have one of them. Each check prints a line; the exit status is
+1 if one failed.
 """
 
 from __future__ import annotations
@@ -39,7 +40,7 @@ NUMBER = re.compile(rb"(?<![\w-])\d+(?![\w-])")
 
 
 def rows_stream() -> Stream:
-    """A stream in which tasks run, wait, have waited as long as counts, and prefer machines."""
+    """Return a stream in which tasks run, wait, have waited for the longest wait that counts, and prefer machines."""
     roster = b"tenant,nodes,arcs,life,spread,churn,remote,patience\nalpha,60,400,1000000,3,5,2,2\n"
     rows = (
         "machine m1 2; machine m2 1; machine m3 1; job web 12; job batch 4; job late 1; task web w1 m2; task batch b1"
@@ -49,12 +50,12 @@ def rows_stream() -> Stream:
 
 
 def rounds_of(output: bytes) -> list[bytes]:
-    """Each round of an output, with its comment lines."""
+    """Return each round of an output, with its comment lines."""
     return re.findall(rb"^[a-z0-9-]+ \d+ ok round .*\n(?:#.*\n)*", output, re.MULTILINE)
 
 
 def state_of(found: bytes) -> bytes:
-    """The state that has the rows of a round."""
+    """Return the state with the rows of a round."""
     _, *comments = found.splitlines()
     rows = [line[2:] for line in comments[: next(at for at, line in enumerate(comments) if b"# rows " in line)]]
     heading = EXTENDED_STATE_HEADING if b" patience " in rows[0] else STATE_HEADING
@@ -62,7 +63,7 @@ def state_of(found: bytes) -> bytes:
 
 
 def answered_alone(options: Options, found: bytes) -> bytes:
-    """What firm answers to the round where it opens with the rows."""
+    """Return firm's reply to the round if it opens with the rows."""
     with tempfile.NamedTemporaryFile(prefix="firm-") as file:
         file.write(state_of(found))
         file.flush()
@@ -70,13 +71,13 @@ def answered_alone(options: Options, found: bytes) -> bytes:
 
 
 def rows_in(found: bytes) -> list[bytes]:
-    """The lines of a round's rows."""
+    """Return the lines of a round's rows."""
     lines = found.splitlines(keepends=True)[1:]
     return lines[: 1 + next(at for at, line in enumerate(lines) if line.startswith(b"# rows "))]
 
 
 def numbers_changed(text: bytes) -> Iterator[tuple[str, bytes]]:
-    """Each text with one of its numbers changed, and what was changed."""
+    """Yield each text with one of its numbers changed, and the change."""
     for number in NUMBER.finditer(text):
         value = int(number.group())
         for other in {value + 1, max(0, value - 1)} - {value}:
@@ -86,7 +87,7 @@ def numbers_changed(text: bytes) -> Iterator[tuple[str, bytes]]:
 
 
 def rows_changed(rows: list[bytes]) -> Iterator[tuple[str, list[bytes]]]:
-    """The rows with a line removed or doubled, or two lines in the other order."""
+    """Yield the rows with a line removed or doubled, or two lines in the other order."""
     for at, row in enumerate(rows):
         yield f"without {row!r}", rows[:at] + rows[at + 1 :]
         yield f"twice {row!r}", rows[: at + 1] + rows[at:]
@@ -100,7 +101,7 @@ def require_refused_alone(text: bytes, what: object, *words: str) -> None:
 
 
 def stand_alone(options: Options, output: bytes, *words: str) -> None:
-    """Each round of an output, cut out, is taken by its rows, and firm answers it from them."""
+    """Each round of an output, cut out, is accepted by its rows, and firm answers it from them."""
     for found in rounds_of(output):
         said = judge_alone(found, *words)
         require(said == "shown first: 1 of 1 rounds", said)
@@ -109,14 +110,14 @@ def stand_alone(options: Options, output: bytes, *words: str) -> None:
 
 
 def rounds_stand_alone(options: Options) -> None:
-    """Rounds of which the rows have each word that a row can have."""
+    """Rounds whose rows have each possible word stand alone."""
     for stream in (rows_stream(), worked_stream()):
         output = explained(options, stream, "--rows", "--all")
         stand_alone(options, output, "--all")
 
 
 def random_rounds_stand_alone(options: Options, count: int) -> None:
-    """Rounds of random streams, of several tenants that come and go."""
+    """Rounds of random streams, of several tenants that come and go, stand alone."""
     rounds = 0
     for seed in range(1, count + 1):
         stream = small_stream(seed)
@@ -128,7 +129,7 @@ def random_rounds_stand_alone(options: Options, count: int) -> None:
 
 
 def changes_are_refused(options: Options) -> None:
-    """No round passes alone with a number changed, but with rows by which firm answers alike; nor with a row less.
+    """No round passes alone with a row removed, nor with a number changed unless firm answers the changed rows alike.
 
     Many numbers of rows bear on no round, as those of the arena.
     """
@@ -169,7 +170,7 @@ def other_rows_are_refused(options: Options) -> None:
 
 
 def whole_outputs_have_their_rows(options: Options) -> None:
-    """Beside the commands each row must be the one that they give."""
+    """Beside the commands, each row must be the one that they give."""
     stream = rows_stream()
     output = explained(options, stream, "--rows")
     for found in rounds_of(output):
@@ -220,7 +221,7 @@ FORGED_STATES: list[tuple[bytes, bytes]] = [
 
 
 def states_that_are_none(options: Options) -> None:
-    """Beside a state that firm would not open no output is accepted."""
+    """Beside an invalid state, which firm would not open, no output is accepted."""
     roster = b"tenant,nodes,arcs,life,spread,churn\nalpha,60,400,1000,3,5\n"
     found = rounds_of(explained(options, Stream(roster, b"alpha machine m 1\nalpha round\n"), "--rows"))[-1]
     state = state_of(found)
@@ -271,7 +272,7 @@ def one_tenant(options: Options) -> None:
 
 
 def checks(options: Options) -> dict[str, Check]:
-    """Each check's name and what it runs; it passes where nothing is raised."""
+    """Return each check's name and function; it passes if nothing is raised."""
     return {
         "rounds by their rows": partial(rounds_stand_alone, options),
         "random rounds by their rows": partial(random_rounds_stand_alone, options, 40 if options.quick else 1000),
@@ -288,7 +289,7 @@ def checks(options: Options) -> dict[str, Check]:
 
 def main() -> int:
     parser = argparse.ArgumentParser(description=(__doc__ or "").splitlines()[0])
-    parser.add_argument("words", nargs="*", metavar="WORD", help="only checks whose names have one of these words")
+    parser.add_argument("words", nargs="*", metavar="WORD", help="run only checks whose names have one of these words")
     parser.add_argument("--quick", action="store_true", help="40 random streams in place of 1,000")
     program.add_program(parser)
     parser.add_argument("--explain", type=program.program_file, default=str(program.EXPLAIN), metavar="FILE")

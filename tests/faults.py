@@ -1,9 +1,9 @@
-"""Refuses each request for memory and each thread of the built program in turn, and fails each read and write once.
+"""Refuse each request for memory and each thread of the built program in turn, and fail each read and write once.
 
 usage: tools/run tests/faults.py [--program FILE] [--under COMMAND] [--workers N] [--only PART] [--random N]
-What did not end as it must has a line, and the exit status is 1 then. It needs a C compiler (cc) for refuse.c, which is
-preloaded into the program and refuses, fails or shortens chosen requests, on eight streams (on the longest only
-memory):
+Each run with an unexpected end prints a line, and the exit status is 1 then. It needs a C compiler (cc) for refuse.c,
+which is preloaded into the program and refuses, fails or shortens chosen requests. It uses eight streams (on the
+longest it only refuses memory):
 
 - The Nth request for memory is refused, for each N, all growths of first rows and the blocks of an admission among
   them; then all from the Nth on: status 6, `firm: memory`, a prefix of the output; or status 0, `no 14 memory` or
@@ -50,8 +50,8 @@ class Options(program.ProgramOptions):
 
 
 class Stream(NamedTuple):
-    """A roster and an input; and how many refused requests for memory these lines of it are answered for, each in a run
-    of its own, at least. To a long stream only memory is refused."""
+    """A roster and an input, with the least numbers of refused requests for memory, each in a separate run, that
+    these lines of it are answered for. A long stream is only refused memory."""
 
     roster: bytes
     text: bytes
@@ -114,7 +114,7 @@ STREAMS = {name: stream._replace(roster=HEADING + stream.roster) for name, strea
 
 
 class Counts(NamedTuple):
-    """How many requests for memory, reads of the input, writes, reads of files and threads a run asked for."""
+    """A run's numbers of requests for memory, reads of the input, writes, reads of files and threads."""
 
     memory: int
     reads: int
@@ -124,14 +124,14 @@ class Counts(NamedTuple):
 
 
 class Ends(NamedTuple):
-    """How often runs ended in which way, and what was done to them."""
+    """The number of runs by their way of ending, and the number of injected faults."""
 
     counts: Counter[str]
     done: str
 
 
 class Runs:
-    """Runs of one program, with what the preloaded library is to do."""
+    """Runs of one program, with the orders for the preloaded library."""
 
     def __init__(self, options: Options, folder: str) -> None:
         self.command, self.library = options.command(), program.build_refusing(folder)
@@ -139,7 +139,7 @@ class Runs:
         self.counts_path = Path(folder) / "counts"
 
     def run(self, stream: Stream, **asked: int) -> tuple[program.Run, Counts]:
-        """A run and its counts; what is asked of the library goes by the names that refuse.c has for it."""
+        """Return a run and its counts; the orders for the library have refuse.c's names."""
         with program.Roster(stream.roster) as roster_path:
             return self.run_words(["--roster", roster_path], stream.text, **asked)
 
@@ -156,17 +156,17 @@ def full_output(stream: Stream, marks: frozenset[int] = frozenset()) -> bytes:
 
 @cache
 def served(roster: bytes, text: bytes, marks: frozenset[int]) -> bytes:
-    """What the plain service writes, found once: most runs of a stream end alike."""
+    """Return the plain service's output, computed once: most runs of a stream end alike."""
     return b"".join(line + b"\n" for line in service.serve(roster, text, marks))
 
 
 def whole_run(stream: Stream) -> program.Run:
-    """A run to which nothing is done."""
+    """Return a run without a fault."""
     return program.Run(0, full_output(stream), b"")
 
 
 def marked_lines(text: bytes, output: bytes) -> frozenset[int]:
-    """The places of the input lines that were answered for want of memory; the output may end early."""
+    """Return the places of the input lines that were refused for want of memory; the output may end early."""
     answered = [
         place
         for place, line in enumerate(service.lines_of(text))
@@ -178,7 +178,7 @@ def marked_lines(text: bytes, output: bytes) -> frozenset[int]:
 
 
 def judge_memory(found: program.Run, stream: Stream) -> str:
-    """How a run to which memory was refused has ended."""
+    """Judge the end of a run that was refused memory; return it in words."""
     marks = marked_lines(stream.text, found.output)
     full = full_output(stream, marks)
     lines = f", {len(marks)} answered for want of memory" if marks else ""
@@ -192,12 +192,12 @@ def judge_memory(found: program.Run, stream: Stream) -> str:
 
 
 def whole_lines(text: bytes, size: int) -> bytes:
-    """The whole lines among the first bytes of an input."""
+    """Return the whole lines among the first bytes of an input."""
     return text[: text.rfind(b"\n", 0, size) + 1]
 
 
 def refuse_memory(runs: Runs, stream: Stream) -> Ends:
-    """Refuses the Nth request, from 1 until a run meets no refusal; then all requests from the Nth on."""
+    """Refuse the Nth request, from 1 until a run meets no refusal; then all requests from the Nth on."""
     found, counts = runs.run(stream)
     require(found == whole_run(stream), f"without a refusal: {found}")
     ends: Counter[str] = Counter()
@@ -219,7 +219,7 @@ def refuse_memory(runs: Runs, stream: Stream) -> Ends:
 
 
 def refuse_memory_of_help(runs: Runs, _: Stream) -> Ends:
-    """Refuses each request for memory of a run that asks for help; some come before it looks at the words."""
+    """Refuse each request for memory of a run that asks for help; some come before it reads its words."""
     whole, counts = runs.run_words(["--help"], b"")
     require(whole.status == 0 and whole.output and not whole.faults, f"without a refusal: {whole}")
     ends: Counter[str] = Counter()
@@ -231,27 +231,28 @@ def refuse_memory_of_help(runs: Runs, _: Stream) -> Ends:
 
 
 def refuse_warm_up(runs: Runs, stream: Stream) -> Ends:
-    """Refuses what workers ask for as they start, and would give back."""
+    """Refuse the memory that workers request as they start, and would give back."""
     found, _counts = runs.run(stream, refuse_warm_up=1)
     require(found == whole_run(stream), f"no memory at the start: {found}")
     return Ends(Counter({"status 0": 1}), f"{runs.workers} workers")
 
 
 def refuse_threads(runs: Runs, stream: Stream) -> Ends:
-    """Refuses the Nth thread. The first reads ahead, and the service does without it; each other is a worker."""
+    """Refuse the Nth thread. The first reads ahead, and the service does without it; each other is a worker."""
     ends, whole = Counter[str](), whole_run(stream)
     for place in range(1, runs.workers + 3):
         found, counts = runs.run(stream, refuse_thread=place)
         is_worker = 1 < place <= runs.workers + 1
         require(found == (NO_MEMORY if is_worker else whole), f"thread {place}: {found}")
         wanted = place if is_worker else runs.workers + 1
-        require(counts.threads == wanted, f"thread {place}: {counts.threads} were asked for")
+        require(counts.threads == wanted, f"thread {place}: {counts.threads} were requested")
         ends["status 6, nothing written" if is_worker else "status 0"] += 1
     return Ends(ends, f"{runs.workers} workers")
 
 
 def failing_runs(runs: Runs, stream: Stream, call: str, **asked: int) -> Iterator[tuple[int, program.Run]]:
-    """Runs in which the Nth call of a kind fails, with N, from 1 until a run meets no failure, which must be whole."""
+    """Yield runs in which the Nth call of a kind fails, with N, from 1 until a run meets no failure, which must be
+    whole."""
     for place in count(1):
         found, counts = runs.run(stream, **{f"fail_{call}": place}, **asked)
         if counts._asdict()[f"{call}s"] < place:
@@ -261,7 +262,7 @@ def failing_runs(runs: Runs, stream: Stream, call: str, **asked: int) -> Iterato
 
 
 def fail_reads(runs: Runs, stream: Stream) -> Ends:
-    """Fails each read of standard input once, in pieces of several sizes: all whole lines before it are answered."""
+    """Fail each read of standard input once, in pieces of several sizes: all whole lines before it are answered."""
     ends: Counter[str] = Counter()
     for most, error in product((1, 2, 7, 257, 4096), (errno.EIO, errno.EINTR)):
         for place, found in failing_runs(runs, stream, "read", read_most=most, fail_with=error):
@@ -276,7 +277,7 @@ def fail_reads(runs: Runs, stream: Stream) -> Ends:
 
 
 def fail_writes(runs: Runs, stream: Stream) -> Ends:
-    """Fails each write once, with writes of several sizes: what was taken before it is a prefix, exactly as long."""
+    """Fail each write once, with writes of several sizes: the output before it is a prefix, exactly as long."""
     ends, full = Counter[str](), full_output(stream)
     for most, error in product((1, 4, 4096), (errno.EIO, errno.ENOSPC, errno.EINTR, 0)):
         for place, found in failing_runs(runs, stream, "write", write_most=most, fail_with=error):
@@ -288,7 +289,7 @@ def fail_writes(runs: Runs, stream: Stream) -> Ends:
 
 
 def fail_files(runs: Runs, stream: Stream) -> Ends:
-    """Fails each read of the roster's file once."""
+    """Fail each read of the roster's file once."""
     ends, unread = Counter[str](), program.Run(3, b"", b"firm: cannot read roster\n")
     for place, found in failing_runs(runs, stream, "file", fail_with=errno.EIO):
         require(found == unread, f"read {place} of the roster: {found}")
@@ -297,7 +298,7 @@ def fail_files(runs: Runs, stream: Stream) -> Ends:
 
 
 def refuse_memory_anywhere(runs: Runs, seed: int) -> str:
-    """Refuses some requests of a random stream, one or several in a row; how the run ended."""
+    """Refuse some requests of a random stream, one or several in a row; return the run's end in words."""
     draw = random.Random(seed)
     stream = Stream(*random_stream(draw))
     most = runs.run(stream)[1].memory
@@ -339,8 +340,10 @@ def read_options() -> Options:
     program.add_program(parser)
     program.add_under(parser)
     program.add_workers(parser)
-    parser.add_argument("--only", choices=PARTS, help="nothing but this part")
-    parser.add_argument("--random", type=int, default=0, help="instead, as many random streams with refused memory")
+    parser.add_argument("--only", choices=PARTS, help="run only this part")
+    parser.add_argument(
+        "--random", type=int, default=0, help="run this many random streams with refused memory instead"
+    )
     return Options(**vars(parser.parse_args()))
 
 

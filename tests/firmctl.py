@@ -1,11 +1,11 @@
-"""Asks the views of firmd: its books, firmctl, the metrics and the page.
+"""Check the views of firmd: its books, firmctl, the metrics and the page.
 
 usage: tools/run tests/firmctl.py [--quick] [--only WORDS] [--program FILE] [--streams N] [--first SEED]
-The books are compared with the plain service of harness/service.py over random and hostile streams, and the views are
-asked over a stand-in for the daemon that gets its replies from there. Each check has a line; the last line is 'N
-passed, M failed', and the exit status is 1 where one failed. It needs Python 3 and the built program. Metrics and page
-need python3-aiohttp and python3-prometheus-client, the pictures of the page chromium; what is not there is skipped with
-a line that says so.
+The books are compared with the plain service of harness/service.py over random and hostile streams. The views are
+checked over a stand-in for the daemon, which takes its replies from there. Each check prints a line; the last line is
+'N passed, M failed', and the exit status is 1 if one failed. It needs Python 3 and the built program. Metrics and page
+need python3-aiohttp and python3-prometheus-client, the pictures of the page chromium; a check without its package is
+skipped with a line.
 """
 
 from __future__ import annotations
@@ -17,29 +17,28 @@ import os
 import random
 import re
 import select
-import socket
 import subprocess
 import sys
 import tempfile
-from concurrent.futures import ThreadPoolExecutor
+import time
 from functools import partial
 from pathlib import Path
+from typing import Any
 
 import firmd_kit
 from web_pages import web_checks
-from front_kit import DAY, FIRMCTL, LIMIT_SECONDS, ROSTER, Viewer, front, http_ask, missing_of, samples_of, wait_until
+from front_kit import DAY, FIRMCTL, LIMIT_SECONDS, ROSTER, Viewer, api_of, front, missing_of, samples_of
+from front_kit import wait_until
 from harness import program, service
 from harness.checks import Check, Missed, Skipped, Suite, print_skipped, require, run_script, run_suites
-from harness.deployed import MOST_OF_USER, MOST_UNREAD, Book, Books, book_of, gets_reply, roster, text_of
-from harness.ports import free_port
-from harness.program import ROOT
+from harness.deployed import MOST_CLIENTS, MOST_UNREAD, Book, Books, book_of, gets_reply, roster, text_of
 from harness.small_streams import random_bad_roster, random_stream, with_noise
 
-NOT_LATE_SECONDS = 20.0  # before a connection that is closed, and not read, would be ended
+NOT_LATE_SECONDS = 20.0  # before the end of a closed connection with unread replies
 
 
 def rows_of_model(tenant: service.Tenant) -> object:
-    """All that a book must know of a tenant."""
+    """Return a tenant's rows in the plain service, in a book's form."""
     tasks = [(name, task.job, task.machine, task.waited, tuple(task.preferred)) for name, task in tenant.tasks.items()]
     rows = (list(tenant.machines.items()), list(tenant.jobs.items()), tasks)
     return rows, tenant.costs, tenant.given, any(task.machine is None for task in tenant.tasks.values())
@@ -52,7 +51,7 @@ def rows_of_book(book: Book) -> object:
 
 
 def fault_of(text: bytes) -> int | None:
-    """The code of a roster's fault, by the plain service."""
+    """Return the code of a roster's fault, by the plain service."""
     try:
         service.read_roster(text)
     except service.RosterFault as fault:
@@ -103,7 +102,7 @@ def books_beside_the_service(streams: range) -> None:
 
 
 def books_beside_firm(built: str, streams: range) -> None:
-    """The books after a random stream are what firm itself tells of each task and in all."""
+    """The books after a random stream agree with firm's own answers about each task and in all."""
     for seed in streams:
         draw = random.Random(seed)
         text_roster, text = random_stream(draw, 20)
@@ -127,7 +126,7 @@ def books_beside_firm(built: str, streams: range) -> None:
 
 
 def questions_of(book: Book) -> list[tuple[bytes, str]]:
-    """Commands that ask for all that the book has, with the outcomes that it foretells, while the tenant has a life."""
+    """Return queries for the whole book, with the replies that it predicts, while the tenant can still take lines."""
     name = book.limits.tenant
     found = [
         (f"{name} where {task}", f"ok at {row.machine}" if row.machine else f"ok waits {book.waited(row)}")
@@ -141,7 +140,7 @@ def questions_of(book: Book) -> list[tuple[bytes, str]]:
 
 
 def books_of_worn_tenants() -> None:
-    """A worn tenant's rows stay, and its count of commands stands at its life, until it begins anew."""
+    """An exhausted tenant's rows stay, and its count of commands stands at its life, until it is admitted anew."""
     with front(lines=[b"beta job low 2", b"beta task low a"] + [b"beta round"] * 6) as started:
         book = started.books.tenants["beta"]
         require((book.commands, book.rounds, dict(book.refusals)) == (5, 3, {"worn": 3}), book)
@@ -154,28 +153,28 @@ def books_of_worn_tenants() -> None:
 
 
 def books_of_long_waits() -> None:
-    """A wait is counted no further than firm counts it."""
+    """A wait is counted as far as firm counts it."""
     books = Books()
     books.start(b"tenant,nodes,arcs,life,spread,churn\na,9,24,1099511627776,1,2\n")
     books.replied(b"a job j 5", b"a 1 ok", None)
     books.replied(b"a task j x", b"a 2 ok", None)
     book = books.tenants["a"]
-    for number in range(3, roster.LONGEST_PATIENCE + 6):
+    for number in range(3, roster.MAX_PATIENCE + 6):
         books.replied(b"a round", b"a %d ok round cost 5" % number, None)
-        if number > roster.LONGEST_PATIENCE:
-            require(book.waited(book.tasks["x"]) == min(number - 2, roster.LONGEST_PATIENCE), number)
+        if number > roster.MAX_PATIENCE:
+            require(book.waited(book.tasks["x"]) == min(number - 2, roster.MAX_PATIENCE), number)
 
 
 def books_of_a_patient_tenant() -> None:
-    """A wait is counted no further than the patience of an operator's line, which a record and the state of the tenant
-    have; where the line is refused there is no such tenant."""
+    """A wait is counted as far as the patience in the operator's line. A record and the state of the tenant have
+    that patience; if the line is refused there is no such tenant."""
     books = Books()
     books.start(ROSTER)
     record = "gamma,9,24,100,1,2,7,2"
     books.replied(f"+ admit {record}".encode(), b"+ no 22 operator-row", None)
     require("gamma" not in books.tenants and books.refusals["operator-row"] == 1, books.tenants)
     books = Books()
-    books.start(firmd_kit.extended(ROSTER, roster.LONGEST_PATIENCE))
+    books.start(firmd_kit.extended(ROSTER, roster.MAX_PATIENCE))
     books.replied(f"+ admit {record}".encode(), b"+ ok admitted gamma", None)
     book = books.tenants["gamma"]
     require((book.limits.row(), book.limits.patience) == (record, 2), book.limits)
@@ -190,7 +189,7 @@ def books_of_a_patient_tenant() -> None:
 
 
 def books_of_foreign_replies() -> None:
-    """A reply that belongs to no tenant is reported, and not passed over."""
+    """A reply that belongs to no tenant is reported, not ignored."""
     books = Books()
     books.start(ROSTER)
     try:
@@ -202,7 +201,8 @@ def books_of_foreign_replies() -> None:
 
 
 def lines_give_the_same_rows(streams: range) -> None:
-    """The lines of a book, given to a tenant that is admitted by its row, give the same rows; what ran waits again."""
+    """The lines of a book, given to a tenant that is admitted by its row, give the same rows; running tasks wait
+    again."""
     for seed in streams:
         draw = random.Random(seed)
         text_roster, text = random_stream(draw, 5)
@@ -283,7 +283,7 @@ def rosters_are_judged(rosters: range, built: str) -> None:
 
 
 def with_quotes(draw: random.Random, text: bytes) -> bytes:
-    """The text with quotes in some places, some of them in pairs around a field."""
+    """Return the text with quotes in some places, some of them in pairs around a field."""
     for _ in range(draw.randint(0, 3)):
         place = draw.randrange(len(text) + 1)
         fields = re.split(rb"([,\r\n]+)", text)
@@ -305,7 +305,7 @@ def judged_by_firm(built: str, text: bytes, seed: int) -> None:
 
 
 def roster_faults_are_told() -> None:
-    """check-roster names line, field and value of every fault, and asks no service."""
+    """check-roster names line, field and value of every fault, without a service."""
     text = "tenant,nodes,arcs,life,spread,churn\nalpha,9,24,100,1,2000000\n\nbeta,1,24,100,1\nAlpha,9,24,x,1,2\n"
     text += 'alpha,9,24,100,1,2\n"ga\nma",9,24,100,1,2\nx!,9,24,100,1,2\n'
     with tempfile.TemporaryDirectory(prefix="firm-") as folder:
@@ -338,7 +338,7 @@ def roster_faults_are_told() -> None:
 
 
 def firmctl(*words: str, **environment: str) -> program.Run:
-    kept = {name: value for name, value in os.environ.items() if name not in ("FIRM_STATE", "FIRM_EXPLAIN")}
+    kept = {name: value for name, value in os.environ.items() if not name.startswith("FIRM_")}
     done = subprocess.run(
         [sys.executable, FIRMCTL, *words],
         stdin=subprocess.DEVNULL,
@@ -390,34 +390,34 @@ alpha task batch d m1
 
 
 def tables_are_printed() -> None:
-    with front() as started:
-        state = str(started.state)
+    with front() as started, api_of(started.state, "alpha", "beta") as server:
+        at = ("--server", server)
         for words, wanted in [
             (["tasks"], TASKS),
             (["machines"], MACHINES),
             (["jobs", "beta"], JOBS),
             (["lines", "alpha"], LINES),
         ]:
-            done = firmctl(*words, "--state", state)
+            done = firmctl(*words, *at)
             require(done == (0, wanted.encode(), b""), f"{words}: {done.output.decode()}{done.faults.decode()}")
-        done = firmctl("--state", state, "tasks", "beta")
+        done = firmctl(*at, "tasks", "beta")
         require(
             [line.split() for line in done.output.decode().splitlines()]
             == [TASKS.split("\n")[0].split(), TASKS.split("\n")[5].split()],
             done,
         )
-        done = firmctl("status", FIRM_STATE=state)
+        done = firmctl("status", FIRM_SERVER=server)
         require(done.status == 0 and re.fullmatch(STATUS, done.output.decode()), done.output.decode())
         for size, is_told in [(7_500, False), (7_501, True)]:
             started.status.journal_bytes = size
-            said = firmctl("status", "--state", state).output
-            require((b"; no fresh firm goes on yet: see 'Snapshots' in" in said) == is_told, said.decode())
+            said = firmctl("status", *at).output
+            require((b"; firm is not restarted yet: see 'Snapshots' in" in said) == is_told, said.decode())
 
 
 def json_is_printed() -> None:
-    with front() as started:
-        state = str(started.state)
-        tasks = json.loads(firmctl("tasks", "--json", "--state", state).output)["tasks"]
+    with front() as started, api_of(started.state, "alpha", "beta") as server:
+        at = ("--json", "--server", server)
+        tasks = json.loads(firmctl("tasks", *at).output)["tasks"]
         wanted = {
             "tenant": "alpha",
             "task": "d",
@@ -428,140 +428,106 @@ def json_is_printed() -> None:
             "seconds": None,
         }
         require(tasks[3] == {**wanted, "prefers": ["m1"], "line": 9}, tasks[3])
-        machines = json.loads(firmctl("--json", "machines", "alpha", "--state", state).output)["machines"]
+        machines = json.loads(firmctl(*at, "machines", "alpha").output)["machines"]
         require(machines[0] == {"tenant": "alpha", "machine": "m1", "slots": 2, "tasks": ["a", "b"]}, machines)
-        status = json.loads(firmctl("status", "--json", "--state", state).output)
+        status = json.loads(firmctl("status", *at).output)
         require(status["status"]["journal_limit"] == 10_000 and status["tenants"][1]["tenant"] == "beta", status)
-        lines = json.loads(firmctl("lines", "beta", "--json", "--state", state).output)
+        lines = json.loads(firmctl("lines", "beta", *at).output)
         number = lines.pop("number")  # of the tenant's last reply
         require(lines == {"row": "beta,8,30,5,0,3,0", "lines": ["beta job low 2", "beta task low a"]}, lines)
         require(number == 2, f"the last reply of beta is {number}")
         started.say(b"alpha done a", b"alpha round", seconds=0.01)
-        tasks = json.loads(firmctl("tasks", "alpha", "--json", "--state", state).output)["tasks"]
-        require(0 <= tasks[2]["seconds"] < 600 and tasks[2]["machine"] == "m1" and tasks[0]["seconds"] is None, tasks)
+
+        def rows() -> list[dict[str, Any]]:
+            found: list[dict[str, Any]] = json.loads(firmctl("tasks", "alpha", *at).output)["tasks"]
+            return found
+
+        require(wait_until(lambda: rows()[2]["machine"] == "m1"), "the round is not shown")
+        tasks = rows()
+        require(0 <= tasks[2]["seconds"] < 600 and tasks[0]["seconds"] is None, tasks)
 
 
 def exit_statuses() -> None:
+    """Each failure has its status. A user who may not send a tenant's lines sees none of its rows in firm."""
+    known = b"alpha d (job batch, weight 4) waits, rounds so far 1, prefers m1\n"
     with front() as started:
-        state = str(started.state)
-        cases: list[tuple[list[str], int, bytes]] = [
-            (["tasks", "gamma", "--state", state], 1, b"no tenant 'gamma' is there"),
-            (["lines", "gamma", "--state", state], 1, b"no tenant 'gamma' is there"),
-            (["watch", "gamma", "--state", state], 1, b"no tenant 'gamma' is there"),
-            (["why", "z", "--state", state], 1, b"no task 'z' is there"),
-            (["why", "a", "gamma", "--state", state], 1, b"no tenant 'gamma' is there"),
-            (["why", "a", "--state", state], 2, b"alpha, beta have a task 'a'"),
-            (["tasks"], 2, b"name the state folder"),
-            ([], 2, b"usage"),
-            (["fly", "--state", state], 2, b"usage"),
-            (["lines", "--state", state], 2, b"usage"),
-            (["tasks", "--state", "/nonexistent"], 3, b"no firmd answers at /nonexistent/view"),
-            (["why", "d", "--state", state], 4, b"firm_explain can't be run: /nonexistent/firm_explain"),
-        ]
-        for words, status, told in cases:
-            done = firmctl(*words, FIRM_EXPLAIN="/nonexistent/firm_explain")
-            require(done.status == status and told in done.faults, f"{words}: {done}")
-        done = firmctl("why", "d", "--state", state, FIRM_EXPLAIN="/nonexistent")
-        known = b"alpha d (job batch, weight 4) waits, rounds so far 1, prefers m1\n"
-        require(done.output == known, done)
-    done = firmctl("tasks", "--state", state)
-    require(done.status == 3, done)
-
-
-def a_view_that_leaves() -> None:
-    """A firmd that takes no further request is told with status 3, and no signal ends firmctl without a word."""
-    with tempfile.TemporaryDirectory(prefix="firm-") as folder, socket.socket(socket.AF_UNIX) as listening:
-        listening.bind(f"{folder}/view")
-        listening.listen()
-
-        def answer_once() -> None:
-            connection, _ = listening.accept()
-            with connection:
-                connection.recv(1_000)
-                connection.shutdown(socket.SHUT_RD)
-                connection.sendall(b'{"tenants": [{"tenant": "alpha"}]}\n')
-
-        with ThreadPoolExecutor(1) as pool:
-            pool.submit(answer_once)
-            done = firmctl("state", "--state", folder)
-        require(done.status == 3 and b"does not answer: Broken pipe" in done.faults, done)
+        with api_of(started.state, "alpha", "beta", FIRM_EXPLAIN="/nonexistent/firm_explain") as server:
+            at = ["--server", server]
+            cases: list[tuple[list[str], int, bytes]] = [
+                (["tasks", "gamma", *at], 1, b"no tenant 'gamma' is there"),
+                (["lines", "gamma", *at], 1, b"no tenant 'gamma' is there"),
+                (["watch", "gamma", *at], 1, b"no tenant 'gamma' is there"),
+                (["watch", *at], 2, b"name a tenant: alpha, beta"),
+                (["why", "z", *at], 1, b"no task 'z' is there"),
+                (["why", "a", "gamma", *at], 1, b"no tenant 'gamma' is there"),
+                (["why", "a", *at], 2, b"alpha, beta have a task 'a'"),
+                (["ps", *at], 2, b"name a tenant, by --tenant or FIRM_TENANT: none has a queue"),
+                (["ps", "--tenant", "alpha/../beta", *at], 1, b"no tenant has this name"),
+                (["tasks", "--server", "/nonexistent"], 2, b"'/nonexistent' is not unix:PATH or https://HOST:PORT"),
+                ([], 2, b"usage"),
+                (["fly", *at], 2, b"usage"),
+                (["lines", *at], 2, b"usage"),
+                (["tasks", "--server", "unix:/nonexistent"], 3, b"no firm-api answers at unix:/nonexistent: No such"),
+                (["why", "d", *at], 4, b"firm_explain can't be run: /nonexistent/firm_explain"),
+            ]
+            for words, status, told in cases:
+                done = firmctl(*words)
+                require(done.status == status and told in done.faults, f"{words}: {done}")
+            require(firmctl("why", "d", *at).output == known, "what is known all the same")
+        done = firmctl("tasks", *at)
+        require(done.status == 3, done)
 
 
 def firmctl_over_firmd(built: str) -> None:
-    """What it prints of a running firmd, and of one that was killed and started again."""
+    """The output of firmctl on a running firmd, and on one that was killed and started again."""
     with firmd_kit.Setup(built, True, 1).daemon(roster=ROSTER) as daemon:
         daemon.start()
         with firmd_kit.Client(daemon.operator) as client:
             replies = [client.ask(line) for line in DAY]
         require(replies[7] == b"alpha 8 ok round cost 1 start a m1 start b m1 start c m2", replies)
-
-        def times() -> list[str]:
-            tasks = firmctl("tasks", "--state", str(daemon.state))
-            return re.findall(r"  (\d+:\d\d)  ", tasks.output.decode())
-
-        require(wait_until(lambda: len(times()) == 5), "five tasks are shown")
-        daemon.kill()
-        # Its viewer ends a moment later.
-        is_dead = wait_until(lambda: firmctl("tasks", "--state", str(daemon.state)).status == 3)
-        require(is_dead, "the socket of a dead firmd")
-        daemon.start()
-        for words, wanted in [(["tasks"], TASKS), (["machines"], MACHINES), (["lines", "alpha"], LINES)]:
-            done = firmctl(*words, "--state", str(daemon.state))
-            require(done == (0, wanted.encode(), b""), f"{words}: {done.output.decode()}{done.faults.decode()}")
-        require(
-            b"lines 14, 14 of them replayed at the start" in firmctl("status", "--state", str(daemon.state)).output,
-            "status",
-        )
+        with api_of(daemon.state, "alpha", "beta") as server:
+            at = ("--server", server)
+            times = re.findall(r"  (\d+:\d\d)  ", firmctl("tasks", *at).output.decode())
+            require(len(times) == 5, f"five tasks have times: {times}")
+            daemon.kill()
+            require(wait_until(lambda: firmctl("tasks", *at).status == 3), "no report that firmd is away")
+            daemon.start()
+            require(wait_until(lambda: firmctl("tasks", *at).status == 0), "it is there again")
+            for words, wanted in [(["tasks"], TASKS), (["machines"], MACHINES), (["lines", "alpha"], LINES)]:
+                done = firmctl(*words, *at)
+                require(done == (0, wanted.encode(), b""), f"{words}: {done.output.decode()}{done.faults.decode()}")
+            told = firmctl("status", *at).output
+            require(b"lines 14, 14 of them replayed at the start" in told, told)
         with Viewer(daemon.state) as watcher:
-            require(len(watcher.ask({"ask": "watch"})["tenants"]) == 2, "watch")
+            require(watcher.ask({"ask": "watch", "tenant": "alpha"})["book"] is not None, "watch")
             daemon.stop()
             require(watcher.next() is None, "a watcher is closed at a stop")
 
 
-def http_over_firmd(built: str) -> None:
-    """firmd serves metrics and the page itself; a faulty or taken address, or packages that are missing, stop it."""
-    setup = firmd_kit.Setup(built, True, 1)
-    missing = missing_of(["aiohttp", "prometheus_client"])
-    with setup.daemon("--http", "0", roster=ROSTER) as daemon:
-        daemon.words = [sys.executable, "-S", str(ROOT / "service" / "firmd")]  # without the packages of the system
-        daemon.refuses(2, "--http needs a package that is not there", "apt-get install python3-aiohttp")
-    if missing:
+def metrics_over_firmd(built: str) -> None:
+    """firmd's view has its metrics."""
+    if missing := missing_of(["prometheus_client"]):
         raise Skipped(f"{sys.executable} has no {' and no '.join(missing)}")
-    for address in ("host", "127.0.0.1:65536"):
-        with setup.daemon("--http", address, roster=ROSTER) as daemon:
-            daemon.refuses(2, "--http:", address)
-    port = free_port()
-    with socket.create_server(("127.0.0.1", port)):
-        with setup.daemon("--http", f"127.0.0.1:{port}", roster=ROSTER) as daemon:
-            daemon.refuses(7, f"cannot serve 127.0.0.1:{port}")
-    with setup.daemon("--http", f"127.0.0.1:{port}", roster=ROSTER) as daemon:
+    with firmd_kit.Setup(built, True, 1).daemon(roster=ROSTER) as daemon:
         daemon.start()
         with firmd_kit.Client(daemon.operator) as client:
             for line in DAY:
                 client.ask(line)
-        require(wait_until(lambda: samples_of(port)["firm_lines_total", ""] == 14), "all lines are counted")
-        samples = samples_of(port)
+        require(wait_until(lambda: samples_of(daemon.state)["firm_lines_total", ""] == 14), "all lines are counted")
+        samples = samples_of(daemon.state)
         wanted = {("firm_lines_total", ""): 14, ("firm_rounds_total", "tenant=alpha"): 2}
         wrong = {key: samples.get(key) for key, value in wanted.items() if samples.get(key) != value}
         require(not wrong and samples["firm_round_seconds_count", ""] == 2, wrong)
         require(samples["firm_process_resident_memory_bytes", ""] > 0, "the process of firm")
-        require(http_ask(port, "/")[2] == (ROOT / "service/firm_service/page.html").read_bytes(), "the page")
-        book = json.loads(http_ask(port, "/tenants/alpha.json")[2])
-        require((book["running"], book["waiting"], book["costs"]) == (3, 1, [1, 5]), book)
 
 
 def watchers_follow() -> None:
-    """A watch tells the rows as they are and then each line of its tenant, in order, past its retirement."""
-    with front() as started, Viewer(started.state) as alpha, Viewer(started.state) as everyone, Viewer(
-        started.state
-    ) as gamma:
+    """A watch gives the rows as they are, and then each line of its tenant, in order, past its retirement."""
+    with front() as started, Viewer(started.state) as alpha, Viewer(started.state) as gamma:
         first = alpha.ask({"ask": "watch", "tenant": "alpha"})["book"]
         require([task["task"] for task in first["tasks"]] == ["a", "b", "c", "d"] and first["costs"][-1] == 5, first)
-        require(
-            [book["tenant"] for book in everyone.ask({"ask": "watch", "tenant": None})["tenants"]] == ["alpha", "beta"],
-            "all",
-        )
-        require(gamma.ask({"ask": "watch", "tenant": "gamma"}) == {"state": "stand-in", "book": None}, "gamma")
+        none = {"state": "stand-in", "line": started.books.lines, "book": None}
+        require(gamma.ask({"ask": "watch", "tenant": "gamma"}) == none, "gamma")
         lines = [
             b"alpha done a",
             b"beta show",
@@ -578,22 +544,19 @@ def watchers_follow() -> None:
             b"alpha show",
             b"x" * 300,
         ]
-        replies = [reply.decode() for reply in started.say(*lines, seconds=0.001)]
-        with_reply = [line.decode("utf-8", "backslashreplace") for line in lines if not line.startswith(b"#")]
-        events = [(event["line"], event["reply"]) for event in (everyone.next() for _ in with_reply)]
-        require(events == list(zip(with_reply, replies)), events)
+        started.say(*lines, seconds=0.001)
         told = [alpha.next() for _ in range(5)]
         wanted = ["alpha done a", "alpha \x1b[2J\\xff", "+ retire alpha", "+ admit alpha,9,24,100,1,2", "alpha show"]
         require([event["line"] for event in told] == wanted, told)
         require([event["number"] for event in told] == [16, 18, 20, 23, 25], told)
         require([gamma.next()["line"] for _ in range(2)] == ["+ admit gamma,9,24,100,1,2", "gamma job j 1"], "gamma")
-        require(len(started.shown.watchers) == 3, started.shown.watchers)
+        require(len(started.shown.watchers) == 2, started.shown.watchers)
         gamma.__exit__()
-        require(wait_until(lambda: len(started.shown.watchers) == 2), "a watcher stays behind")
+        require(wait_until(lambda: len(started.shown.watchers) == 1), "a watcher stays behind")
 
 
 def closed_watchers_leave_nothing() -> None:
-    """What would end a watcher that is closed, and does not read, goes with its connection."""
+    """The timer that would end a closed watcher, which does not read, is removed with its connection."""
     with front() as started:
 
         def timers() -> int:
@@ -605,52 +568,35 @@ def closed_watchers_leave_nothing() -> None:
         before = timers()
         for _ in range(20):
             with Viewer(started.state) as viewer:
-                viewer.ask({"ask": "watch"})
+                viewer.ask({"ask": "watch", "tenant": "alpha"})
                 started.run(lose())
                 require(viewer.next()["error"] == "behind" and viewer.next() is None, "it is closed")
         require(wait_until(lambda: timers() == before, NOT_LATE_SECONDS), f"{timers()} timers instead of {before}")
 
 
-def lost_in_an_answer() -> None:
-    """Who watches, and is lost in the midst of an answer, is told so behind it."""
-    with front() as started, Viewer(started.state) as viewer:
-        viewer.ask({"ask": "watch"})
-        started.run(started.shown.turn.acquire())
-        viewer.send(b'{"ask": "tasks"}\n')
-        require(viewer.socket.recv(100, socket.MSG_PEEK).startswith(b'{"tasks":['), "an answer has begun")
-
-        async def lose() -> None:
-            started.shown.replace(started.books, "stand-in")
-            started.shown.turn.release()
-
-        started.run(lose())
-        tasks = [row["task"] for row in viewer.next()["tasks"]]
-        require(tasks == ["a", "b", "c", "d", "a"], tasks)
-        require(viewer.next()["error"] == "behind" and viewer.next() is None, "it is closed")
-
-
 def watch_prints() -> None:
     """firmctl watch prints each line with its reply at once, and nothing in it can steer a terminal."""
     with front() as started:
-        words = [sys.executable, str(FIRMCTL), "watch", "alpha", "--state", str(started.state)]
-        watching = subprocess.Popen(words, stdout=subprocess.PIPE, stderr=subprocess.PIPE)
-        try:
-            require(wait_until(lambda: bool(started.shown.watchers)), "no watcher")
-            started.say(b"alpha \x1b[2J", seconds=0.001)
-            printed = program.opened(watching.stdout)
-            require(select.select([printed], [], [], LIMIT_SECONDS)[0], "nothing is printed")
-            line = printed.readline().decode()
-            require(re.fullmatch(r"\d\d:\d\d:\d\d  alpha \\x1b\[2J  ->  alpha 12 no 2 bad-command\n", line), line)
-            started.stop()
-            _, told = watching.communicate(timeout=LIMIT_SECONDS)
-            require(watching.returncode == 3 and b"has closed the connection" in told, told)
-        finally:
-            watching.kill()
-            watching.communicate()
+        with api_of(started.state, "alpha", "beta") as server:
+            words = [sys.executable, str(FIRMCTL), "watch", "alpha", "--server", server]
+            watching = subprocess.Popen(words, stdout=subprocess.PIPE, stderr=subprocess.PIPE)
+            try:
+                printed, line = program.opened(watching.stdout), ""
+                ends = time.monotonic() + LIMIT_SECONDS
+                while not line and time.monotonic() < ends:  # its watch begins some time after its start
+                    started.say(b"alpha \x1b[2J", seconds=0.001)
+                    line = printed.readline().decode() if select.select([printed], [], [], 0.2)[0] else ""
+                form = r"\d\d:\d\d:\d\d  alpha \\x1b\[2J  ->  alpha \d+ no 2 bad-command\n"
+                require(re.fullmatch(form, line) is not None, line)
+            except BaseException:
+                watching.kill()
+                raise
+        _, told = watching.communicate(timeout=LIMIT_SECONDS)
+        require(watching.returncode == 3 and b"has closed the connection" in told, told)
 
 
 def views_refuse() -> None:
-    """What is no request is refused by name, and the connection goes on."""
+    """An invalid request is refused by name, and the connection goes on."""
     with front() as started, Viewer(started.state) as viewer:
         for text in (
             b"no json",
@@ -658,6 +604,8 @@ def views_refuse() -> None:
             b'"status"',
             b'{"ask": 3}',
             b'{"ask": "fly"}',
+            b'{"ask": "watch", "tenant": ["beta"]}',
+            b'{"ask": "watch"}',
             b"{}",
             b"[" * 5000,
             b"\xff\xfe",
@@ -666,19 +614,13 @@ def views_refuse() -> None:
             viewer.send(text + b"\n")
             answer = viewer.next()
             require(answer["error"] == "bad-request", f"{text[:20]!r}: {answer}")
-        for request in (
-            {"ask": "tasks", "tenant": "gamma"},
-            {"ask": "book", "tenant": 3},
-            {"ask": "lines"},
-            {"ask": "jobs", "tenant": [1]},
-        ):
-            require(viewer.ask(request)["error"] == "no-such-tenant", request)
-        require(viewer.ask({"ask": "book", "tenant": "beta"})["book"]["limits"]["life"] == 5, "the connection goes on")
+        shown = viewer.ask({"ask": "watch", "tenant": "beta"})["book"]
+        require(shown["limits"]["life"] == 5, "the connection goes on")
         with contextlib.suppress(ConnectionError):  # it may be closed before all is sent
             viewer.send(b"x" * 100_000)
         require(viewer.next() is None, "an endless line is held")
     with front() as started, contextlib.ExitStack() as stack:
-        viewers = [stack.enter_context(Viewer(started.state)) for _ in range(MOST_OF_USER)]
+        viewers = [stack.enter_context(Viewer(started.state)) for _ in range(MOST_CLIENTS)]
         require(all("status" in viewer.ask({"ask": "status"}) for viewer in viewers), "a view is refused")
         with Viewer(started.state) as last:
             require(last.next()["error"] == "too-many-clients", "one view more is taken")
@@ -693,9 +635,9 @@ def is_answered(state: Path) -> bool:
 
 
 def slow_watchers_are_closed() -> None:
-    """A watcher that does not read is dropped, and holds nobody up."""
+    """A watcher that does not read is dropped, and delays nobody."""
     with front() as started, Viewer(started.state) as slow, Viewer(started.state) as other:
-        slow.ask({"ask": "watch", "tenant": None})
+        slow.ask({"ask": "watch", "tenant": "alpha"})
         require(wait_until(lambda: len(started.shown.watchers) == 1), "it does not watch")
         line = b"alpha " + b"x" * 240
         count = 0
@@ -708,7 +650,7 @@ def slow_watchers_are_closed() -> None:
 
 
 def checks(built: str, streams: range) -> dict[str, Check]:
-    """The checks that need the built program alone."""
+    """Return the checks that need only the built program."""
     fewer = streams[: len(streams) // 4]
     return {
         f"books beside the plain service, {len(streams)} streams": partial(books_beside_the_service, streams),
@@ -721,15 +663,13 @@ def checks(built: str, streams: range) -> dict[str, Check]:
         "firmctl, tables": tables_are_printed,
         "firmctl, JSON": json_is_printed,
         "firmctl, exit statuses": exit_statuses,
-        "firmctl, a view that leaves": a_view_that_leaves,
         "firmctl, watch": watch_prints,
         "view, watchers": watchers_follow,
         "view, closed watchers": closed_watchers_leave_nothing,
-        "view, lost watchers": lost_in_an_answer,
         "view, refusals and limits": views_refuse,
         "view, slow watchers": slow_watchers_are_closed,
         "firmctl over firmd": partial(firmctl_over_firmd, built),
-        "firmd with HTTP": partial(http_over_firmd, built),
+        "metrics of firmd": partial(metrics_over_firmd, built),
         f"books beside firm, {len(fewer)} streams": partial(books_beside_firm, built, fewer),
     }
 
@@ -738,12 +678,12 @@ def main() -> int:
     parser = argparse.ArgumentParser(description=(__doc__ or "").splitlines()[0])
     program.add_program(parser)
     parser.add_argument("--quick", action="store_true", help="the part that tests/quick runs")
-    parser.add_argument("--only", default="", help="the checks whose names have these words")
+    parser.add_argument("--only", default="", help="run only the checks whose names have these words")
     parser.add_argument("--streams", type=int, default=3000)
-    parser.add_argument("--first", type=int, default=1, help="the first seed")
+    parser.add_argument("--first", type=int, default=1, help="first seed of the streams")
     options = parser.parse_args()
     count = min(options.streams, 100) if options.quick else options.streams
-    found = checks(options.program, range(options.first, options.first + count)) | web_checks(options.quick)
+    found = checks(options.program, range(options.first, options.first + count)) | web_checks()
     if options.quick:
         print_skipped("books of the longest waits", "--quick leaves out a million rounds")
     else:

@@ -1,9 +1,9 @@
-"""Asks firmd as many clients do, kills it, fills its disk, takes its firm away, and looks whether anything is lost.
+"""Check firmd with many clients, kill it, fill its disk, end its firm, and look for lost lines.
 
 usage: tools/run tests/firmd.py [--quick] [--program FILE] [--only WORDS] [--seed N]
-Each check has a line; the last line is 'N passed, M failed', and the exit status is 1 where one failed. --quick needs
+Each check prints a line; the last line is 'N passed, M failed', and the exit status is 1 if one failed. --quick needs
 Python 3 and the built program alone; the rest needs a C compiler for refuse.c, and root for a small file system to fill
-and one to write-protect. What can't be asked here is said and skipped.
+and one to write-protect. A check that can't run here is skipped with a line.
 """
 
 from __future__ import annotations
@@ -69,12 +69,12 @@ from harness.small_streams import random_stream
 from hostile import MEANWHILE_SECONDS, patch, status_of
 
 
-STOPPING = b"? stopping: no further lines are taken\n"
-HELD_SECONDS = 5.0  # below which nobody was held up; one that is waits for as long as the other does not read
-# A firmd that gives its clients more time to read what they were answered, at its end: they may be slow on a busy host.
+STOPPING = b"? stopping: no longer accepting lines\n"
+HELD_SECONDS = 5.0  # nobody was held up below this; a client that is held up waits as long as the other does not read
+# A firmd that gives its clients more time, at its end, to read their replies: they may be slow on a busy host.
 PATIENT = """\
 import sys
-from firm_service import clients, daemon
+from firm.server import clients, daemon
 clients.STOP_SECONDS = 60.0
 sys.exit(daemon.main())
 """
@@ -101,8 +101,8 @@ def many_clients(setup: Setup) -> None:
         daemon.stop()
         daemon.start().stop()
         replies = [answered.reply for tenant in tenants for answered in tenant.answered]
-        told = sorted(reply for reply in replies if not reply.startswith(b"!"))  # which is kept nowhere
-        require(sorted(setup.alone(roster_of(tenants), daemon.journal())) == told, "the journal gives what was told")
+        told = sorted(reply for reply in replies if not reply.startswith(b"!"))  # those stand in no journal
+        require(sorted(setup.alone(roster_of(tenants), daemon.journal())) == told, "the journal gives other replies")
 
 
 def kills(setup: Setup, part: int) -> None:
@@ -112,9 +112,11 @@ def kills(setup: Setup, part: int) -> None:
     tenants = [Tenant(f"t{place}", seed + place) for place in range(4)]
     with setup.daemon("--segment-bytes", "30000", "--after", "1", roster=roster_of(tenants)) as daemon:
         kills_left = (12 if setup.is_quick else 200) // CHECKS_AT_A_TIME
-        # A slow host may answer few lines before each, and none shows nothing.
+        # A slow host may answer few lines before each kill, and a kill before any answer shows nothing: so each further
+        # kill is later.
         while kills_left > 0 or sum(len(tenant.answered) for tenant in tenants) < 200:
             kills_left -= 1
+            latest = 0.15 * 2 ** max(0, -kills_left)
             if draw.random() < 0.2:  # at any moment of its start
                 daemon.spawn()
                 time.sleep(draw.uniform(0.05, 0.5))
@@ -125,7 +127,7 @@ def kills(setup: Setup, part: int) -> None:
                 for tenant in tenants
                 for _ in range(2)
             ]
-            killer = threading.Timer(draw.uniform(0.0, 0.15), daemon.kill)
+            killer = threading.Timer(draw.uniform(0.0, latest), daemon.kill)
             killer.start()
             raised = in_threads(works)
             killer.join()
@@ -142,7 +144,7 @@ def kills(setup: Setup, part: int) -> None:
 
 
 def torn_line(setup: Setup) -> None:
-    """A last record that is not whole is cut off, wherever it was torn; what was answered stays."""
+    """A last record that is incomplete is cut off, wherever it was torn; answered lines stay."""
     with setup.daemon() as daemon:
         daemon.start()
         with daemon.client() as client:
@@ -163,7 +165,7 @@ def torn_line(setup: Setup) -> None:
 
 
 def other_firm(setup: Setup) -> None:
-    """A firm that answers otherwise than was kept stops the start, unless the replies are to be forgotten."""
+    """A firm whose replies differ from the recorded digests stops the start, unless the operator discards these."""
     with setup.daemon("--segment-bytes", "2000") as daemon:
         daemon.start()
         with daemon.client() as client:
@@ -172,7 +174,7 @@ def other_firm(setup: Setup) -> None:
         daemon.stop()
         other = stand_in(daemon.folder, f'#!/bin/sh\n"{setup.program}" "$@" | sed -u "s/round cost 0/round cost 1/"\n')
         right, daemon.firm = daemon.firm, other
-        daemon.refuses(5, "other replies than were kept")
+        daemon.refuses(5, "differ from the stored ones")
         daemon.firm = right
         daemon.start().stop()
         forget = [*JOURNAL_TOOL, "rewrite", "--forget-replies", str(daemon.state)]
@@ -186,7 +188,7 @@ def other_firm(setup: Setup) -> None:
 
 
 def books_at_once(setup: Setup) -> None:
-    """Books that take in many lines by one call are those that take in one line after another."""
+    """Books that take in many lines by one call equal books that take in one line after another."""
     for seed in range(setup.seed, setup.seed + (40 if setup.is_quick else 400)):
         draw = random.Random(seed)
         roster, text = random_stream(draw, 5)
@@ -207,7 +209,7 @@ def books_at_once(setup: Setup) -> None:
 
 
 def dying_firm(setup: Setup) -> None:
-    """A firm that dies, can't be started, or says what nobody asked for: a clear error, and nothing is lost."""
+    """A firm that dies, can't be started, or writes an unrequested reply: a clear error, and nothing is lost."""
     with setup.daemon() as daemon:
         daemon.start()
         with daemon.client() as client:
@@ -223,10 +225,10 @@ def dying_firm(setup: Setup) -> None:
         daemon.refuses(6, "firm ended with status 6, and said: firm: memory")
         surprise = f"echo surprise\nexec '{setup.program}' \"$@\"\n"
         daemon.firm = stand_in(daemon.folder, f"#!/bin/sh\nread -r line\n{surprise}")  # in the place of its first reply
-        daemon.refuses(1, "can't take in b'surprise'")
+        daemon.refuses(1, "can't apply b'surprise'")
         daemon.firm = stand_in(daemon.folder, f"#!/bin/sh\n{surprise}")
         kept = daemon.state.rename(daemon.folder / "kept")
-        daemon.refuses(6, "a reply that nobody asked for: surprise")
+        daemon.refuses(6, "unexpected reply from firm: surprise")
         shutil.rmtree(daemon.state)
         kept.rename(daemon.state)
         daemon.firm = right
@@ -237,7 +239,7 @@ def dying_firm(setup: Setup) -> None:
 
 
 def unanswered_lines(setup: Setup) -> None:
-    """A line that stands in the journal gets its own reply or none: firmd never says that it was not taken."""
+    """A line in the journal gets its own reply or none: firmd never reports it as refused."""
     with setup.daemon() as daemon, ExitStack() as held:
         daemon.start()
         clients = [held.enter_context(daemon.client()) for _ in range(30)]
@@ -256,12 +258,13 @@ def unanswered_lines(setup: Setup) -> None:
 
 
 def who_may_speak(setup: Setup) -> None:
-    """Lines of the operator, and of another tenant, are refused where they may not be said."""
+    """Lines of the operator, and of another tenant, are refused on sockets that may not send them."""
     with setup.daemon() as daemon:
         daemon.options += ["--client", f"beta={daemon.folder / 'beta'}", "--socket-mode", "660"]
         daemon.start()
-        for path in (daemon.any, daemon.operator, daemon.folder / "beta", daemon.state / "view"):
+        for path in (daemon.any, daemon.operator, daemon.folder / "beta"):
             require(stat.S_IMODE(path.stat().st_mode) == 0o660, f"the mode of {path.name}")
+        require(stat.S_IMODE((daemon.state / "view").stat().st_mode) == 0o600, "the view is its user's alone")
         refused = [b"+ admit gamma,9,24,100,1,2", b"+", b"\t+ retire beta\r"]
         with daemon.client() as client, Client(daemon.folder / "beta") as bound, Client(daemon.operator) as operator:
             for line in refused:
@@ -302,7 +305,7 @@ def slow_client(setup: Setup) -> None:
         daemon.start()
         with daemon.client() as slow, daemon.client() as other:
             slow.socket.settimeout(1)
-            with suppress(Gone, TimeoutError):  # it is closed meanwhile, and read no further
+            with suppress(Gone, TimeoutError):  # firmd closes it meanwhile and reads no further
                 slow.send(b"alpha show\n" * 20_000)
             slow.socket.settimeout(REPLY_SECONDS)
             seconds = []
@@ -311,7 +314,7 @@ def slow_client(setup: Setup) -> None:
                 require(other.ask(b"beta show").startswith(b"beta %d ok " % (number + 1)), "another's reply")
                 seconds.append(time.monotonic() - began)
             require(sorted(seconds)[90] < HELD_SECONDS, f"another's replies took {sorted(seconds)[90]:.2f} s")
-            wait_for(lambda: b"left more than 100000 bytes of replies unread" in daemon.said(), "it is closed")
+            wait_for(lambda: b"more than 100000 bytes of unread replies" in daemon.said(), "it is closed")
             *replies, last = slow.rest().splitlines()
             require(last.startswith(b"? unread-replies: more than 100000 bytes"), last)
             require(
@@ -322,7 +325,7 @@ def slow_client(setup: Setup) -> None:
 
 
 def backpressure(setup: Setup) -> None:
-    """A client that sends and doesn't read is not read any further, in bounded memory; then it gets every reply."""
+    """firmd stops reading a client that sends and doesn't read, in bounded memory; later it gets every reply."""
     with setup.daemon() as daemon:
         daemon.start()
         before = memory_kilobytes(daemon.running().pid)
@@ -356,7 +359,7 @@ def dead_clients(setup: Setup) -> None:
                 client.socket.close()
             wait_for(lambda: daemon.journal().count(b"show\n") == 50, "their lines are taken")
             reply = other.ask(b"alpha show")
-            # Each machine takes one of the tenant's 30 nodes, two of which are there without any.
+            # Each machine takes one of the tenant's 30 nodes, two of which exist without any.
             require(reply.startswith(b"alpha 101 ok machines 28 jobs 0 tasks 0 running 0 nodes 30 of 30 "), reply)
             require(reply == setup.alone(ROSTER, daemon.journal())[-1], "the reply is its own line's")
             require(b"drain" not in daemon.journal(), "half a line was taken")
@@ -384,7 +387,7 @@ def endless_line(setup: Setup) -> None:
 
 
 def limits(setup: Setup) -> None:
-    """Too many clients, and a journal that firm can't read any further, are told; one half as long is warned of."""
+    """Too many clients, and a journal beyond firm's limit, are reported; half of that limit gives a warning."""
     with setup.daemon("--most-clients", "3", "--journal-limit", "1000", "--snapshot-lines", "0") as daemon:
         daemon.start()
         clients = [daemon.client() for _ in range(3)]
@@ -406,7 +409,7 @@ def limits(setup: Setup) -> None:
 
 
 def one_daemon(setup: Setup) -> None:
-    """One daemon has the state; another roster is refused; sockets are replaced only where nobody serves them."""
+    """One daemon owns the state; another roster is refused; sockets are replaced only if nobody serves them."""
     with setup.daemon() as daemon:
         (daemon.folder / "roster.csv").write_bytes(HEADING + b"alpha,1,24,100,1,2\n")
         daemon.refuses(3, "roster fault 4 number", "firmctl check-roster")
@@ -443,7 +446,7 @@ def one_daemon(setup: Setup) -> None:
 
 
 def stops(setup: Setup) -> None:
-    """SIGTERM and SIGINT: what was taken is answered, then each client is told, and the status is 0."""
+    """SIGTERM and SIGINT: accepted lines are answered, then each client is notified, and the status is 0."""
     for number in (signal.SIGTERM, signal.SIGINT):
         with setup.daemon() as daemon:
             daemon.words = [sys.executable, "-c", PATIENT]
@@ -463,7 +466,7 @@ def stops(setup: Setup) -> None:
 
 
 def notifications(setup: Setup) -> None:
-    """The manager of services hears when the service is ready, and when it stops."""
+    """firmd notifies the manager of services when it is ready, and when it stops."""
     with setup.daemon() as daemon, socket.socket(socket.AF_UNIX, socket.SOCK_DGRAM) as manager:
         path = daemon.folder / "manager"
         manager.bind(str(path))
@@ -476,7 +479,7 @@ def notifications(setup: Setup) -> None:
 
 
 def own_rounds(setup: Setup) -> None:
-    """Rounds by themselves place what waits, soon after a change or every so often, and nobody gets their replies."""
+    """Automatic rounds place waiting tasks soon after a change or at intervals, and nobody gets their replies."""
     for options in (["--after", "5"], ["--every", "0.05"]):
         with setup.daemon(*options) as daemon:
             daemon.start()
@@ -516,14 +519,14 @@ done | '{program}' "$@"
 
 
 def shortest_times(setup: Setup) -> None:
-    """A time between rounds of which firmd could do nothing but look again and again is refused."""
+    """A time between rounds that would leave firmd time for nothing else is refused."""
     for options in (["--after", "0"], ["--after", "0.9"], ["--every", "0.0009"]):
         with setup.daemon(*options) as daemon:
-            daemon.refuses(2, f"{options[0]}: a millisecond", "is the shortest time")
+            daemon.refuses(2, f"{options[0]}: '{options[1]}' is not a number from ")
 
 
 def rounds_of_another(setup: Setup) -> None:
-    """A tenant that is retired while its round is asked for, and admitted anew, has its rounds as before."""
+    """A tenant that is retired while its round is pending, and admitted anew, has its rounds as before."""
     with setup.daemon("--after", "2000") as daemon:
         go = daemon.folder / "go"
         daemon.firm = stand_in(daemon.folder, SLOW.format(program=setup.program, go=go))
@@ -531,7 +534,7 @@ def rounds_of_another(setup: Setup) -> None:
         with daemon.client() as client, Client(daemon.operator) as operator:
             # All at once, so that the retirement is taken before the round is due, however slow the host is.
             operator.send(b"".join(line + b"\n" for line in [*ROWS[:3], b"beta slow", b"+ retire alpha"]))
-            wait_for(lambda: b"+ retire alpha\nalpha round\n" in daemon.journal(), "a round is asked for meanwhile")
+            wait_for(lambda: b"+ retire alpha\nalpha round\n" in daemon.journal(), "a round is requested meanwhile")
             go.touch()
             require([operator.reply() for _ in range(5)][4] == b"+ ok retired alpha", "the operator")
             require(operator.ask(b"+ admit alpha,30,300,1000,1,2") == b"+ ok admitted alpha", "the operator")
@@ -539,7 +542,7 @@ def rounds_of_another(setup: Setup) -> None:
                 require(client.ask(line).endswith(b" ok"), line)
             wait_for(lambda: client.ask(b"alpha where a").endswith(b" ok at m1"), "the task runs")
         daemon.stop()
-        require(b"+ retire alpha\nalpha round\n+ admit" in daemon.journal(), "it was asked for before that")
+        require(b"+ retire alpha\nalpha round\n+ admit" in daemon.journal(), "no earlier round")
 
 
 MEMORY_LINES = [
@@ -553,9 +556,9 @@ MEMORY_LINES = [
 
 
 def refused_memory(setup: Setup) -> None:
-    """What memory was refused to stays refused in a replay, though memory is there."""
+    """A line that was refused for want of memory stays refused in a replay, though memory is there."""
     text = b"".join(line + b"\n" for line in MEMORY_LINES)
-    places: dict[bytes, int] = {}  # which request for memory to refuse, by the reply that this gives
+    places: dict[bytes, int] = {}  # the requests for memory to refuse, by the reply that each gives
     with tempfile.TemporaryDirectory(prefix="firmd-") as name, program.Roster(ROSTER) as roster_path:
         library = program.build_refusing(name)
         for place in range(1, 400):
@@ -567,9 +570,9 @@ def refused_memory(setup: Setup) -> None:
 
 
 def refuse_and_replay(setup: Setup, library: str, place: int) -> set[bytes]:
-    """Lets firm be refused a request for memory, and then replays with all its memory; the lines that were refused."""
+    """Refuse firm a request for memory, then replay with all its memory; return the refused lines."""
     with setup.daemon() as daemon:
-        # The roster is tried by a firm that has its memory.
+        # The roster is tried by a firm with all its memory.
         condition = f"[ -e '{daemon.state / 'roster.csv'}' ] && export LD_PRELOAD='{library}' REFUSE_MEMORY={place}"
         daemon.firm = stand_in(daemon.folder, f"#!/bin/sh\n{condition}\nexec '{setup.program}' \"$@\"\n")
         daemon.start()
@@ -578,7 +581,7 @@ def refuse_and_replay(setup: Setup, library: str, place: int) -> set[bytes]:
                 replies = [client.ask(line) for line in MEMORY_LINES]
                 if replies[-1].startswith(b"? stopping"):
                     raise client.gone()
-            except Gone:  # line by line it was another request, which firm can't do without
+            except Gone:  # line by line it was another request, without which firm can't go on
                 require(daemon.status() == 6 and b"firm: memory" in daemon.said(), daemon.said())
                 return set()
         daemon.stop() if place % 2 else daemon.kill()  # with the digests of its replies, and without
@@ -598,9 +601,9 @@ def refuse_and_replay(setup: Setup, library: str, place: int) -> set[bytes]:
 
 # firmd makes a socket just when a snapshot is begun.
 MASKING = """\
-import os
-from firm_service import snapshotting
-snapshotting.PROGRAM = {program!r}
+import os, sys
+from firm.server import snapshotting
+snapshotting.program_words = lambda *_: [sys.executable, {program!r}]
 def _make(self, sealed, original=snapshotting.Snapshots._make):
     os.umask(0o177)
     original(self, sealed)
@@ -609,7 +612,7 @@ snapshotting.Snapshots._make = _make
 
 
 def masked_snapshots(setup: Setup) -> None:
-    """The rights of a socket that is made just then take none from the folders of snapshots, nor from others."""
+    """The umask for a socket that is made just then changes no rights of the folders of snapshots, or of others."""
     with setup.daemon("--snapshot-lines", "5", "--segment-bytes", "300") as daemon:
         maker, told = daemon.folder / "maker.py", daemon.folder / "umask"
         maker.write_text(f"import os\nopen({str(told)!r}, 'a').write(f'{{os.umask(0):o}} ')\n")
@@ -621,31 +624,31 @@ def masked_snapshots(setup: Setup) -> None:
         require(told.read_text().split()[0] == "77", told.read_text())
         daemon.kill()
         archive = daemon.folder / "archive" / "of" / "alpha"
-        made = f"import os, pathlib\nfrom firm_service import files\nos.umask(0o177)\n"
+        made = "import os, pathlib\nfrom firm.common import files\nos.umask(0o177)\n"
         made += f"files.make_folder(pathlib.Path({str(archive)!r}), 0o700)\n"
         subprocess.run([sys.executable, "-c", made], env={**os.environ, "PYTHONPATH": str(SERVICE)}, check=True)
         modes = [folder.stat().st_mode & 0o700 for folder in (archive, *archive.parents[:2])]
         require(modes == [0o700] * 3, modes)
 
 
-# Snapshots of nothing, as a fresh firm is not asked for here, and an archive on a host that is gone.
+# Snapshots of nothing, as this check needs no fresh firm, and an archive on a host that is gone.
 HANGING = """\
 import time
-from firm_service import archive, snapshotting
-from firm_service.snapshots import Snapshot, write
+from firm.server import archive, snapshotting
+from firm.server.snapshots import Snapshot, write
 archive.LATE_SECONDS = 0.5
 archive.copy_into = lambda folder, path: time.sleep(1_000)
 def _make(self, sealed):
     made = Snapshot(self._state.id, self._state.roster_sum, sealed, 0, b"{}", b"")
     write(self._state.snapshots_path, made)
     self._take(made)
-    self._stream.tell_loop(self._status.count, "snapshots")
+    self._stream.call_in_loop(self._status.count, "snapshots")
 snapshotting.Snapshots._make = _make
 """
 
 
 def hung_archive(setup: Setup) -> None:
-    """An archive that hangs is told and counted, and delays no further snapshot."""
+    """A hung archive is reported and counted, and delays no further snapshot."""
     options = ["--snapshot-lines", "5", "--segment-bytes", "300", "--keep", "0"]
     with setup.daemon(*options) as daemon:
         daemon.options += ["--archive", str(daemon.folder / "archive")]
@@ -696,7 +699,7 @@ LONG = [read_only, backpressure, refused_memory]
 
 
 def checks(setup: Setup) -> dict[str, Callable[[], None]]:
-    """Each check's name, and the check."""
+    """Return each check by name."""
     found: dict[str, Callable[[Setup], None]] = {
         f"kills, part {part}": partial(kills, part=part) for part in range(CHECKS_AT_A_TIME)
     }
@@ -714,9 +717,9 @@ def main() -> int:
     parser = argparse.ArgumentParser(description=(__doc__ or "").splitlines()[0])
     parser.add_argument("--quick", action="store_true", help="the part that tests/quick runs")
     program.add_program(parser)
-    parser.add_argument("--only", default="", help="nothing but the checks whose names have these words")
+    parser.add_argument("--only", default="", help="run only the checks whose names have these words")
     parser.add_argument(
-        "--seed", type=int, default=random.randrange(10**6), help="of the random lines (default: any)"
+        "--seed", type=int, default=random.randrange(10**6), help="seed of the random lines (default: any)"
     )
     options = parser.parse_args()
     setup = Setup(options.program, options.quick, options.seed)

@@ -1,4 +1,4 @@
-"""Checks of firmd, which tests/firmd.py runs: full disks, rights, and when it syncs."""
+"""Checks of firmd's disks, which tests/firmd.py runs: full disks, rights, and the times of syncs."""
 
 from __future__ import annotations
 
@@ -19,11 +19,11 @@ from firmd_kit import FIRMD, NOBODY, ROWS, SHOWN, Client, Daemon, Gone, Setup, s
 from harness.checks import Skipped, require
 from harness.deployed import SERVICE
 
-SOON_SECONDS = 0.2  # in which a reply that comes too early would be there
+SOON_SECONDS = 0.2  # a reply that comes too early would be there in this time
 
 
 def full_disk(setup: Setup, make_full: Callable[[Daemon], Callable[[], None]]) -> None:
-    """A journal that can't grow stops the service with a clear error; what was answered is there once there is room."""
+    """A journal that can't grow stops the service with a clear error; answered lines are there once there is room."""
     with setup.daemon() as daemon:
         make_room = make_full(daemon)
         try:
@@ -38,7 +38,7 @@ def full_disk(setup: Setup, make_full: Callable[[Daemon], Callable[[], None]]) -
                 daemon.journal().count(b"\n") == len([reply for reply in answered if not reply.startswith(b"?")]),
                 "its lines",
             )
-            daemon.start()  # which needs no room
+            daemon.start()  # this needs no room
             daemon.kill()
             make_room()
             daemon.words = FIRMD
@@ -52,7 +52,7 @@ def full_disk(setup: Setup, make_full: Callable[[Daemon], Callable[[], None]]) -
 
 
 def limit_files(daemon: Daemon) -> Callable[[], None]:
-    """No file of firmd's may have more than 30,000 bytes."""
+    """Limit firmd's files to 30,000 bytes; return a function that ends the limit."""
     if shutil.which("prlimit") is None:
         raise Skipped("there is no prlimit")
     daemon.words = ["prlimit", "--fsize=30000", *FIRMD]
@@ -66,7 +66,7 @@ def mount(path: Path, *options: str) -> None:
 
 
 def small_file_system(daemon: Daemon) -> Callable[[], None]:
-    """Puts the state on a file system of 128 kB; what is given makes it larger."""
+    """Put the state on a file system of 128 kB; return a function that enlarges it."""
     daemon.state.mkdir()
     mount(daemon.state, "-t", "tmpfs", "-o", "size=128k,mode=755", "tmpfs")
     rooms: list[str] = []
@@ -82,7 +82,7 @@ def small_file_system(daemon: Daemon) -> Callable[[], None]:
 
 
 def no_rights(setup: Setup) -> None:
-    """A state or a journal that can't be written or read."""
+    """A state or a journal that can't be written or read is refused."""
     with setup.daemon() as daemon:
         daemon.state.write_bytes(b"")
         daemon.refuses(4, "cannot use the state", "Not a directory")
@@ -100,7 +100,8 @@ def no_rights(setup: Setup) -> None:
 
 
 def unprivileged(daemon: Daemon) -> list[str]:
-    """Words in front of a program that run it without root's rights; gives it the daemon's folder."""
+    """Give the daemon's folder to another user; return the words in front of a program that run it without root's
+    rights."""
     if os.geteuid() != 0:
         return []
     words = ["setpriv", f"--reuid={NOBODY}", f"--regid={NOBODY}", "--clear-groups"]
@@ -123,7 +124,7 @@ def denied_rights(setup: Setup) -> None:
         replies = []
         with daemon.client() as client, suppress(Gone):
             replies += [client.ask(line) for line in ROWS]
-            journal.chmod(0o500)  # what is there can be read and grow, and no segment can be begun
+            journal.chmod(0o500)  # existing files can be read and grow, and no segment can be begun
             while not replies[-1].startswith(b"?"):
                 replies.append(client.ask(b"alpha show"))
         require(daemon.status() == 4 and b"cannot write the journal" in daemon.said(), daemon.said())
@@ -179,13 +180,13 @@ def patched(name, real):
         real(file)
     return sync
 os.fsync, os.fdatasync = patched("fsync", os.fsync), patched("fdatasync", os.fdatasync)
-from firm_service.daemon import main
+from firm.server.daemon import main
 sys.exit(main())
 """
 
 
 def patch_sync(daemon: Daemon, action: str) -> Path:
-    """Lets each sync of lines do something first; gives the file with a line for each sync: its call and the file."""
+    """Insert an action before each sync of lines; return the file with a line for each sync: its call and the file."""
     script, log = daemon.folder / "patched.py", daemon.folder / "syncs"
     script.write_text(PATCHED.format(log=str(log), action=action))
     daemon.words = [sys.executable, str(script)]
@@ -221,36 +222,36 @@ def group_commit(setup: Setup) -> None:
 
 
 def unread(client: Client) -> bool:
-    """Whether firmd has not read all that was sent to it."""
+    """Return whether firmd has left some of its input unread."""
     return fcntl.ioctl(client.socket, termios.TIOCOUTQ, bytes(4)) != bytes(4)
 
 
 def answered(clients: list[Client]) -> int:
-    """How many have a reply."""
+    """Return the number of clients with a reply."""
     return len(select.select([client.socket for client in clients], [], [], 0)[0])
 
 
 def hung_sync(setup: Setup) -> None:
-    """While a sync hangs, that is told and readers are answered; lines wait, and are answered once it ends."""
+    """A hung sync is reported and readers are answered; lines wait, and are answered once it ends."""
     with setup.daemon() as daemon:
         sign = daemon.folder / "hangs"
-        is_late = "sys.modules['firm_service.stream'].LATE_SECONDS = 0.5"
+        is_late = "sys.modules['firm.server.stream'].LATE_SECONDS = 0.5"
         patch_sync(daemon, f"{is_late}\n            while os.path.exists({str(sign)!r}): time.sleep(0.05)")
         daemon.start()
         with daemon.client() as client, daemon.client() as other:
             require(client.ask(ROWS[0]) == b"alpha 1 ok", "a reply")
             sign.touch()
             client.send(ROWS[1] + b"\n")
-            wait_for(lambda: b"the journal has not been written for 0.5 s" in daemon.said(), "it is told")
+            wait_for(lambda: b"no journal write has completed for 0.5 s" in daemon.said(), "the report of the hang")
             other.send(b"alpha show\n")
             with Client(daemon.state / "view") as reader:
-                shown = reader.ask(b'{"ask": "machines", "tenant": "alpha"}')
+                shown = reader.ask(b'{"ask": "watch", "tenant": "alpha"}')
                 require(b'"machine": "m1"' in shown, shown)
             time.sleep(SOON_SECONDS)
             require(answered([client, other]) == 0, "a line is answered before its sync")
             sign.unlink()
             require(client.reply() == b"alpha 2 ok" and other.reply().startswith(b"alpha 3 ok"), "replies")
-            wait_for(lambda: b"the journal is written again" in daemon.said(), "that is told too")
+            wait_for(lambda: b"journal writes complete again" in daemon.said(), "the report of its end")
         daemon.stop()
 
 
@@ -271,7 +272,7 @@ def failed_sync(setup: Setup) -> None:
 
 
 def syncs_of_starts(setup: Setup) -> None:
-    """A start syncs what a killed daemon wrote without a sync, and its name, before firm has a line of it."""
+    """A start syncs a killed daemon's unsynced writes, and its name, before firm has a line of it."""
     with setup.daemon("--segment-bytes", "40") as daemon:
         log = patch_sync(daemon, "time.sleep(1000) if count == 3 else None")
         daemon.start()

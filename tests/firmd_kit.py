@@ -1,4 +1,4 @@
-"""firmd as the checks start, kill and ask it, and clients with random lines."""
+"""The kit for checks of firmd: it starts, kills and queries the daemon, and plays clients with random lines."""
 
 from __future__ import annotations
 
@@ -25,14 +25,14 @@ from harness.waiting import pause_since
 
 NO_LIMITS = service.Limits(2, 0, 1, 0, 0)
 FIRMD = [sys.executable, str(SERVICE / "firmd")]
-JOURNAL_TOOL = [sys.executable, str(SERVICE / "firm-journal")]
+JOURNAL_TOOL = [sys.executable, str(SERVICE / "firmctl"), "journal"]
 CHECKS_AT_A_TIME = 4
 HEADING = b"tenant,nodes,arcs,life,spread,churn\n"
 ROSTER = HEADING + b"alpha,30,300,1000000000,1,2\nbeta,30,300,1000000000,0,3\n"
 START_SECONDS = 180  # for a start or an end, on a busy host
-NOBODY = 65534  # a user and a group without rights of their own
-REPLY_SECONDS = 120  # for a reply, or anything else that is waited for, on a busy host
-LAST_LETTERS = 2_000  # of what a daemon has said, where a check fails
+NOBODY = 65534  # a user and a group without rights
+REPLY_SECONDS = 300  # for a reply, or any other wait, on a busy host
+LAST_LETTERS = 2_000  # of a daemon's messages, if a check fails
 ROWS = [
     b"alpha machine m1 2",
     b"alpha job j 10",
@@ -45,7 +45,7 @@ SHOWN = b"ok machines 1 jobs 1 tasks 1 running %d nodes 5 of 30 arcs 7 of 300"
 
 
 class Gone(Exception):
-    """The daemon has left, or closed the connection; with what it said last."""
+    """Signals that the daemon has left or closed the connection, with its last message."""
 
 
 class Client:
@@ -68,7 +68,8 @@ class Client:
         self.socket.close()
 
     def gone(self) -> Gone:
-        """What is raised where the daemon has left; its errors are in its folder, as is that of its state."""
+        """Return the exception for a daemon that has left, with its last words: its errors are in its folder, as is
+        its state's folder."""
         return Gone(f"{self.path.name}: {last_words(*self.path.parents[:2])}")
 
     def send(self, text: bytes) -> None:
@@ -78,7 +79,7 @@ class Client:
             raise self.gone() from error
 
     def reply(self) -> bytes:
-        """The next line, without its end."""
+        """Return the next line, without its end."""
         while b"\n" not in self.received:
             try:
                 more = self.socket.recv(65536)
@@ -95,28 +96,28 @@ class Client:
         return self.reply()
 
     def rest(self) -> bytes:
-        """All that is sent until the connection is closed."""
+        """Return all further bytes until the connection is closed."""
         with suppress(ConnectionError):
             while more := self.socket.recv(65536):
                 self.received += more
         return self.received
 
     def end(self) -> bytes:
-        """The same, once nothing more is asked."""
+        """End the requests, and return all further bytes."""
         with suppress(OSError):  # it may have been closed
             self.socket.shutdown(socket.SHUT_WR)
         return self.rest()
 
 
 def last_words(*folders: Path) -> str:
-    """What a daemon of one of these folders has said last, where that is known."""
+    """Return the last words of a daemon of one of these folders, if known."""
     logs = [folder / "errors" for folder in folders]
     said = next((log.read_text(errors="replace") for log in logs if log.exists()), "")
     return f"it said last: {said[-LAST_LETTERS:].strip()}"
 
 
 def connect(client: socket.socket, path: Path) -> None:
-    """Connects, and tries again where as many as may wait to be accepted already."""
+    """Connect; try again while the queue of connections to accept is full."""
     ends = time.monotonic() + REPLY_SECONDS
     while True:
         try:
@@ -129,13 +130,13 @@ def connect(client: socket.socket, path: Path) -> None:
 
 @dataclass
 class Daemon:
-    """firmd, over a state in a folder of its own."""
+    """firmd, over a state in a separate folder."""
 
     folder: Path
     firm: str
     options: list[str] = field(default_factory=list)
     words: list[str] = field(default_factory=lambda: FIRMD)
-    restored: Path | None = None  # the state to begin with, instead of the roster
+    restored: Path | None = None  # the first state, instead of the roster
     process: subprocess.Popen[bytes] | None = None
 
     @property
@@ -159,7 +160,7 @@ class Daemon:
         return self.process
 
     def start(self) -> Daemon:
-        """Starts it and waits until it serves."""
+        """Start it and wait until it serves."""
         process, began = self.spawn(), time.monotonic()
         while b"firmd: ready" not in self.said():
             require(process.poll() is None, f"it ended with status {process.poll()}: {self.said().decode()}")
@@ -175,11 +176,11 @@ class Daemon:
         return self.process  # type: ignore[return-value]
 
     def status(self) -> int:
-        """Its exit status, once it ends by itself."""
+        """Return its exit status, once it ends by itself."""
         return self.running().wait(START_SECONDS)
 
     def refuses(self, status: int, *texts: str) -> None:
-        """Asks that it ends at its start, with this status and these words."""
+        """Require that it ends at its start, with this status and these words."""
         self.spawn()
         got = self.status()
         said = self.said().decode()
@@ -206,18 +207,18 @@ class Daemon:
         return sorted((self.state / "journal").glob("*.lines"))
 
     def journal(self) -> bytes:
-        """The lines, without the journal's own headings."""
+        """Return the lines, without the journal's own headings."""
         return b"".join(map(lines_of, self.segments()))
 
 
 def lines_of(segment: Path) -> bytes:
-    """The lines of a segment, without the journal's own headings."""
+    """Return the lines of a segment, without the journal's own headings."""
     return re.sub(rb"(?m)^#.*\n", b"", segment.read_bytes())
 
 
 @dataclass(frozen=True)
 class Setup:
-    """What the checks run, and how much of it."""
+    """The programs under check, and the size of the checks."""
 
     program: str
     is_quick: bool
@@ -225,9 +226,9 @@ class Setup:
 
     @contextmanager
     def daemon(self, *options: str, roster: bytes = ROSTER, firm: str | None = None) -> Iterator[Daemon]:
-        """A daemon in a new folder, which is not started yet; nothing of it is left behind.
+        """Yield a daemon in a new folder, not yet started; remove all of it afterwards.
 
-        What a daemon had begun that is killed may still write for a moment, and so leave a part of the folder.
+        The child processes of a killed daemon may still write for a moment, and so leave a part of the folder.
         """
         with tempfile.TemporaryDirectory(prefix="firmd-", ignore_cleanup_errors=True) as name:
             folder = Path(name)
@@ -244,7 +245,7 @@ class Setup:
                     daemon.kill()
 
     def alone(self, roster: bytes, text: bytes) -> list[bytes]:
-        """The replies of firm alone."""
+        """Return the replies of firm alone."""
         with program.Roster(roster) as path:
             done = program.run([self.program], path, text)
         require((done.status, done.faults) == (0, b""), f"firm alone: {done.status} {done.faults!r}")
@@ -253,7 +254,7 @@ class Setup:
 
 
 def stand_in(folder: Path, text: str) -> str:
-    """A program in the place of firm."""
+    """Return a program in the place of firm."""
     path = folder / "stand-in"
     write_program(path, text)
     return str(path)
@@ -267,7 +268,7 @@ def wait_for(holds: Callable[[], bool], what: str, seconds: float = REPLY_SECOND
 
 
 def memory_kilobytes(pid: int) -> int:
-    """What a process has in memory."""
+    """Return a process's memory in kilobytes."""
     found = re.search(r"VmRSS:\s+([0-9]+)", Path(f"/proc/{pid}/status").read_text())
     return int(found[1]) if found else 0
 
@@ -304,7 +305,7 @@ class Tenant:
 
 
 def expected_note(line: bytes, is_bound: bool, tenant: str) -> bytes | None:
-    """What firmd itself says to a line: None where it is firm's to answer."""
+    """Return firmd's own reply to a line; None if firm answers it."""
     line = line.removesuffix(b"\r")
     words = re.split(rb"[ \t]+", line.strip(b" \t"))
     if len(line) > 256:
@@ -315,7 +316,7 @@ def expected_note(line: bytes, is_bound: bool, tenant: str) -> bytes | None:
 
 
 def converse(tenant: Tenant, client: Client, is_bound: bool, draw: random.Random, count: int) -> None:
-    """Sends a number of lines in bursts that are cut anywhere; each reply must be for its line."""
+    """Send a number of lines in bursts that are cut anywhere; require for each line its reply."""
     nobody = service.Service({})
     while count > 0:
         lines = tenant.lines(min(count, draw.choice([1, 1, 2, 5, 20])))
@@ -335,7 +336,7 @@ def converse(tenant: Tenant, client: Client, is_bound: bool, draw: random.Random
 
 
 def in_threads(works: Sequence[Callable[[], None]]) -> list[BaseException]:
-    """Does all at a time; what was raised."""
+    """Run all of them at once; return the exceptions."""
     raised: list[BaseException] = []
 
     def run(work: Callable[[], None]) -> None:
@@ -363,7 +364,7 @@ def extended(roster: bytes, patience: int) -> bytes:
 
 
 def check_alone(setup: Setup, tenant: Tenant) -> None:
-    """A tenant's replies, all of them told, are those of a firm that holds it alone."""
+    """Require that a tenant's replies, which are complete, are those of a firm that holds it alone."""
     own = [answered for answered in tenant.answered if not answered.reply.startswith(b"!")]
     own.sort(key=lambda answered: int(answered.reply.split()[1]))
     alone = setup.alone(roster_of([tenant]), b"".join(answered.line + b"\n" for answered in own))
@@ -378,7 +379,7 @@ def check_alone(setup: Setup, tenant: Tenant) -> None:
 
 
 def check_kept(setup: Setup, journal: bytes, tenants: list[Tenant]) -> None:
-    """Each line that was answered stands in the journal, and firm alone answers it the same from there."""
+    """Require that each answered line stands in the journal, and that firm alone answers it the same from there."""
     lines = journal.split(b"\n")[:-1]
     alone = setup.alone(roster_of(tenants), journal)
     require(len(lines) == len(alone), "a reply for each line of the journal")

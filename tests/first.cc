@@ -1,10 +1,10 @@
-// Checks that a placement is the first of those that cost least, by LEMON's network simplex and no thought of its own:
-// with the tasks before a task as they are placed, each choice that ranks before the task's own must cost more.
+// Checks that a placement is the first of those that cost least, by LEMON's network simplex alone: with the tasks
+// before a task as they are placed, each choice that ranks before the task's own must cost more.
 // usage: first < CASE
 // CASE: 'MACHINES TASKS SPREAD CHURN REMOTE', the slots of each machine, then for each task 'OWN WAITING PLACED COUNT PREFERRED..':
-// the place of the machine on which it runs or -1, the cost of its waiting, where it is placed, -1 for waiting, and how many
-// machines it prefers, with their places.
-// prints 'first COST SOLVED', or what is cheaper or as cheap and comes before.
+// the place of its machine or -1, the cost of its waiting, the place of its placement, -1 for waiting, and the number of
+// machines that it prefers, with their places.
+// prints 'first COST SOLVED', or the placement that is cheaper, or as cheap and comes before.
 #include <lemon/network_simplex.h>
 #include <lemon/smart_graph.h>
 
@@ -28,7 +28,7 @@ struct Book {
     std::vector<int> slots;
     std::vector<Task> rows;
 
-    // What a task costs in a machine's slot of this number, counted from 0.
+    // A task's cost in a machine's slot of this number, counted from 0.
     Number slot_cost(Number slot) const { return slot * spread; }
 
     Number cost(const Task& task, int choice, int load) const {
@@ -36,7 +36,7 @@ struct Book {
         return slot_cost(load) + (task.own == choice ? 0 : (task.own >= 0 ? churn : 0) + (is_remote(task, choice) ? remote : 0));
     }
 
-    // The task prefers machines, and this is none of them.
+    // Whether the task prefers machines, and this is none of them.
     static bool is_remote(const Task& task, int choice) {
         const auto& near = task.preferred;
         return !near.empty() && std::find(near.begin(), near.end(), choice) == near.end();

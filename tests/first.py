@@ -1,9 +1,9 @@
-"""Checks that the built program's rounds are the first of the least placements, for more tasks than can be tried out.
+"""Check that the built program's rounds are the first of the least placements, beyond sizes that can be enumerated.
 
 usage: tools/run tests/first.py [--program FILE] [--sizes 40x8,100x20] [--kinds fresh,..] [--seeds N]
-Runs the streams of harness/kinds.py and hands each round to first.cc, which solves the rest anew by LEMON's network
-simplex for each choice that ranks before one that was taken. It needs a C++ compiler and LEMON (Debian's
-liblemon-dev). The exit status is 1 where a round is wrong.
+Runs the streams of harness/kinds.py and gives each round to first.cc. For each choice that ranks before a task's own,
+first.cc solves the rest anew by LEMON's network simplex. It needs a C++ compiler and LEMON (Debian's liblemon-dev). The
+exit status is 1 if a round is wrong.
 """
 
 from __future__ import annotations
@@ -33,14 +33,14 @@ class Options(program.ProgramOptions):
 
 
 class Before(NamedTuple):
-    """A task's row before a round: where it runs, and what it would cost to leave it waiting."""
+    """A task's row before a round: its machine, and the cost of leaving it waiting."""
 
     machine: str | None
     waiting_cost: int
 
 
 def case_of(tenant: Tenant, rows: list[Before]) -> str:
-    """A round as first.cc reads it: the rows before it, and where each task runs now."""
+    """Return a round as first.cc reads it: the rows before it, and each task's machine after it."""
     place: dict[str | None, int] = {name: number for number, name in enumerate(tenant.machines)}
     place[None] = -1
     limits = tenant.limits
@@ -54,7 +54,7 @@ def case_of(tenant: Tenant, rows: list[Before]) -> str:
 
 
 def rounds_of(command: list[str], stream: kinds.Stream) -> list[str]:
-    """The rounds of a stream, as cases."""
+    """Return the rounds of a stream, as cases."""
     text = "".join(line + "\n" for lines in stream.parts for line in [*lines, f"{kinds.TENANT} round"])
     with program.Roster(stream.roster.encode()) as roster:
         found = program.run(command, roster, text.encode())

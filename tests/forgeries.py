@@ -1,12 +1,12 @@
-"""Forges outputs of firm_explain: tests/certificates must refuse each that is false.
+"""Forge outputs of firm_explain: tests/certificates must refuse each false one.
 
 usage: tools/run tests/forgeries.py [--quick] [--first SEED] [--explain FILE] [WORD..]
-From firm_explain's outputs for random small streams come thousands of others: lines altered, removed, repeated, moved
-or taken from elsewhere; whole outputs for a stream that differs in a line, or for other options; and rounds with other
-placements, rents, orders or witnesses, in which all else is written anew to match. An output is true
-if firm_explain writes it, but for orders and witnesses, which it may choose: harness/small_books.py judges those by
-enumeration. Those that are true after all are counted. With words only the checks whose names have one of them. Each
-check has a line; the exit status is 1 where one failed. The long run takes some minutes.
+It makes thousands of forgeries from firm_explain's outputs for random small streams: lines altered, removed, repeated,
+moved or taken from elsewhere; whole outputs for a stream that differs in a line, or for other options; and rounds with
+other placements, rents, orders or witnesses, with all else rewritten to match. An output is true if firm_explain writes
+it. Only orders and witnesses are its own choice: harness/small_books.py judges those by enumeration. Forgeries that
+happen to be true are counted. With words it runs only the checks whose names have one of them. Each check prints a
+line; the exit status is 1 if one failed. The long run takes some minutes.
 """
 
 from __future__ import annotations
@@ -31,14 +31,14 @@ from harness.small_streams import random_roster
 Choice = str | None
 Rents = dict[Choice, int]
 
-MOST_PLACEMENTS = 1_300  # of a book that is enumerated
+MAX_PLACEMENTS = 1_300  # of a book that is enumerated
 NAMES = {b"n1": b"waiting", b"n2": b"clear", b"n3": b"if", b"n4": b"waits", b"n5": b"low", b"n6": b"first"}
 OPERATOR_MEMORY = "+ no 28 operator-memory"
 GROWING = ([b"machine"], [b"job"], [b"task"], [b"round"])
 
 
 class Case:
-    """A stream, the options of firm_explain, and what it writes."""
+    """A stream, the options of firm_explain, and its output."""
 
     def __init__(self, explain: str, stream: Stream, words: Sequence[str]) -> None:
         self.explain, self.stream, self.words = explain, stream, list(words)
@@ -52,14 +52,14 @@ class Case:
 
     @cached_property
     def rows(self) -> list[list[str]]:
-        """The rows before each round."""
+        """Return the rows before each round."""
         lines = self.run(self.stream, ["--rows"])
         starts = [at + 1 for at, line in enumerate(lines) if is_round(line)]
         return [lines[at : next(end for end in range(at, len(lines)) if " rows " in lines[end])] for at in starts]
 
     @cached_property
     def rounds(self) -> list[Any]:
-        """Its rounds, as tests/certificates reads them."""
+        """Return its rounds, as tests/certificates reads them."""
         with Written(self.stream, text_of(self.lines).encode()) as paths:
             return list(CHECKER.rounds_of(*paths))
 
@@ -69,24 +69,24 @@ class Case:
 
     def truth(self, number: int) -> small_books.Round | None:
         """Return the truth on the round of this number; None if it has too many placements."""
-        if number not in self.truths and small_books.Book(self.rows[number]).size() <= MOST_PLACEMENTS:
+        if number not in self.truths and small_books.Book(self.rows[number]).size() <= MAX_PLACEMENTS:
             self.truths[number] = small_books.Round(self.rows[number])
         return self.truths.get(number)
 
     @cached_property
     def answered(self) -> list[int]:
-        """The places of the input's lines that have a reply."""
+        """Return the places of the input's lines that have a reply."""
         lines = self.stream.text.split(b"\n")
         return [at for at, line in enumerate(lines) if CHECKER.is_answered(line.removesuffix(b"\r"))]
 
     def with_line(self, answer: int, line: bytes) -> Stream:
-        """The stream with another line in the place of the one that has this answer."""
+        """Return the stream with another line in the place of the one that has this answer."""
         lines = self.stream.text.split(b"\n")
         lines[self.answered[answer]] = line
         return self.stream._replace(text=b"\n".join(lines))
 
     def up_to(self, number: int) -> Case:
-        """The case cut after the round of this number."""
+        """Return the case cut after the round of this number."""
         places = [at for at, line in enumerate(replies_in(self.lines)) if is_round(line)]
         lines = self.stream.text.split(b"\n")[: self.answered[places[number]] + 1]
         return Case(self.explain, self.stream._replace(text=b"\n".join(lines) + b"\n"), self.words)
@@ -94,7 +94,7 @@ class Case:
 
 class Forgery(NamedTuple):
     kind: str
-    case: Case  # whose output it claims to be
+    case: Case  # the case of the claimed output
     text: str
     is_alone: bool = False  # judged by its rows
 
@@ -106,7 +106,7 @@ class Forgery(NamedTuple):
         return judge(self.case.stream, self.text.encode(), *words)
 
     def is_true(self) -> bool:
-        """Whether it is an output that firm_explain may write."""
+        """Return whether firm_explain may write this output."""
         if not self.is_alone:
             return is_true(self.case, self.text)
         answers: list[str] = list(filter(None, re.findall(r"(?m)^(?!#).*\n?(?:#.*\n?)*", self.text)))
@@ -122,7 +122,7 @@ class Forgery(NamedTuple):
 
 
 def alone(case: Case, lines: Output) -> Case | None:
-    """A round by the rows behind its reply, as those of a state; None if no state has them."""
+    """Return a round by the rows after its reply, as those of a state; None if no state has them."""
     end = next((at for at, line in enumerate(lines) if line.startswith("# rows ")), 0)
     rows = [line.removeprefix("# ") for line in lines[1:end]]
     state = ["firm state 1", "place admissions 1", *rows, f"rows {len(rows) + 1}"]
@@ -140,7 +140,7 @@ def replies_in(lines: Output) -> Output:
 
 
 def is_true(case: Case, text: str) -> bool:
-    """Whether an output is one that firm_explain may write."""
+    """Return whether firm_explain may write an output."""
     lines = text.removesuffix("\n").split("\n")
     wanted = case.lines
     if not text.endswith("\n") or len(replies_in(lines)) != len(replies_in(wanted)):
@@ -164,7 +164,7 @@ def is_true(case: Case, text: str) -> bool:
 
 
 def without_memory(case: Case, refused: Sequence[int]) -> tuple[Case, Output]:
-    """The case if memory was refused to the lines of these answers, and what firm_explain then writes.
+    """Return the case with memory refused to the lines of these answers, and firm_explain's output then.
 
     Such a line only adds to its tenant's count, and would have been answered ok.
     """
@@ -186,7 +186,7 @@ def without_memory(case: Case, refused: Sequence[int]) -> tuple[Case, Output]:
 
 
 def may_be(case: Case, number: int, line: str, true: str) -> bool:
-    """Whether a line that firm_explain may choose is as true as its own: an order, or a placement of a cost."""
+    """Return whether a line of firm_explain's choice is as true as its own: an order, or a placement of a cost."""
     truth = case.truth(number) if number >= 0 else None
     if truth is None:
         return False
@@ -199,7 +199,7 @@ def may_be(case: Case, number: int, line: str, true: str) -> bool:
 
 
 def low_rents(case: Case, number: int, book: small_books.Book) -> Rents:
-    """The lowest rents that firm_explain names for a round."""
+    """Return the lowest rents that firm_explain names for a round."""
     at = [at for at, line in enumerate(case.lines) if is_round(line)][number]
     line = next(line for line in case.lines[at:] if line.startswith("# low rents: "))
     return small_books.rents_in(line, book)
@@ -212,11 +212,11 @@ def altered(draw: random.Random, case: Case, other: Case, count: int) -> Iterato
             yield Forgery(kind, case, text)
 
 
-# Consistent lies: what firm_explain writes for a stream or for options that differ a little.
+# Consistent lies: firm_explain's output for a stream or options that differ a little.
 
 
 def lied(draw: random.Random, case: Case, count: int) -> Iterator[Forgery]:
-    """The output for another stream, whose reply to the changed line may be the true one or another."""
+    """Yield the output for another stream, whose reply to the changed line may be the true one or another."""
     for _ in range(count):
         answer = draw.randrange(len(case.answered))
         kind, stream = other_stream(draw, case, answer)
@@ -243,7 +243,7 @@ def lied(draw: random.Random, case: Case, count: int) -> Iterator[Forgery]:
 
 
 def other_stream(draw: random.Random, case: Case, answer: int) -> tuple[str, Stream]:
-    """A stream in which the line of this answer is another, or the roster."""
+    """Return a stream with another line in the place of this answer's, or with another roster."""
     lines = case.stream.text.split(b"\n")
     at = case.answered[answer]
     words = lines[at].split()
@@ -272,7 +272,7 @@ def other_stream(draw: random.Random, case: Case, answer: int) -> tuple[str, Str
 
 
 def other_options(draw: random.Random, case: Case, count: int) -> Iterator[Forgery]:
-    """The output for other options of firm_explain."""
+    """Yield the output for other options of firm_explain."""
     for _ in range(count):
         words = random_words(draw, case.stream)
         if words != case.words:
@@ -283,7 +283,7 @@ def other_options(draw: random.Random, case: Case, count: int) -> Iterator[Forge
 
 
 class Anew:
-    """The last round of a case, of which each choice of firm_explain can be made otherwise."""
+    """The last round of a case, in which each choice of firm_explain can be replaced."""
 
     def __init__(self, draw: random.Random, case: Case) -> None:
         self.draw, self.case, self.found = draw, case, case.rounds[-1]
@@ -300,7 +300,7 @@ class Anew:
         return self.truth.choices
 
     def own_rents(self, name: str, choices: Sequence[Choice]) -> Rents:
-        """The rents by which the numbers of a task are exact."""
+        """Return the rents by which the numbers of a task are exact."""
         at = self.truth.names.index(name)
         task, has = self.book.tasks[at], choices[at]
         paid = self.book.own_cost(task, has)
@@ -311,7 +311,7 @@ class Anew:
         }
 
     def dearer(self, own: Rents) -> list[Rents]:
-        """The rents of the task, each with one that is too high, by as much as another placement costs more."""
+        """Return the rents of the task, each with one that is too high, by the additional cost of another placement."""
         at, found = self.truth.names.index(self.why or ""), []
         for machine in self.book.slots:
             costs = sorted({placed.cost for placed in self.truth.all if placed.choices[at] == machine})
@@ -320,14 +320,15 @@ class Anew:
         return found
 
     def pool(self) -> list[Rents]:
-        """Rents that show the placement: the lowest, the highest and those of tasks, and what lies between two."""
+        """Return rents that show the placement: the lowest, the highest, those of tasks, and some between two of
+        these."""
         found = [*self.tables, *(self.own_rents(name, self.choices()) for name in self.truth.names)]
         one, two = self.draw.choice(found), self.draw.choice(found)
         found += [{place: choose(one[place], two[place]) for place in one} for choose in (min, max)]
         return found
 
     def text(self, choices: Sequence[Choice], tables: Sequence[Rents], own: Rents | None, order: str) -> str:
-        """The output with another last round."""
+        """Return the output with another last round."""
         to = dict(zip(self.truth.names, choices))
         cost = self.truth.all[self.truth.places[tuple(choices)]].cost
         reply = f"{' '.join(self.found.reply[:5])} {cost}{self.changes(to)}"
@@ -355,7 +356,7 @@ class Anew:
         return "".join(f" {change}" for change in found)
 
     def witnesses(self, market: Market, choices: Sequence[Choice], cost: int) -> Iterator[str]:
-        """A line on each other choice of the task: a placement that costs what its rents say, or else any."""
+        """Yield a line on each other choice of the task: a placement that costs what its rents say, or else any."""
         at = self.truth.names.index(self.why or "")
         for other in [None, *self.book.slots]:
             if other != choices[at]:
@@ -365,7 +366,8 @@ class Anew:
                 yield self.witness(choices, self.draw.choice(exact or fit).choices, more, other)
 
     def witness(self, choices: Sequence[Choice], other: Sequence[Choice], more: int, choice: Choice) -> str:
-        """The line on a choice of the task with another placement; it names the task again if that has it elsewhere."""
+        """Return the line on a choice of the task with another placement; it names the task again if that has it
+        elsewhere."""
         changed = [at for at, pair in enumerate(zip(choices, other)) if pair[0] != pair[1]]
         own = self.truth.names.index(self.why or "")
         named = changed if other[own] == choice else sorted({*changed, own})
@@ -381,7 +383,7 @@ class Anew:
         )
 
     def order(self) -> str:
-        """Any order."""
+        """Return any order."""
         places = ["waiting" if place is None else place for place in [*self.book.slots, None]]
         groups = [self.draw.randrange(len(places)) for _ in places]
         names = [[place for place, at in zip(places, groups) if at == group] for group in range(len(places))]
@@ -413,7 +415,7 @@ def asked_by(words: Sequence[str]) -> Asked:
 
 
 def anew(draw: random.Random, whole: Case, count: int) -> Iterator[Forgery]:
-    """Forgeries of rounds that are written anew."""
+    """Yield forgeries of rounds that are written anew."""
     numbers = [at for at, found in enumerate(whole.rounds) if found.comments and whole.truth(at)]
     for number in draw.sample(numbers, min(count, len(numbers))):
         case = whole.up_to(number)
@@ -422,7 +424,7 @@ def anew(draw: random.Random, whole: Case, count: int) -> Iterator[Forgery]:
 
 
 def all_anew(made: Anew) -> Iterator[tuple[str, str]]:
-    """The same of one round: each time one choice is made otherwise, and all that follows from it."""
+    """Yield forgeries of one round: each time one choice is replaced, and all its consequences follow."""
     draw, choices, (low, high) = made.draw, made.choices(), made.tables
     own = made.own_rents(made.why, choices) if made.why else None
     orders = made.orders(3)
@@ -455,7 +457,7 @@ def all_anew(made: Anew) -> Iterator[tuple[str, str]]:
 
 
 def other_witnesses(made: Anew, text: str) -> Iterator[tuple[str, str]]:
-    """A line on another choice of the task with another placement: of any cost, or with the task named again."""
+    """Yield a line on another choice of the task with another placement: of any cost, or with the task named again."""
     for line in [line for line in made.found.comments if re.match(r"# if \S+ (on \S+|waits): \d+ more", line)]:
         found = re.match(r"# if \S+ (?:on (\S+)|waits): (\d+) more", line)
         at = made.truth.names.index(made.why or "")
@@ -481,7 +483,8 @@ def other_witnesses(made: Anew, text: str) -> Iterator[tuple[str, str]]:
 
 
 def small_stream(draw: random.Random) -> Stream:
-    """A stream of one to four tenants with up to four tasks and four machines each; some have names with a meaning.
+    """Return a stream of one to four tenants with up to four tasks and four machines each; some have names with a
+    meaning.
 
     Some of the streams begin with a state.
     """
@@ -504,7 +507,7 @@ def state_after(roster: bytes, lines: list[bytes]) -> bytes:
 
 
 def random_words(draw: random.Random, stream: Stream) -> list[str]:
-    """Options of firm_explain, more often than not with a task of the stream."""
+    """Return options of firm_explain, more often than not with a task of the stream."""
     tasks = re.findall(rb"(?m)^[^ ]+ task [^ ]+ ([a-z0-9][a-z0-9-]{,15})\b", stream.text)
     tenants = re.findall(rb"(?m)^([a-z0-9-]+) round", stream.text)
     words = ["--all"] if draw.random() < 0.3 else []
@@ -515,7 +518,7 @@ def random_words(draw: random.Random, stream: Stream) -> list[str]:
 
 
 class Share(NamedTuple):
-    """The numbers of forgeries that are made of each output, by how."""
+    """The numbers of forgeries of each output, by kind."""
 
     altered: int
     lied: int
@@ -524,7 +527,7 @@ class Share(NamedTuple):
 
 
 def altered_alone(draw: random.Random, case: Case, count: int) -> Iterator[Forgery]:
-    """Rounds that are judged by their rows, with a line altered."""
+    """Yield rounds that are judged by their rows, with a line altered."""
     if "--rows" not in case.words or not case.rows:
         return
     texts = [case.lines[start - 1 : end] for start, end in blocks(case.lines) if start < end]
@@ -555,7 +558,7 @@ def has_opening(stream: Stream) -> bool:
 
 
 def random_case(explain: str, seed: int) -> Case | None:
-    """A case with rounds; None where a stream has none."""
+    """Return a case with rounds; None if a stream has none."""
     draw = random.Random(seed)
     stream = small_stream(draw)
     if not has_opening(stream):
@@ -570,7 +573,7 @@ FALSE, TRUE = "false", "true after all"
 
 
 def forged(options: argparse.Namespace, first: int, count: int, share: Share) -> None:
-    """Forgeries of this number of streams, none of which is accepted and false."""
+    """Of the forgeries of this number of streams, no accepted one is false."""
     seen = Counter[tuple[str, str, bool]]()
     other: Case | None = None
     for seed in range(first, first + count):
@@ -609,7 +612,7 @@ DAY = "machine m1 2, machine m2 1, job web 12, job batch 4, task web w1, task ba
 EVENING = f"{DAY}, task web w2, task web w3, round"
 NIGHT = f"{EVENING}, machine m3 1, round"
 PAIR = "machine m1 1, job j 12, job k 2, task j a, task k b, round"
-# The commands of alpha, the options, a pattern that the output has, and what stands in its place.
+# The commands of alpha, the options, a pattern in the output, and its replacement.
 FORGED_TEXTS: list[tuple[str, str, str, str]] = [
     # Changes that are none, out of order, or several of one task; numbers with zeros; words too many.
     (EVENING, "", "preempt b1 m1 preempt b2 m2", "preempt b2 m2 preempt b1 m1"),
@@ -621,7 +624,7 @@ FORGED_TEXTS: list[tuple[str, str, str, str]] = [
     (EVENING, "", "^alpha 11 ok", "alpha 011 ok"),
     (EVENING, "", "^alpha 11 ok", "alpha 11  ok"),
     (EVENING, "", "start w3 m2$", "start w3 m2 "),
-    # A round that is answered otherwise.
+    # A round with another answer.
     (EVENING, "", r"^alpha 11 (.*\n)*", "! unknown-tenant\n"),
     (EVENING, "", r"^alpha 11 (.*\n)*", "! line-too-long\n"),
     (EVENING, "", r"^alpha 11 (.*\n)*", "alpha 11 no 10 no-such-task\n"),
@@ -634,13 +637,13 @@ FORGED_TEXTS: list[tuple[str, str, str, str]] = [
     (EVENING, "", "preemptions 10, waits 8", "preemptions 8, waits 10"),
     (EVENING, "", "^# b1 preempted .*\n", ""),
     (EVENING, "", "m2 at least 8 more", "m2 at least 7 more"),
-    # A placement with another choice of a task: without its cost, or with words behind.
+    # A placement with another choice of a task: without its cost, or with words after it.
     (NIGHT, "--why w1", r"^(# if w1 waits: \d+ more).*$", r"\1: "),
     (NIGHT, "--why w1", r"^(# if w1 waits: \d+ more.*)$", r"\1, w2 on m1"),
     (NIGHT, "--why w1", r"^# if w1 waits: .*\n", ""),
     # Rents of the task that do not show the placement.
     (NIGHT, "--why w1", "^(# w1's rents: [0-9]*)( each.*)", r"\g<1>0\2"),
-    # Bytes by which a terminal hides the verdict, and others that are read as digits or blanks elsewhere.
+    # Bytes by which a terminal hides the verdict, and others that other programs read as digits or blanks.
     (EVENING, "", "^alpha 1 ok$", "alpha 1 ok\rshown first: 2 of 2 rounds\x1b[8m"),
     (EVENING, "", "low rents: 9 each", "low rents: \u0669 each"),
     (EVENING, "", "low rents: 9 each", "low rents: 0_9 each"),
@@ -652,7 +655,7 @@ FORGED_TEXTS: list[tuple[str, str, str, str]] = [
     (EVENING, "", "m1 < m2 < waiting", "m1 < m2 < waiting m2 m1"),
     (EVENING, "", "m1 < m2 < waiting", "m1 < m2 < waiting < .."),
 ]
-# The commands, a line of them without effect, its reply, and the reply that is forged; the rest is as it would be.
+# The commands, a line of them without effect, its reply, and the forged reply; the rest is as it would be.
 FORGED_REPLIES: list[tuple[str, str, str, str]] = [
     (NIGHT, "machine m3 1", "no 2 bad-command", "no 5 machine-exists"),
     (NIGHT, "machine m3 1", "no 2 bad-command", "no 13 arena-arcs"),
@@ -667,7 +670,7 @@ def commands(lines: str) -> Stream:
 
 
 def forged_by_hand(options: argparse.Namespace) -> None:
-    """Each forgery that was accepted once, and others of its kind."""
+    """Each forgery that was accepted once, and others of its kind, are refused."""
     for lines, words, old, new in FORGED_TEXTS:
         case = Case(options.explain, commands(lines), words.split())
         *_, last = re.finditer(old, text_of(case.lines), re.MULTILINE)
@@ -682,7 +685,7 @@ def forged_by_hand(options: argparse.Namespace) -> None:
 
 
 def forged_rents(options: argparse.Namespace) -> None:
-    """Rents that show the placement, but are not the lowest, the highest, or the exact ones of a task."""
+    """Rents that show the placement, but are not the lowest, the highest, or the exact ones of a task, are refused."""
     draw = random.Random(1)
     for lines, words in ((PAIR, ""), (PAIR, "--why b"), (PAIR, "--why a"), (EVENING, "--why w1"), (NIGHT, "--why b2")):
         case = Case(options.explain, commands(lines), words.split())
@@ -708,8 +711,8 @@ def forged_rents(options: argparse.Namespace) -> None:
 
 def main() -> int:
     parser = argparse.ArgumentParser(description=(__doc__ or "").splitlines()[0])
-    parser.add_argument("words", nargs="*", metavar="WORD", help="only checks whose names have one of these words")
-    parser.add_argument("--quick", action="store_true", help="some 3,000 forgeries, in 20 s")
+    parser.add_argument("words", nargs="*", metavar="WORD", help="run only checks whose names have one of these words")
+    parser.add_argument("--quick", action="store_true", help="make some 3,000 forgeries, in 20 s")
     parser.add_argument("--first", type=int, default=1, metavar="SEED")
     parser.add_argument("--explain", type=program.program_file, default=str(program.EXPLAIN), metavar="FILE")
     options = parser.parse_args()

@@ -1,15 +1,18 @@
-"""A stand-in for firmd's readers, which gets its replies from the plain service, and clients of its view and HTTP."""
+"""The kit for checks of firmd's view: a stand-in for the daemon, and clients of the view.
+
+The stand-in has the replies of the plain service.
+"""
 
 from __future__ import annotations
 
 import asyncio
 import contextlib
-import http.client
 import importlib.util
 import json
 import os
 import re
 import socket
+import subprocess
 import tempfile
 import threading
 import time
@@ -18,12 +21,15 @@ from pathlib import Path
 from typing import Any, TypeVar
 
 from harness import service
-from harness.checks import require
-from harness.deployed import SERVICE, Books, Shown, Status
+from harness.checks import Skipped, require
+from harness.deployed import SERVICE, Books, ViewModel, Status
 from harness.deployed import bound, serve_view
+from hostile import python_with_http
+
+from firm.client.blocking import ApiClient, get, one
 
 FIRMCTL = SERVICE / "firmctl"
-LIMIT_SECONDS = 120  # for anything that is waited for, on a busy host
+LIMIT_SECONDS = 120  # for any wait, on a busy host
 ROSTER = b"tenant,nodes,arcs,life,spread,churn\nalpha,12,40,100,1,2\nbeta,8,30,5,0,3\n"
 DAY = b"""alpha machine m1 2
 alpha machine m2 1
@@ -46,16 +52,15 @@ Result = TypeVar("Result")
 
 
 class Front:
-    """A stand-in for the daemon: the plain service's replies go to books, these to a view socket, to HTTP if asked."""
+    """A stand-in for the daemon: the plain service's replies go to books, these to a view socket."""
 
-    def __init__(self, folder: str, roster_text: bytes = ROSTER, has_http: bool = False) -> None:
-        self.state, self.has_http = Path(folder), has_http
-        self.port = 0
+    def __init__(self, folder: str, roster_text: bytes = ROSTER) -> None:
+        self.state = Path(folder)
         self.model = service.opened(roster_text)
         self.books = Books()
         self.books.start(roster_text)
         self.status = Status(time.time() - 3700, os.getpid(), 3, 17, 2_500, 10_000, 2, 0)
-        self.shown = Shown(self.books, self.status, "stand-in")
+        self.shown = ViewModel(self.books, self.status, "stand-in")
         self.is_up = threading.Event()
         self.thread = threading.Thread(target=lambda: asyncio.run(self.serve()), daemon=True)
 
@@ -76,23 +81,15 @@ class Front:
         return asyncio.run_coroutine_threadsafe(work, self.loop).result(LIMIT_SECONDS)
 
     async def serve(self) -> None:
-        """Serves until it is stopped; all connections are closed then."""
+        """Serve until it is stopped; then close all connections."""
         self.loop, self.ended = asyncio.get_running_loop(), asyncio.Event()
-        view = await serve_view(bound(self.state / "view"), self.shown, state=self.state)
-        if self.has_http:
-            from firm_service.address import Address
-            from firm_service.web import serve_http
-
-            address = Address.read("0")
-            (http_server,) = await serve_http(address.listen(), address, self.shown)
-            self.address = http_server.sockets[0].getsockname()
-            self.port = self.address[1]
+        view = await serve_view(bound(self.state / "view"), self.shown)
         self.is_up.set()
         await self.ended.wait()
         view.close()
 
     def say(self, *lines: bytes, seconds: float | None = None) -> list[bytes]:
-        """The replies to these lines; without seconds as in a replay."""
+        """Return the replies to these lines; without seconds as in a replay."""
 
         async def told() -> list[bytes]:
             replies = []
@@ -107,11 +104,40 @@ class Front:
 
 
 @contextlib.contextmanager
-def front(roster_text: bytes = ROSTER, lines: list[bytes] = DAY, has_http: bool = False) -> Iterator[Front]:
-    """A stand-in that has taken these lines."""
-    with tempfile.TemporaryDirectory(prefix="firm-") as folder, Front(folder, roster_text, has_http) as started:
+def front(roster_text: bytes = ROSTER, lines: list[bytes] = DAY) -> Iterator[Front]:
+    """Start a stand-in that has taken these lines."""
+    with tempfile.TemporaryDirectory(prefix="firm-") as folder, Front(folder, roster_text) as started:
         started.say(*lines)
         yield started
+
+
+@contextlib.contextmanager
+def api_of(state: Path, *tenants: str, **environment: str) -> Iterator[str]:
+    """Start a firm-api over a view in this folder; yield its address."""
+    python = python_with_http()
+    if python is None:
+        raise Skipped("no Python has what HTTP needs (apt-get install python3-aiohttp python3-prometheus-client)")
+    with tempfile.TemporaryDirectory(prefix="firm-") as folder:
+        place, log = Path(folder) / "api", Path(folder) / "log"
+        words = [python, str(SERVICE / "firm-api"), "run", f"--state={state}", f"--socket={place}"]
+        words += [f"--lines={tenant}={state / 'view'}" for tenant in tenants]
+        with open(log, "wb") as said:
+            process = subprocess.Popen(words, stdin=subprocess.DEVNULL, stderr=said, env={**os.environ, **environment})
+        try:
+            ends = time.monotonic() + LIMIT_SECONDS
+            while b"firm-api: ready" not in log.read_bytes() or not has_rows(f"unix:{place}"):
+                require(process.poll() is None and time.monotonic() < ends, f"firm-api: {log.read_text()}")
+                time.sleep(0.02)
+            yield f"unix:{place}"
+        finally:
+            process.kill()
+            process.wait()
+
+
+def has_rows(server: str) -> bool:
+    """Return whether it has the rows of all tenants, or knows that they are missing."""
+    tenants = ApiClient(server).ask(one(get("/v1/tenants")))["tenants"]
+    return all(row["firm"]["is_there"] or "has no tenant" in row["firm"]["reason"] for row in tenants)
 
 
 class Viewer:
@@ -134,7 +160,7 @@ class Viewer:
         self.socket.sendall(text)
 
     def next(self) -> Any:
-        """The next answer; None where the connection is closed, also with something that was not read there."""
+        """Return the next answer; None if the connection is closed, even by a reset after unread input."""
         try:
             line = self.answers.readline()
         except ConnectionError:
@@ -146,31 +172,26 @@ class Viewer:
         return self.next()
 
 
-def wait_until(holds: Callable[[], bool], seconds: float = LIMIT_SECONDS) -> bool:
+def wait_until(holds: Callable[[], object], seconds: float = LIMIT_SECONDS) -> bool:
     ends = time.monotonic() + seconds
     while not holds() and time.monotonic() < ends:
         time.sleep(0.01)
-    return holds()
+    return bool(holds())
 
 
-def http_ask(port: int, path: str, method: str = "GET", **headers: str) -> tuple[int, dict[str, str], bytes]:
-    connection = http.client.HTTPConnection("127.0.0.1", port, timeout=LIMIT_SECONDS)
-    connection.request(method, path, headers=headers)
-    answer = connection.getresponse()
-    found = (answer.status, {name.lower(): value for name, value in answer.getheaders()}, answer.read())
-    connection.close()
-    return found
+def metrics_of(state: Path) -> str:
+    """Return the metrics of a view in this folder."""
+    with Viewer(state) as view:
+        return str(view.ask({"ask": "metrics"})["metrics"])
 
 
-def samples_of(port: int) -> dict[tuple[str, str], float]:
-    """The samples of /metrics by name and labels."""
+def samples_of(state: Path) -> dict[tuple[str, str], float]:
+    """Return the samples of these by name and labels."""
     from prometheus_client import parser
 
     families: Callable[[str], Iterator[Any]] = parser.text_string_to_metric_families
-    status, headers, text = http_ask(port, "/metrics")
-    require(status == 200 and headers["content-type"].startswith("text/plain; version=0.0.4"), headers)
     found: dict[tuple[str, str], float] = {}
-    for family in families(text.decode()):
+    for family in families(metrics_of(state)):
         require(bool(family.documentation) and re.fullmatch(r"(firm|process)_[a-z_]+", family.name), family.name)
         for sample in family.samples:
             key = (sample.name, ",".join(f"{name}={value}" for name, value in sorted(sample.labels.items())))

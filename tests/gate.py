@@ -1,17 +1,20 @@
 #!/usr/bin/env python3
-"""The gate: proves, tests and builds everything, tries the edits, and asks the built program from outside.
+"""The gate: it proves, tests and builds everything, tries the edits, and checks the built program from outside.
 
 usage: tests/gate [--all] [--anew] [--record]
-It works on a copy of the files that git tracks, and of new ones that it does not ignore, so it needs nothing that an
-earlier run left. Its parts: `rt ci`, which proves every crate and its tests and builds and runs every program;
-tests/edits, on the crates that have changed and a quarter of the others, with --all on all of them; tests/quick. Some
-kits keep what `rt ci` has proved on a machine, and take the same files over the same libraries as proved: with --anew
-they prove these again; other kits prove all each time. The edits of must-fail/ are set aside for `rt ci`, which would
-try them one by one: tests/edits tries them with the others, many in one check.
+The tests of service/ need packages of Debian. If one is missing and root runs the gate, the gate installs it; otherwise
+it ends with status 2 and names the command that does.
 
-At its start it says how long that takes by the processors here and the minutes in docs/results/gate.csv, and behind
-each crate how far it is. --record keeps the record of tests/edits. The last line is 'N passed, M failed' over all
-parts; the exit status is 1 where one failed.
+It works on a copy of the files that git tracks, and of new ones that it does not ignore, so it needs nothing from an
+earlier run. Its parts are `rt ci`, which proves every crate and its tests and builds and runs every program;
+tests/edits, on the crates that have changed and a quarter of the others, with --all on all of them; and tests/quick.
+Some kits store the results of `rt ci` on a machine, and accept the same files over the same libraries as proved. With
+--anew they prove these again; other kits always prove all. `rt ci` would try the edits of must-fail/ one by one, so
+they are set aside: tests/edits tries them with the others, many in one check.
+
+At its start it prints the expected time, from the processors here and the minutes in docs/results/gate.csv, and after
+each crate its progress. --record stores the record of tests/edits. The last line is 'N passed, M failed' over all
+parts; the exit status is 1 if one failed.
 """
 
 from __future__ import annotations
@@ -31,31 +34,32 @@ from typing import Callable, NamedTuple
 
 from harness.checks import CannotRun, run_script
 from harness.files import commit_here, tracked_files
+from harness.packages import COMMAND, find_packages, install_packages
 from harness.program import ROOT
 from harness.proving import crates_of_repository, free_bytes
 
 MINUTES = ROOT / "docs" / "results" / "gate.csv"
-EARLY = 0.3  # of the proofs: until then the table alone says how long they take
+EARLY = 0.3  # of the proofs: until then the table alone predicts their time
 OTHER_MINUTES = 1.0  # of a crate that is newer than the table
 QUICK_MINUTES = 10  # of tests/quick, one check at a time
-# What a check takes at most, as measured, and the part of the free memory that checks are given.
+# Measured maximum of a check's memory, and the part of the free memory that checks are given.
 CHECK_BYTES, MEMORY_PART = 4_000_000_000, 0.8
 COUNT = re.compile(r"^(\d+) passed, (\d+) failed$")
 PROVED = re.compile(r"^rt: (\w+)(: its tests are)? proved$")
 MUST_FAIL = "must-fail"
 RECORD = "tests/edits.tried"
-ANEW = "--anew"  # the word of `rt ci` for it, in the kits that keep proofs
+ANEW = "--anew"  # the option of `rt ci`, in the kits that keep proofs
 
 
 class Count(NamedTuple):
-    """How much of a part passed, and how much failed."""
+    """The numbers of passed and failed checks of a part."""
 
     passed: int
     failed: int
 
 
 class Minutes(NamedTuple):
-    """The processor minutes that a crate takes in the gate, on the host where they were measured."""
+    """The processor minutes that a crate takes in the gate, on the host of the measurement."""
 
     proof: float
     tests: float
@@ -69,13 +73,14 @@ def measured_minutes() -> dict[str, Minutes]:
 
 
 def lanes() -> int:
-    """How many checks `rt ci` runs side by side: one a processor, as far as memory holds what they take. It reckons two
-    or three times as much for a check, and would leave processors idle."""
+    """Return the number of checks that `rt ci` runs side by side: one a processor, as far as memory holds them. `rt
+    ci` itself assumes two or three times as much memory for a check, and would leave processors idle."""
     return max(1, min(len(os.sched_getaffinity(0)), int(MEMORY_PART * free_bytes()) // CHECK_BYTES))
 
 
 def proof_minutes(minutes: dict[str, Minutes]) -> float:
-    """How long the proofs and tests take by the clock, no less than the longest chain of crates, each upon the last."""
+    """Return the minutes of the proofs and tests by the clock, no less than those of the longest chain of dependent
+    crates."""
     ends: dict[str, float] = {}
     chain = 0.0
     for crate in crates_of_repository().values():
@@ -90,7 +95,7 @@ def say(text: str) -> None:
 
 
 class Progress:
-    """How far `rt ci` is, by what it has proved and how long that took where it was measured."""
+    """The progress of `rt ci`, by the crates that it has proved and their measured minutes."""
 
     def __init__(self, minutes: dict[str, Minutes]) -> None:
         self.minutes, self.began, self.whole = minutes, time.monotonic(), proof_minutes(minutes)
@@ -98,7 +103,7 @@ class Progress:
         self.done = 0.0
 
     def note(self, line: str) -> None:
-        """Says how far it is where the line tells of a crate that is proved, or of its tests."""
+        """Print the progress if the line reports a proved crate, or its tests."""
         found = PROVED.match(line)
         if not found:
             return
@@ -106,7 +111,7 @@ class Progress:
         crate = self.minutes.get(name, Minutes(OTHER_MINUTES, OTHER_MINUTES, 0))
         self.done = min(self.done + (crate.tests if are_tests else crate.proof), self.all)
         passed = (time.monotonic() - self.began) / 60
-        # The lowest crates are proved one after another, so that what they took tells little of the others.
+        # The lowest crates are proved one after another, so that their time tells little of the others.
         is_early = self.done < EARLY * self.all
         whole = self.whole if is_early else passed * self.all / self.done
         left = max(whole - passed, 0)
@@ -115,7 +120,7 @@ class Progress:
 
 
 def copy_files(place: Path) -> None:
-    """Copies the repository's files to a folder, which git then tracks as a repository of its own."""
+    """Copy the repository's files to a folder, which git then tracks as a separate repository."""
     for path in tracked_files():
         (place / path).parent.mkdir(parents=True, exist_ok=True)
         shutil.copy2(ROOT / path, place / path)
@@ -124,7 +129,7 @@ def copy_files(place: Path) -> None:
 
 
 def run_part(words: list[str], folder: Path, note: Callable[[str], None] = lambda line: None) -> Count:
-    """Runs a part of the gate; its count is its last line, and a part that ends otherwise has failed."""
+    """Run a part of the gate; its count is its last line, and a part that ends otherwise has failed."""
     began, count = time.monotonic(), None
     with subprocess.Popen(words, cwd=folder, stdin=subprocess.DEVNULL, stdout=subprocess.PIPE, text=True) as part:
         for line in part.stdout or ():
@@ -138,13 +143,13 @@ def run_part(words: list[str], folder: Path, note: Callable[[str], None] = lambd
 
 
 def keeps_proofs() -> bool:
-    """Whether the kit's `rt ci` takes what an earlier run proved as proved, unless it is told not to."""
+    """Return whether the kit's `rt ci` accepts the proofs of an earlier run by default."""
     done = subprocess.run(["rt", "help"], stdin=subprocess.DEVNULL, stdout=subprocess.PIPE, stderr=subprocess.STDOUT)
     return ANEW.encode() in done.stdout
 
 
 def prove(copy: Path, minutes: dict[str, Minutes], is_anew: bool) -> Count:
-    """Runs `rt ci`, without the edits."""
+    """Run `rt ci`, without the edits."""
     aside = copy.parent / "aside"
     folders = sorted(copy.glob(f"crates/*/{MUST_FAIL}"))
     for folder in folders:
@@ -160,13 +165,24 @@ def prove(copy: Path, minutes: dict[str, Minutes], is_anew: bool) -> Count:
 
 
 def say_plan(minutes: dict[str, Minutes]) -> None:
-    """Says how long the gate takes here, as far as the table tells."""
+    """Print the gate's expected time here, as far as the table tells."""
     processors = len(os.sched_getaffinity(0))
     proofs = proof_minutes(minutes)
     edits = sum(crate.edits for crate in minutes.values()) / processors
     say(f"on {processors} processors proofs and tests take some {proofs:.0f} minutes, elsewhere half or twice that")
     quick = QUICK_MINUTES / max(1, processors // 2)
-    say(f"behind them come the edits, {edits:.0f} minutes if all are tried, and the program from outside, {quick:.0f}")
+    say(f"then come the edits, {edits:.0f} minutes if all are tried, and the program from outside, {quick:.0f}")
+
+
+def require_packages() -> None:
+    """Install the missing packages for the tests of service/, if root runs the gate."""
+    if find_packages():
+        return
+    if os.geteuid():
+        raise CannotRun(f"the tests of service/ need packages of Debian: {COMMAND}")
+    say(f"the tests of service/ need packages of Debian: {COMMAND}")
+    if not install_packages():
+        say("they could not be installed, so that tests/quick skips what needs them")
 
 
 def main() -> int:
@@ -177,6 +193,7 @@ def main() -> int:
     options = parser.parse_args()
     if shutil.which("rt") is None:
         raise CannotRun("rt of the Rattle kit is not on the PATH")
+    require_packages()
     minutes = measured_minutes()
     say_plan(minutes)
     with tempfile.TemporaryDirectory(prefix="firm-gate-") as name:
@@ -198,7 +215,7 @@ def main() -> int:
 
 
 def stop(number: int, _frame: object) -> None:
-    """Ends as at an interrupt, so that the copy is removed and `rt ci` ended."""
+    """End as at an interrupt, so that the copy is removed and `rt ci` ended."""
     sys.exit(128 + number)
 
 

@@ -1,13 +1,12 @@
-"""Hammers each sleep: a thread that finds nothing sleeps at once, and what a test of the gate does a thousand times is
-done ten thousand times or a million.
+"""Hammer each sleep: a thread that finds nothing sleeps at once, and tests repeat far more often than in the gate.
 
 usage: tools/run tests/hammer.py [--seconds N] [--control]
-It needs the kit, and runs the crates of tests on threads by `rt try --test`, which proves nothing, on a copy of the
-crates: there a thread looks for nothing more before it sleeps, and the counts of the tests are raised. The tests
-themselves ask that their counts are reached; one that hangs fails at the limit of seconds. Each has a line; the exit
-status is 1 where one failed.
+It needs the kit. It runs the crates of tests on threads by `rt try --test`, which proves nothing, on a copy of the
+crates. In that copy a thread doesn't look again before it sleeps, and the counts of the tests are raised. The tests
+themselves require that their counts are reached; a test that hangs fails at the limit of seconds. Each test prints a
+line; the exit status is 1 if one failed.
 
-What happens, and in brackets how often in the gate:
+The events, and in brackets their number in the gate:
 
 - 1,000,000 times (1,000): four callers hand rounds over to two workers, each after the answer to the one before;
 - 1,000,000 times (10,000): four threads put tickets into the queue, four others get them;
@@ -15,7 +14,8 @@ What happens, and in brackets how often in the gate:
 - 10,000 times (2,000): the workers are stopped right after a round;
 - 10,000 times (50): a service sleeps until a round is answered, before it reads the next line.
 
-As a control, --control leaves the notification of a put round away, and the counts as they are: then a test must hang.
+As a control, --control removes the notification of a put round, and leaves the counts as they are: then a test must
+hang.
 """
 
 from __future__ import annotations
@@ -33,13 +33,13 @@ from typing import NamedTuple
 from harness.program import ROOT
 
 CRATES = ("test_rounds", "test_hall")
-# What `rt try` says of a test that it ended at the limit of seconds.
+# `rt try`'s word for a test that it ended at the limit of seconds.
 HANGS = "did not end within the time limit"
 CONTROL_SECONDS = 60
 
 
 class Edit(NamedTuple):
-    """A text that stands once in a file of the crates, and what stands there instead."""
+    """A text that stands once in a file of the crates, and its replacement."""
 
     file: str
     old: str
@@ -47,7 +47,7 @@ class Edit(NamedTuple):
 
 
 class Count(NamedTuple):
-    """A test, its crate, and how its count is raised."""
+    """A test, its crate, and the edits that raise its count."""
 
     crate: str
     test: str
@@ -56,7 +56,7 @@ class Count(NamedTuple):
 
 
 def constant(file: str, name: str, old: str, new: str) -> Edit:
-    """Another value of a constant."""
+    """Return an edit of a constant's value."""
     return Edit(file, f"const {name} = {old};", f"const {name} = {new};")
 
 
@@ -91,13 +91,13 @@ COUNTS = [
     Count(
         "test_hall",
         "wakes::a_round_that_was_asked_before_the_hall_was_shut_is_solved",
-        "10,000 halls shut behind a round",
+        "10,000 halls shut after a round",
         constant("test_hall/src/tests/wakes.rt", "HALLS: u64", "2_000", "10_000"),
     ),
     Count(
         "test_hall",
         "services::each_reply_is_written_before_the_next_line_comes",
-        "10,000 lines, each behind the reply before",
+        "10,000 lines, each after the reply before",
         constant("test_hall/src/tests/services.rt", "LINES_ASKED: u64", "50", "10_000"),
     ),
 ]
@@ -110,7 +110,7 @@ NO_NOTIFICATION = Edit(
 
 
 class Ended(NamedTuple):
-    """What a run of the tests said, whether all passed, and its seconds."""
+    """A run's output, whether all tests passed, and its seconds."""
 
     said: str
     is_well: bool
@@ -118,7 +118,7 @@ class Ended(NamedTuple):
 
 
 def copy_to(folder: Path) -> None:
-    """The crates, without what was built."""
+    """Copy the crates, without built files."""
     shutil.copytree(ROOT / "crates", folder / "crates", ignore=shutil.ignore_patterns("out"))
     for name in ("crates.txt", "HANDLES"):
         shutil.copy(ROOT / name, folder / name)
@@ -134,8 +134,8 @@ def apply(edits: list[Edit], folder: Path) -> None:
 
 
 def run_tests(crate: str, edits: list[Edit], seconds: int, only: str = "") -> Ended:
-    """The tests of a crate over crates so edited, or those whose names have these words, with this number of seconds
-    for each."""
+    """Run the tests of a crate over crates so edited, or those whose names have these words, with this number of
+    seconds for each."""
     with tempfile.TemporaryDirectory(prefix="firm-hammer-") as name:
         folder = Path(name)
         copy_to(folder)
@@ -154,7 +154,7 @@ def run_tests(crate: str, edits: list[Edit], seconds: int, only: str = "") -> En
 
 
 def hammer(seconds: int) -> bool:
-    """Whether all tests pass with no looks and the raised counts, those of the counts among them."""
+    """Return whether all tests pass with no looks and the raised counts, the tests of the counts among them."""
     return all([hammer_crate(crate, seconds) for crate in CRATES])
 
 
@@ -172,7 +172,7 @@ def hammer_crate(crate: str, seconds: int) -> bool:
 
 
 def is_found() -> bool:
-    """Whether a test hangs where no worker is notified of a round that is put."""
+    """Return whether a test hangs if no worker is notified of a new round."""
     ended = run_tests("test_hall", [*NO_LOOKS, NO_NOTIFICATION], CONTROL_SECONDS, HAND_OVERS)
     hangs = not ended.is_well and HANGS in ended.said
     verdict = "passed" if hangs else "FAILED"
@@ -184,7 +184,9 @@ def is_found() -> bool:
 
 def main() -> int:
     parser = argparse.ArgumentParser(description=__doc__.splitlines()[0])
-    parser.add_argument("--seconds", type=int, default=3600, help="the limit of each test (default: %(default)s)")
+    parser.add_argument(
+        "--seconds", type=int, default=3600, help="limit of seconds for each test (default: %(default)s)"
+    )
     parser.add_argument("--control", action="store_true", help="leave a notification away, which a test must find")
     options = parser.parse_args()
     return 0 if (is_found() if options.control else hammer(options.seconds)) else 1

@@ -1,9 +1,9 @@
-"""Does to firmd what hostile tenants, readers and a poor host can do, and looks whether all others are served.
+"""Check that firmd serves all others whatever hostile tenants, hostile readers and a poor host do.
 
 usage: tools/run tests/hostile.py [--quick] [--only WORDS] [--program FILE] [--seed N]
-Each check has a line; the last line is 'N passed, M failed', and the exit status is 1 where one failed. It needs Python
+Each check prints a line; the last line is 'N passed, M failed', and the exit status is 1 if one failed. It needs Python
 3 and the built program; HTTP needs python3-aiohttp and python3-prometheus-client, for this Python or Debian's, and
-descriptors prlimit. What can't be asked here is said and skipped. --quick sends fewer HTTP requests.
+descriptors prlimit. A check that can't run here is skipped with a line. --quick sends fewer HTTP requests.
 """
 
 from __future__ import annotations
@@ -18,7 +18,6 @@ import socket
 import subprocess
 import sys
 import time
-import urllib.request
 from collections.abc import Iterator
 from concurrent.futures import ThreadPoolExecutor
 from contextlib import ExitStack, contextmanager, suppress
@@ -28,36 +27,22 @@ from pathlib import Path
 import firmd_kit
 from firmd_kit import FIRMD, REPLY_SECONDS, ROWS, Client, Daemon, Gone, Setup, wait_for
 from harness import program
-from harness.checks import Check, Skipped, Suite, print_skipped, require, run_script, run_suites
+from harness.checks import Check, Skipped, Suite, require, run_script, run_suites
 from harness.deployed import HIGH_WATER, TICK_SECONDS
-from harness.ports import free_port
 from journal_kit import MOVED, QUESTIONS
 
 CHECKS_AT_A_TIME = 4
 UNREAD_LINES = 10_000
 NO_HTTP = f"neither {sys.executable} nor /usr/bin/python3 has aiohttp and prometheus_client"
 ALL_SECONDS = 120.0  # for a hundred thousand lines on a busy host
-SOON_SECONDS = 0.3  # in which something that must not happen would have happened
-MEANWHILE_SECONDS = 30.0  # for what must happen while firm stands still, on a busy host
-PATIENT = ("--firm-timeout", "600")  # where a check has firm stand still
-REQUEST = b"GET /metrics HTTP/1.1\r\nHost: localhost\r\nAccept: text/html\r\nConnection: close\r\n\r\n"
-# Requests at which parsers have failed.
-REQUESTS = [
-    b"GET http://[::1 HTTP/1.1\r\nHost: localhost\r\n\r\n",
-    b"GET //[ HTTP/1.1\r\n\r\n",
-    b"GET http://[v1.x]:99999/ HTTP/1.1\r\n\r\n",
-    b"GET http://a:b:c/ HTTP/1.1\r\nHost: localhost\r\n\r\n",
-    b"CONNECT [ HTTP/1.1\r\n\r\n",
-    b"GET /%zz%\xff HTTP/1.1\r\nHost: \xff\r\n\r\n",
-    b"GET / HTTP/1.1\r\nContent-Length: -1\r\n\r\n",
-    b"GET / HTTP/1.1\r\nTransfer-Encoding: chunked\r\n\r\nzz\r\n",
-    b"\0" * 300,
-]
+SOON_SECONDS = 0.3  # a forbidden event would have happened in this time
+MEANWHILE_SECONDS = 120.0  # for events during a stop of firm, on a busy host
+PATIENT = ("--firm-timeout", "600")  # for a check that stops firm
 
 
 @cache
 def python_with_http() -> str | None:
-    """A Python that has what HTTP needs: this one, or Debian's."""
+    """Return a Python with the packages for HTTP: this one, or Debian's."""
     for python in (sys.executable, "/usr/bin/python3"):
         words = [python, "-c", "import aiohttp, prometheus_client"]
         with suppress(FileNotFoundError):
@@ -66,22 +51,30 @@ def python_with_http() -> str | None:
     return None
 
 
-def with_http(daemon: Daemon) -> int:
-    """Has firmd serve HTTP; the port."""
+def with_metrics(daemon: Daemon) -> None:
+    """Run firmd with the Python that gives its view metrics."""
     python = python_with_http()
     if python is None:
         raise Skipped(NO_HTTP)
-    port = free_port()
     daemon.words = [python, *daemon.words[1:]]
-    daemon.options += ["--http", f"127.0.0.1:{port}"]
-    return port
 
 
-def faults_of(port: int) -> dict[str, float]:
-    """The metric of faults by part."""
-    with urllib.request.urlopen(f"http://127.0.0.1:{port}/metrics", timeout=REPLY_SECONDS) as answer:
-        rows = [row for row in answer.read().decode().splitlines() if row.startswith("firm_faults_total{")]
-    return {row.split('"')[1]: float(row.split()[-1]) for row in rows}
+def metrics_text(daemon: Daemon) -> str:
+    """Return the metrics of firmd's view."""
+    with view_of(daemon) as view:
+        return str(json.loads(view.ask(b'{"ask": "metrics"}'))["metrics"])
+
+
+def metrics_of(daemon: Daemon) -> dict[str, float]:
+    """Return the same by name and labels."""
+    rows = [row for row in metrics_text(daemon).splitlines() if not row.startswith("#")]
+    return {name: float(value) for name, _, value in (row.rpartition(" ") for row in rows)}
+
+
+def faults_of(daemon: Daemon) -> dict[str, float]:
+    """Return the metric of faults by part."""
+    found = {name: value for name, value in metrics_of(daemon).items() if name.startswith("firm_faults_total{")}
+    return {name.split('"')[1]: value for name, value in found.items()}
 
 
 def is_served(daemon: Daemon) -> None:
@@ -90,7 +83,7 @@ def is_served(daemon: Daemon) -> None:
 
 
 def ends_well(daemon: Daemon) -> None:
-    """SIGTERM ends it with 0, whatever it has told."""
+    """SIGTERM ends it with 0, whatever it has reported."""
     daemon.running().send_signal(signal.SIGTERM)
     status = daemon.status()
     require(status == 0, f"status {status} at its stop: {daemon.said().decode()}")
@@ -100,7 +93,7 @@ def ends_well(daemon: Daemon) -> None:
 
 
 def names_of_refusals(setup: Setup) -> None:
-    """A round whose reply ends as a refusal of memory does is obeyed in each replay."""
+    """A round whose reply ends like a refusal of memory is obeyed in each replay."""
     for number in (signal.SIGKILL, signal.SIGTERM):
         with setup.daemon() as daemon:
             daemon.start()
@@ -132,68 +125,21 @@ def names_of_changes(setup: Setup) -> None:
                 time.sleep(0.02)
             time.sleep(SOON_SECONDS)
             _, _, behind = daemon.journal().partition(b"alpha task j b\n")
-            # One that was asked for before that line was answered, and one for it.
+            # One round that was requested before that line's reply, and one for the line.
             require(behind.count(b" round\n") <= 2, f"rounds without a change: {behind!r}")
         daemon.stop()
 
 
-# HTTP and views.
-
-
-def exchange(port: int, text: bytes, seconds: float = 0.5) -> None:
-    """Sends a request, and reads what comes until the connection is closed, or no more comes for some time."""
-    with suppress(OSError), socket.create_connection(("127.0.0.1", port), timeout=REPLY_SECONDS) as client:
-        client.settimeout(seconds)
-        client.sendall(text)
-        client.shutdown(socket.SHUT_WR)
-        while client.recv(65536):
-            pass
-
-
-def fuzzed(draw: random.Random) -> bytes:
-    """A request with some bytes changed, cut out, repeated, or put in the place of others."""
-    text = bytearray(draw.choice([REQUEST, *REQUESTS]))
-    for _ in range(draw.choice([1, 1, 2, 5])):
-        place = draw.randrange(len(text))
-        match draw.randrange(4):
-            case 0:
-                text[place] = draw.randrange(256)
-            case 1:
-                text[place:place] = draw.choice([b"[", b"]", b"://", b"@", b":", b"%", b"\r\n", b"\0", b" " * 9000])
-            case 2:
-                del text[place : place + draw.randrange(1, 9)]
-            case _:
-                text[place:place] = text[: draw.randrange(len(text))]
-        if not text:
-            text += REQUEST
-    return bytes(text)
-
-
-def hostile_requests(setup: Setup) -> None:
-    """No HTTP request ends firmd, whatever its parser makes of it; what can't be served is closed and counted."""
-    draw = random.Random(setup.seed)
-    with setup.daemon() as daemon:
-        port = with_http(daemon)
-        daemon.start()
-        for text in REQUESTS:
-            exchange(port, text)
-            is_served(daemon)
-        with ThreadPoolExecutor(8) as pool:
-            list(pool.map(partial(exchange, port), [fuzzed(draw) for _ in range(200 if setup.is_quick else 2_000)]))
-        is_served(daemon)
-        wait_for(lambda: faults_of(port)["http"] >= 1, "a fault is counted")
-        require(daemon.said().count(b"Traceback") <= 20, "each kind of fault is told once")
-        ends_well(daemon)
-
+# Views.
 
 PATCHED = """\
 import sys
 {patch}
-from firm_service.{program} import main
+from firm.{program} import main
 sys.exit(main())
 """
 FAULTY = """\
-from firm_service import clients
+from firm.server import clients
 def answered(self, replies, count, original=clients.Client.answered):
     if b"beta" in replies:
         raise KeyError("unforeseen")
@@ -201,39 +147,37 @@ def answered(self, replies, count, original=clients.Client.answered):
 clients.Client.answered = answered
 """
 FAULTY_VIEWER = """\
-from firm_service import view
+from firm.viewer import view
 def fail(*_):
     raise KeyError("unforeseen")
-view.status_of = view.Connection.tell = fail
-if {has_http}:
-    from firm_service import web
-    web.page_of = fail
+view.status_of = view.Connection.send = fail
 """
 
 
 def patched(daemon: Daemon, name: str, program: str, text: str) -> str:
-    """A script that runs a program with parts in the place of its own."""
+    """Return a script that runs a program with some parts replaced."""
     script = daemon.folder / name
     script.write_text(PATCHED.format(program=program, patch=text))
     return str(script)
 
 
 def patch(daemon: Daemon, text: str) -> None:
-    """Has firmd run with parts in the place of its own."""
-    daemon.words = [daemon.words[0], patched(daemon, "patched.py", "daemon", text)]
+    """Run firmd with some parts replaced."""
+    daemon.words = [daemon.words[0], patched(daemon, "patched.py", "server.daemon", text)]
 
 
 def patch_viewer(daemon: Daemon, text: str, of_firmd: str = "") -> None:
-    """The same of its process for readers, and of firmd."""
-    viewer = patched(daemon, "firm-viewer", "viewer", text)
-    patch(daemon, f"from firm_service import feeder\nfeeder.PROGRAM = {viewer!r}\n{of_firmd}")
+    """Run its process for readers, and firmd, with some parts replaced."""
+    viewer = patched(daemon, "firm-viewer", "viewer.daemon", text)
+    replaced = f"import sys\nfeeder.program_words = lambda *_: [sys.executable, {viewer!r}]\n"
+    patch(daemon, f"from firm.server import feeder\n{replaced}{of_firmd}")
 
 
 def unforeseen_faults(setup: Setup) -> None:
-    """A fault of a view, a watcher, a page or a client closes its connection; it is told once, and all else goes on."""
+    """A fault of a view, a watcher or a client closes its connection; it is reported once, and all else goes on."""
     with setup.daemon() as daemon:
-        port = with_http(daemon) if python_with_http() is not None else 0
-        patch_viewer(daemon, FAULTY_VIEWER.format(has_http=bool(port)), FAULTY)
+        with_metrics(daemon)
+        patch_viewer(daemon, FAULTY_VIEWER, FAULTY)
         daemon.start()
         with view_of(daemon) as watcher, daemon.client() as client:
             require(b'"book"' in watcher.ask(b'{"ask": "watch", "tenant": "alpha"}'), "the rows")
@@ -247,16 +191,12 @@ def unforeseen_faults(setup: Setup) -> None:
                 with daemon.client() as other:
                     other.send(b"beta show\n")
                     require(other.rest() == b"", "the client is closed")
-            with view_of(daemon) as view:
-                require(b'"tasks"' in view.ask(b'{"ask": "tasks"}'), "other questions are answered")
             require(client.ask(b"alpha show").startswith(b"alpha 4 ok"), "other clients are answered")
-        if port:
-            for _ in range(2):
-                page = b"GET /tenants/alpha.json HTTP/1.1\r\nHost: localhost\r\nConnection: close\r\n\r\n"
-                exchange(port, page, REPLY_SECONDS)
-            wait_for(lambda: faults_of(port) == {"client": 3, "http": 2, "view": 4}, "each fault is counted")
+        wait_for(
+            lambda: faults_of(daemon) == {"client": 3, "view": 4}, "other questions are answered, and faults counted"
+        )
         told = daemon.said().count(b"Traceback")
-        require(told == (4 if port else 3), f"{told} told: {daemon.said().decode()}")
+        require(told == 3, f"{told} told: {daemon.said().decode()}")
         ends_well(daemon)
 
 
@@ -265,7 +205,7 @@ def unforeseen_faults(setup: Setup) -> None:
 
 @contextmanager
 def crowd(path: Path, count: int) -> Iterator[None]:
-    """Holds so many connections, most of which wait to be accepted."""
+    """Hold this number of connections, most of which wait to be accepted."""
     with ExitStack() as held:
         for _ in range(count):
             client = held.enter_context(socket.socket(socket.AF_UNIX))
@@ -288,7 +228,7 @@ def used_up_descriptors(setup: Setup) -> None:
         daemon.words = ["prlimit", "--nofile=100:100", *FIRMD]
         daemon.start()
         with Client(daemon.folder / "beta") as client, crowd(daemon.folder / "alpha", 500):
-            wait_for(lambda: b"out of descriptors" in daemon.said(), "descriptors are used up")
+            wait_for(lambda: b"out of file descriptors" in daemon.said(), "descriptors are used up")
             for number in range(1, 1_501):
                 require(client.ask(b"beta show").startswith(b"beta %d ok" % number), number)
             with Client(daemon.folder / "beta") as other:
@@ -303,12 +243,12 @@ FILLED = """\
 import os, resource, sys
 from pathlib import Path
 from zlib import crc32
-from firm_service.journal import Journal, Room
-from firm_service.records import Batch
-from firm_service.state import State
-state = State(Path({state!r}))
+from firm.server.journal import Journal, SegmentLimit
+from firm.server.records import JournalBatch
+from firm.server.state import ServiceState
+state = ServiceState(Path({state!r}))
 state.roster_sum = crc32(state.roster_path.read_bytes())
-journal = Journal(state, Room(300))
+journal = Journal(state, SegmentLimit(300))
 journal.on_shortage = lambda: sys.exit(f"segment {{len(journal.found.segments) + 1}} has no descriptor")
 resource.setrlimit(resource.RLIMIT_NOFILE, (64, 64))
 def fill():
@@ -319,14 +259,14 @@ def fill():
         pass
 fill()
 while len(journal.found.segments) < 5:
-    journal.append([Batch(b"*:0", b"alpha show\\n" * 5, 5)])
+    journal.append([JournalBatch(b"*:0", b"alpha show\\n" * 5, 5)])
     fill()
 print(len(journal.found.segments))
 """
 
 
 def spare_descriptor(setup: Setup) -> None:
-    """The descriptor that is held for segments is there for each, while others take all that become free."""
+    """The descriptor reserved for segments is available for each, while others take all that become free."""
     with setup.daemon() as daemon:
         daemon.state.mkdir()
         (daemon.state / "roster.csv").write_bytes(firmd_kit.ROSTER)
@@ -337,7 +277,7 @@ def spare_descriptor(setup: Setup) -> None:
 
 LACKING = """\
 import os
-from firm_service import lanes, stream
+from firm.server import stream, tenant_queues
 def lacking(*words, original={where}):
     if os.path.exists({flag!r}):
         raise MemoryError
@@ -347,8 +287,8 @@ def lacking(*words, original={where}):
 
 
 def lacking_memory(setup: Setup) -> None:
-    """Memory that is refused to firmd itself ends it with 1, and its next start has all that was answered."""
-    for where in ("stream.batches_of", "stream.Stream._answer_share", "lanes.Lanes.next"):
+    """If firmd itself is refused memory, it ends with 1, and its next start has all answered lines."""
+    for where in ("stream.journal_batches_of", "stream.Stream._answer_batch", "tenant_queues.TenantQueues.next"):
         with setup.daemon() as daemon:
             flag = daemon.folder / "flag"
             patch(daemon, LACKING.format(where=where, flag=str(flag)))
@@ -372,26 +312,26 @@ def view_of(daemon: Daemon) -> Client:
 
 
 def status_of(daemon: Daemon) -> dict[str, int]:
-    """What firmd tells of itself."""
+    """Return firmd's own status."""
     with view_of(daemon) as view:
         found: dict[str, int] = json.loads(view.ask(b'{"ask": "status"}'))["status"]
         return found
 
 
 def leave_unread(daemon: Daemon, client: Client) -> bool:
-    """Has a client leave from 256 KiB to 560,000 bytes of replies unread; whether one was closed for it."""
+    """Leave from 256 KiB to 560,000 bytes of replies to a client unread; return whether one was closed for it."""
     before = status_of(daemon)["unread_replies"]
-    client.send(b"alpha show\n" * UNREAD_LINES)  # whose replies have 770,000 bytes, of which the system takes some
+    client.send(b"alpha show\n" * UNREAD_LINES)  # whose replies have 770,000 bytes, some of which the system buffers
 
     def is_closed() -> bool:
-        return b"left more unread than they may" in daemon.said()
+        return b"unread replies exceed their bound" in daemon.said()
 
     wait_for(lambda: is_closed() or status_of(daemon)["unread_replies"] > before + HIGH_WATER, "it is not read")
     return is_closed()
 
 
 def bounded_replies(setup: Setup) -> None:
-    """Clients that leave more unread together than they may lose the newest of the socket with most, and no other."""
+    """If clients together leave too much unread, the newest of the socket with most are closed, and no other."""
     for bound in ("--most-unread-of-socket", "--most-unread-in-all"):
         with setup.daemon(bound, "1500000") as daemon, ExitStack() as held:
             daemon.options += ["--client", f"alpha={daemon.folder / 'alpha'}"]
@@ -444,7 +384,7 @@ def bounded_lines(setup: Setup) -> None:
 
 
 def bounded_in_all(setup: Setup) -> None:
-    """Sockets that are owed as much as all may be keep nobody out who is owed little: a tenant and the operator."""
+    """Sockets that are owed the bound of all keep out nobody with few pending replies: a tenant and the operator."""
     crowd = [b"alpha", b"gamma", b"delta", b"omega"]
     roster = firmd_kit.ROSTER + b"".join(b"%b,30,300,1000000000,1,2\n" % name for name in crowd[1:])
 
@@ -483,7 +423,7 @@ def bounded_in_all(setup: Setup) -> None:
 
 
 def bounded_refusals(setup: Setup) -> None:
-    """Lines that firmd refuses itself count too, while they wait behind others of their client."""
+    """Lines that firmd itself refuses count too, while they wait after others of their client."""
     text = b"alpha round\n" * 2 + b"A\n+\n" * 500
     with setup.daemon("--most-unanswered-of-socket", "200000", *PATIENT) as daemon, ThreadPoolExecutor(10) as pool:
         daemon.start()
@@ -509,14 +449,14 @@ def bounded_refusals(setup: Setup) -> None:
 
 
 def refused_connections(setup: Setup) -> None:
-    """Connections beyond those that a socket may have, however many, leave nothing in memory once they are closed."""
+    """Connections beyond a socket's bound, however many, leave nothing in memory once they are closed."""
     with setup.daemon("--most-clients", "2") as daemon, ExitStack() as held:
         daemon.start()
         for _ in range(2):
             held.enter_context(daemon.client())
 
         def refused(count: int) -> int:
-            """firmd's memory behind so many."""
+            """Return firmd's memory after this number of connections."""
             for _ in range(count):
                 with daemon.client() as client:
                     require(client.rest().startswith(b"? too-many-clients"), client.received)
@@ -529,12 +469,12 @@ def refused_connections(setup: Setup) -> None:
 
 
 def gone_before_their_turn(setup: Setup) -> None:
-    """Connections that are lost while they wait to be read further, however many, leave nothing in memory."""
+    """Connections that end while they wait for their turn to be read, however many, leave nothing in memory."""
     with setup.daemon("--bytes-a-second-of-socket", "1") as daemon:
         daemon.start()
 
         def lost(count: int) -> int:
-            """firmd's memory behind so many."""
+            """Return firmd's memory after this number of connections."""
             for _ in range(count):
                 with daemon.client() as client:
                     client.socket.shutdown(socket.SHUT_RD)  # so its first reply can't be written
@@ -550,7 +490,7 @@ def gone_before_their_turn(setup: Setup) -> None:
 
 
 def read_again(setup: Setup) -> None:
-    """A client that fails as it is to be read again is lost alone: all others are read."""
+    """A client that fails just when firmd resumes reading it is lost alone: all others are read."""
     with setup.daemon() as daemon:
         patch(daemon, FAILING_CLIENT)
         daemon.start()
@@ -564,14 +504,27 @@ def read_again(setup: Setup) -> None:
         ends_well(daemon)
 
 
+def gone_as_it_reads(setup: Setup) -> None:
+    """A client that leaves just as firmd resumes writing its replies is closed, and is no fault."""
+    with setup.daemon() as daemon:
+        patch(daemon, GONE)
+        daemon.start()
+        with daemon.client() as client:
+            client.send(b"alpha show\n" * UNREAD_LINES)
+            wait_for(lambda: status_of(daemon)["unread_replies"] > HIGH_WATER, "it has not read its replies")
+            require(0 < client.rest().count(b"\n") < UNREAD_LINES, "it is closed")
+        is_served(daemon)
+        daemon.stop()
+
+
 def repeated_faults(setup: Setup) -> None:
-    """A reader that fails each time it is called ends firmd with 1, instead of a busy loop."""
-    for module, name in (("stream", "READ_BYTES"), ("accept", "AT_ONCE")):
+    """A reader that fails at each call ends firmd with 1, instead of a busy loop."""
+    for module, name in (("server.stream", "READ_BYTES"), ("common.accept", "AT_ONCE")):
         with setup.daemon() as daemon:
-            patch(daemon, f"from firm_service import {module}\n{module}.{name} = 'none'")
+            patch(daemon, f"import firm.{module}\nfirm.{module}.{name} = 'none'")
             daemon.start()
             with daemon.client() as client:
-                with suppress(Gone):  # where `accept` fails, it may have ended before this
+                with suppress(Gone):  # if `accept` fails, it may have ended before this
                     client.send(b"alpha show\n")
                 require(daemon.status() == 1, daemon.said())
             require(b"fails each time: TypeError" in daemon.said(), daemon.said())
@@ -596,10 +549,10 @@ def start(self, original=threading.Thread.start):
     original(self)
 threading.Thread.start = start
 """
-# At SIGUSR1 it is chosen which clients are read, and the first fails.
+# SIGUSR1 starts the choice of clients to read, and the first one fails.
 FAILING_CLIENT = """\
 import asyncio, signal
-from firm_service import clients
+from firm.server import clients
 failing = []
 def choose_reading(self, original=clients.Client.choose_reading):
     if failing:
@@ -613,19 +566,28 @@ def __init__(self, *words, original=clients.Clients.__init__):
     asyncio.get_running_loop().add_signal_handler(signal.SIGUSR1, fail)
 clients.Client.choose_reading, clients.Clients.__init__ = choose_reading, __init__
 """
-# All lines of a client are taken, however many replies it has left unread when the later ones come.
-NEVER_HELD = "from firm_service import clients\nclients.HIGH_WATER = 1 << 30\n"
+# A client leaves just when it has read the system's buffer.
+GONE = """\
+import socket
+from firm.server import clients
+def resume_writing(self, original=clients.Client.resume_writing):
+    self.transport.get_extra_info("socket").shutdown(socket.SHUT_WR)
+    original(self)
+clients.Client.resume_writing = resume_writing
+"""
+# All lines of a client are accepted, however many replies it has left unread when the later ones arrive.
+NEVER_HELD = "from firm.server import clients\nclients.HIGH_WATER = 1 << 30\n"
 FAILING = """\
-from firm_service import stream
-def fail(self, original=stream.Firm.{call}):
+from firm.server import stream
+def fail(self, original=stream.FirmProcess.{call}):
     original(self)
     raise MemoryError
-stream.Firm.{call} = fail
+stream.FirmProcess.{call} = fail
 """
 
 
 def refused_threads(setup: Setup) -> None:
-    """A host that gives no further thread can't keep firmd from its end; at its start it says so."""
+    """A host without a further thread can't keep firmd from its end; at its start firmd reports it."""
     with setup.daemon() as daemon:
         flag = daemon.folder / "flag"
         patch(daemon, THREADLESS.format(flag=str(flag)))
@@ -637,19 +599,19 @@ def refused_threads(setup: Setup) -> None:
 
 
 def successors_socket(setup: Setup) -> None:
-    """A firmd that ends slowly leaves the socket of its successor alone; a client that reads nothing delays no end for
-    long."""
+    """A firmd that ends slowly leaves the socket of its successor alone. A client that reads nothing delays no end
+    for long."""
     with setup.daemon() as daemon, setup.daemon() as other:
         patch(daemon, NEVER_HELD + "clients.STOP_SECONDS = clients.LINGER_SECONDS = 600.0")
         patch(other, NEVER_HELD)
         daemon.start()
         with daemon.client() as slow:
-            slow.send(b"alpha show\n" * 8_000)  # whose replies are not read
+            slow.send(b"alpha show\n" * 8_000)  # its replies are not read
             wait_for(lambda: daemon.journal().count(b"\n") == 8_000, "its lines are taken")
             daemon.running().send_signal(signal.SIGTERM)
             wait_for(lambda: b"stopping" in daemon.said(), "it stops")
             other.options = ["--client", f"beta={daemon.any}"]
-            for _ in range(100):  # until the first does not listen any more
+            for _ in range(100):  # until the first no longer listens
                 other.spawn()
                 wait_for(lambda: other.running().poll() is not None or b"ready" in other.said(), "it starts")
                 if b"ready" in other.said():
@@ -667,7 +629,6 @@ def successors_socket(setup: Setup) -> None:
 CHECKS = [
     names_of_refusals,
     names_of_changes,
-    hostile_requests,
     unforeseen_faults,
     used_up_descriptors,
     spare_descriptor,
@@ -679,6 +640,7 @@ CHECKS = [
     refused_connections,
     gone_before_their_turn,
     read_again,
+    gone_as_it_reads,
     repeated_faults,
     failed_waits,
     refused_threads,
@@ -690,14 +652,14 @@ def main() -> int:
     parser = argparse.ArgumentParser(description=(__doc__ or "").splitlines()[0])
     parser.add_argument("--quick", action="store_true", help="the part that tests/quick runs")
     program.add_program(parser)
-    parser.add_argument("--only", default="", help="nothing but the checks whose names have these words")
-    parser.add_argument("--seed", type=int, default=random.randrange(10**6), help="of the requests (default: any)")
+    parser.add_argument("--only", default="", help="run only the checks whose names have these words")
+    parser.add_argument(
+        "--seed", type=int, default=random.randrange(10**6), help="seed of the requests (default: any)"
+    )
     options = parser.parse_args()
     print(f"seed {options.seed}", flush=True)
     setup = Setup(options.program, options.quick, options.seed)
     named: dict[str, Check] = {check.__name__.replace("_", " "): partial(check, setup) for check in CHECKS}
-    if python_with_http() is None:
-        print_skipped("unforeseen faults, in the page", NO_HTTP)
     chosen = {name: check for name, check in named.items() if options.only in name}
     return run_suites(Suite(chosen, CHECKS_AT_A_TIME))
 

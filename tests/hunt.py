@@ -1,13 +1,13 @@
-"""Hunts for books for which the proposal of a round gives up, and compares each round with one found by searches alone.
+"""Hunt for books for which the proposal of a round gives up, and compare each round with one found by searches alone.
 
 usage: tools/run tests/hunt.py [--measure FILE] [--minutes M] [--seed S] [--sizes 6x4,..]
-It breeds books of near ties, full machines and many preferences (harness/bred.py): of those with a like tenant and
-length, the ones whose rounds' proposals took most looks for each row are kept, changed and crossed. A book for which a
-proposal gave up is made smaller as long as one does, and kept under out/tests. The time is shared alike by the sizes,
-each the most tasks and machines of a new book, and by layers and crowds, as large as a tenant may be. The last table
-tells how many rounds were shown, and how near the most looks of a proposal came to those that are allowed. Of large
-books one in a hundred is compared. The exit status is 1 where a round differs, a proposal gave up, or one took more
-than three quarters of the looks that are allowed.
+It breeds books of near ties, full machines and many preferences (harness/bred.py). Of books with a like tenant and
+length, it selects those whose rounds' proposals took most looks for each row, and changes and crosses them. A book for
+which a proposal gave up is made smaller as long as one does, and stored under out/tests. The time is shared equally by
+the sizes, each the most tasks and machines of a new book, and by layers and crowds, as large as a tenant may be. The
+last table has the number of rounds, and the most looks of a proposal as a part of the allowed ones. Of large books one
+in a hundred is compared. The exit status is 1 if a round differs, a proposal gave up, or one took more than three
+quarters of the allowed looks.
 """
 
 from __future__ import annotations
@@ -28,14 +28,14 @@ from harness.kinds import read_size
 from harness.service import FULL_HEADING
 
 SIZES = "6x4,24x8,120x40,1000x350"
-MOST_LOOKS = 1 << 26  # for a proposal, by firm_tenant
-MOST_TENANTS = 64
+MAX_LOOKS = 1 << 26  # for a proposal, by firm_tenant
+MAX_TENANTS = 64
 LINES_AT_A_TIME = 4_000  # of all books that are played in one run
-MOST_LINES = 30_000  # of a book
+MAX_LINES = 30_000  # of a book
 LARGE = 500  # tasks; searches alone take a hundred times as long there as proposals
 COMPARED_OF_LARGE = 0.01
 KEPT = 12  # in each group
-MOST_TOLD = 20  # rounds that were given up, of a kind
+MAX_TOLD = 20  # abandoned rounds, of a kind
 LIMIT_SECONDS = 600
 
 Group = tuple[bool, bool, bool, int]
@@ -50,14 +50,14 @@ class Options:
 
 
 class Round(NamedTuple):
-    """What a round took: searches, where its proposal gave up, and looks of its proposal."""
+    """A round's work: searches, if its proposal gave up, and looks of its proposal."""
 
     searches: int
     proposed: int
 
 
 class Played(NamedTuple):
-    """A book's rounds, and whether some reply is not that of searches alone; None where that was not asked."""
+    """A book's rounds, and whether some reply differs from that of searches alone; None without that comparison."""
 
     seed: Seed
     book: Book
@@ -71,7 +71,7 @@ class Played(NamedTuple):
         return max((each.proposed for each in self.rounds), default=0)
 
     def score(self) -> float:
-        """The most looks of a round for each line of the book that adds a row; small books count less."""
+        """Return the most looks of a round for each line of the book that adds a row; small books count less."""
         rows = sum(line[0] in ("machine", "task") for line in self.book.lines)
         return self.most_looks() / (rows + 10)
 
@@ -79,20 +79,20 @@ class Played(NamedTuple):
         return self.differs is True
 
     def group(self) -> Group:
-        """What books it is compared with."""
+        """Return the group of books for comparisons."""
         spread, churn, remote, _ = self.book.numbers
         return spread > 0, churn > 0, remote > 0, len(self.book.lines).bit_length()
 
 
 def answers(words: list[str], roster: str, text: str) -> list[str]:
-    """What a run of the program that measures prints."""
+    """Return the output of a run of the program that measures."""
     done = program.run(words, roster, text.encode(), seconds=LIMIT_SECONDS)
     require(done.status == 0, f"{words}: status {done.status}, {done.faults.decode()}")
     return done.output.decode().splitlines()
 
 
 def play(measure: str, seeds: Sequence[Seed], is_compared: bool = True) -> list[Played]:
-    """Plays some books, each for a tenant of its own, by proposals and, to compare them, by searches alone."""
+    """Play some books, each for its tenant, by proposals and, to compare them, by searches alone."""
     books = [seed.book() for seed in seeds]
     names = [f"t{number}" for number in range(len(books))]
     records = [b",".join(FULL_HEADING).decode(), *(book.record(name) for name, book in zip(names, books))]
@@ -115,7 +115,7 @@ def play(measure: str, seeds: Sequence[Seed], is_compared: bool = True) -> list[
 
 
 def smaller_books(book: Book, length: int) -> Iterator[Book]:
-    """The book without each run of lines of this length."""
+    """Yield the book without each run of lines of this length."""
     for begin in range(0, len(book.lines), length):
         lines = book.lines[:begin] + book.lines[begin + length :]
         if lines:
@@ -123,13 +123,13 @@ def smaller_books(book: Book, length: int) -> Iterator[Book]:
 
 
 def made_smaller(measure: str, book: Book, is_wanted: Callable[[Played], bool]) -> Book:
-    """The book with no line that it can do without and still be wanted."""
+    """Return the book without every line that it can lose and still be wanted."""
     length = (len(book.lines) + 1) // 2
     while length:
         found = None
         books = list(smaller_books(book, length))
-        for begin in range(0, len(books), MOST_TENANTS):
-            played = play(measure, books[begin : begin + MOST_TENANTS])
+        for begin in range(0, len(books), MAX_TENANTS):
+            played = play(measure, books[begin : begin + MAX_TENANTS])
             found = next((each.book for each in played if is_wanted(each)), None)
             if found is not None:
                 break
@@ -141,7 +141,7 @@ def made_smaller(measure: str, book: Book, is_wanted: Callable[[Played], bool]) 
 
 
 def keep(name: str, book: Book) -> str:
-    """Keeps a book under out/tests, where it can be played by hand; gives where."""
+    """Store a book under out/tests, where it can be played by hand; return the path."""
     roster = b",".join(FULL_HEADING) + b"\n" + book.record("t").encode() + b"\n"
     return str(program.keep(f"hunt-{name}", roster, book.text("t").encode()))
 
@@ -168,11 +168,11 @@ class Hunt:
     longest: Played | None = None  # of the most looks
 
     def step(self) -> None:
-        """Plays some books, and keeps those that are harder than others."""
+        """Play some books, and keep those that are harder than others."""
         began = time.monotonic()
         seeds = [self.next_seed()]
         lines = len(seeds[0].book().lines)
-        while len(seeds) < MOST_TENANTS and lines < LINES_AT_A_TIME:
+        while len(seeds) < MAX_TENANTS and lines < LINES_AT_A_TIME:
             seeds.append(self.next_seed())
             lines += len(seeds[-1].book().lines)
         for played in play(self.measure, seeds, self.draw.random() < self.compares):
@@ -181,7 +181,7 @@ class Hunt:
         self.seconds += time.monotonic() - began
 
     def next_seed(self) -> Seed:
-        """A new one, or one that is bred from those kept."""
+        """Return a new seed, or one that is bred from the kept ones."""
         if not self.best or self.draw.random() < 0.2:
             return self.make(self.draw)
         one, other = self.kept_seed(), self.kept_seed()
@@ -199,7 +199,7 @@ class Hunt:
         self.gave_up += gave_up
         self.compared += 0 if played.differs is None else len(played.rounds)
         self.different += played.is_different()
-        if gave_up and self.gave_up < MOST_TOLD:
+        if gave_up and self.gave_up < MAX_TOLD:
             self.tell("GAVE UP", played.book)
             self.tell("GAVE UP", made_smaller(self.measure, played.book, Played.gave_up))
         if played.is_different():
@@ -225,11 +225,11 @@ class Hunt:
         return self.longest.most_looks() if self.longest else 0
 
     def row(self) -> str:
-        """The hunt as a row of the table."""
+        """Return the hunt as a row of the table."""
         looks = self.most_looks()
         score = self.hardest.score() if self.hardest else 0
         numbers = [self.books, self.rounds, self.shown, self.gave_up, self.compared, self.different, looks]
-        cells = [self.name, *(f"{number:,}" for number in numbers), f"{looks / MOST_LOOKS:.3%}", f"{score:.1f}"]
+        cells = [self.name, *(f"{number:,}" for number in numbers), f"{looks / MAX_LOOKS:.3%}", f"{score:.1f}"]
         return f"| {' | '.join(cells)} |"
 
 
@@ -245,7 +245,7 @@ def read_options() -> Options:
 
 
 def hunts_of(options: Options) -> list[Hunt]:
-    """A hunt for each size, one for layers, and one for crowds."""
+    """Return a hunt for each size, one for layers, and one for crowds."""
     found = []
     for size in map(read_size, options.sizes.split(",")):
         draw, name = random.Random(f"{options.seed} {size}"), f"{size[0]}x{size[1]}-{options.seed}"
@@ -254,7 +254,7 @@ def hunts_of(options: Options) -> list[Hunt]:
     large: dict[str, Callable[[random.Random], Seed]] = {"layers": random_layers, "crowds": random_crowd}
     for kind, make in large.items():
         draw = random.Random(f"{options.seed} {kind}")
-        found.append(Hunt(f"{kind}-{options.seed}", options.measure, draw, make, MOST_LINES, COMPARED_OF_LARGE))
+        found.append(Hunt(f"{kind}-{options.seed}", options.measure, draw, make, MAX_LINES, COMPARED_OF_LARGE))
     return found
 
 
@@ -275,7 +275,7 @@ def main() -> int:
     for hunt in hunts:
         print(hunt.row())
     wrong = sum(hunt.gave_up + hunt.different for hunt in hunts)
-    near = sum(hunt.most_looks() > MOST_LOOKS // 4 * 3 for hunt in hunts)
+    near = sum(hunt.most_looks() > MAX_LOOKS // 4 * 3 for hunt in hunts)
     print(f"{sum(hunt.rounds for hunt in hunts):,} rounds, {wrong} wrong; in {near} kinds one nearly gave up")
     return 1 if wrong or near or not all(hunt.rounds for hunt in hunts) else 0
 

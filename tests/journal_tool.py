@@ -1,4 +1,4 @@
-"""Checks of firm-journal, which tests/journal.py runs: what it prints and writes anew, and crashes meanwhile."""
+"""Checks of `firmctl journal`, which tests/journal.py runs: its output, its rewrites, and crashes during them."""
 
 from __future__ import annotations
 
@@ -13,15 +13,16 @@ from pathlib import Path
 from subprocess import PIPE
 
 import firmd_kit
+from front_kit import api_of
 from firmd_kit import JOURNAL_TOOL, Setup
 from harness.checks import require
-from harness.deployed import SERVICE, found_now, kept_lines
+from harness.deployed import SERVICE, found_now, stored_lines
 from harness.program import opened
 from journal_kit import QUESTIONS, ROUNDS, answered, ask_all, serves, tool
 
 
 def cut_rewrites(setup: Setup) -> None:
-    """A crash while a journal is written anew leaves the former one or the new one in its place."""
+    """A crash during a rewrite of the journal leaves the former one or the new one in its place."""
     with setup.daemon("--segment-bytes", "4000") as daemon:
         said = answered(daemon, is_killed=True)
         journal = daemon.state / "journal"
@@ -38,11 +39,11 @@ def cut_rewrites(setup: Setup) -> None:
         daemon.stop()
         shutil.rmtree(old)
         journal.rename(old)  # so the new one is of an earlier moment
-        daemon.refuses(5, f"{new} has not the lines of {old}")
+        daemon.refuses(5, f"{new} lacks lines of {old}")
 
 
 def cut_renewals(setup: Setup) -> None:
-    """A crash before the new id is kept leaves a state that gets it at its start; else a former id is no id."""
+    """A state whose new id was not stored before a crash gets it at its start; otherwise a former id is no id."""
     with setup.daemon() as daemon:
         daemon.start()
         ask_all(daemon, ROUNDS)
@@ -60,7 +61,8 @@ def cut_renewals(setup: Setup) -> None:
 
 
 def mended_extents(setup: Setup) -> None:
-    """A damaged or missing extent is written anew by the segments, and all lines are served; nothing else is mended."""
+    """A damaged or missing extent is rewritten from the segments, and all lines are served; nothing else is
+    repaired."""
     with setup.daemon("--segment-bytes", "4000") as daemon:
         said = answered(daemon, is_killed=True)
         path, first = daemon.state / "journal" / "extent", daemon.segments()[0]
@@ -73,7 +75,7 @@ def mended_extents(setup: Setup) -> None:
             mends(daemon, 5, f"{first}, at byte ")
             require((path.read_bytes() if path.exists() else None) == damage, "the extent is as it was")
             first.write_bytes(text)
-            mends(daemon, 0, f"{path}: it reaches to line {len(said):,}. If lines behind may be lost, run")
+            mends(daemon, 0, f"{path}: it reaches to line {len(said):,}. If later lines may be lost, run")
             serves(daemon, said, setup)
             daemon.kill()
             mends(daemon, 2, f"{path} is whole")
@@ -81,15 +83,15 @@ def mended_extents(setup: Setup) -> None:
 
 
 def mends(daemon: firmd_kit.Daemon, status: int, words: str) -> None:
-    """Asks that a try to write the extent anew ends so."""
+    """Require this result of a try to rewrite the extent."""
     command = [*JOURNAL_TOOL, "rewrite", "--extent", str(daemon.state)]
     done = subprocess.run(command, capture_output=True, text=True)
-    told = (done.stdout + done.stderr).removeprefix("firm-journal: ")
+    told = (done.stdout + done.stderr).removeprefix("firmctl: ")
     require(done.returncode == status and told.startswith(words), f"status {done.returncode}: {told}")
 
 
 def new_ids(setup: Setup) -> None:
-    """A restored copy gets an id of its own, and goes on with all its lines."""
+    """A restored copy gets a separate id, and goes on with all its lines."""
     with setup.daemon() as daemon:
         daemon.start()
         ask_all(daemon, ROUNDS)
@@ -104,13 +106,13 @@ def new_ids(setup: Setup) -> None:
 
 
 def printed(*words: str | Path) -> tuple[int, str, str]:
-    """The status, the lines and the faults of `firm-journal print`."""
+    """Return the status, the lines and the faults of `firmctl journal print`."""
     done = subprocess.run([*JOURNAL_TOOL, "print", *words], capture_output=True, text=True)
     return done.returncode, done.stdout, done.stderr
 
 
 def printed_damage(setup: Setup) -> None:
-    """`firm-journal print` and `firmctl why --round` tell of a damage or a missing state, and print no part of it."""
+    """`firmctl journal print` and `why --round` report a damaged or missing state, and print no part of it."""
     with setup.daemon("--segment-bytes", "3000") as daemon:
         answered(daemon, True)
         first, second, *_, last = daemon.segments()
@@ -124,33 +126,35 @@ def printed_damage(setup: Setup) -> None:
             path.write_bytes(texts[path])
         last.unlink()
         require(printed(daemon.state)[:2] == (5, ""), "a segment is missing")
-        last.write_bytes(texts[last] + texts[last][-40:-2])  # an end that was torn
+        last.write_bytes(texts[last] + texts[last][-40:-2])  # a torn end
         require(printed("--senders", daemon.state)[1].count("\n") == daemon.journal().count(b"\n") - 1, "all lines")
         status, _, told = printed(daemon.folder / "none")
         require(status == 4 and "not a state" in told, told)
         last.write_bytes(texts[last])
         daemon.start()
-        words: list[str | Path] = [sys.executable, SERVICE / "firmctl", "--state", daemon.state]
-        words += ["why", "a", "alpha", "--round", "4"]
-        for path in (first, second):
-            path.unlink()
-            path.mkdir() if path == first else path.write_bytes(b"")
-            done = subprocess.run(words, capture_output=True, text=True)
-            told = f"{path.name}: status {done.returncode}: {done.stderr}"
-            require(done.returncode == 3 and done.stderr.startswith("firmctl: ") and path.name in done.stderr, told)
-            path.rmdir() if path == first else path.unlink()
-            path.write_bytes(texts[path])
+        with api_of(daemon.state, "alpha") as server:
+            words: list[str | Path] = [sys.executable, SERVICE / "firmctl", "--server", server]
+            words += ["why", "a", "alpha", "--round", "4"]
+            for path in (first, second):
+                path.unlink()
+                path.mkdir() if path == first else path.write_bytes(b"")
+                done = subprocess.run(words, capture_output=True, text=True)
+                told = f"{path.name}: status {done.returncode}: {done.stderr}"
+                is_told = done.stderr.startswith("firmctl: ") and path.name in done.stderr
+                require(done.returncode == 3 and is_told, told)
+                path.rmdir() if path == first else path.unlink()
+                path.write_bytes(texts[path])
 
 
 def printed_meanwhile(setup: Setup) -> None:
-    """A journal is printed as it is at some moment, while firmd goes on and begins segments."""
+    """A journal is printed as of one moment, while firmd goes on and begins segments."""
     with setup.daemon("--segment-bytes", "1500") as daemon:
         daemon.start()
         with daemon.client() as client:
             client.ask(b"alpha show")
             found = found_now(daemon.state)
-            client.ask(b"alpha show")  # which may be refused memory, and that is not known to what was found
-        require([kept.lines for kept in kept_lines(found)] == [[b"alpha show"]], "the lines of that moment")
+            client.ask(b"alpha show")  # it may be refused for want of memory, which the print does not know yet
+        require([kept.lines for kept in stored_lines(found)] == [[b"alpha show"]], "the lines of that moment")
         is_over = threading.Event()
 
         def ask() -> None:
@@ -181,7 +185,7 @@ def shown_on_terminals(setup: Setup) -> None:
     with setup.daemon() as daemon:
         daemon.start()
         with daemon.client() as client:
-            require(client.ask(line) == b"alpha 1 no 2 bad-command", "it is kept")
+            require(client.ask(line) == b"alpha 1 no 2 bad-command", "the line is not in the journal")
         daemon.stop()
         for option in (list[str](), ["--senders"]):
             words = [*JOURNAL_TOOL, "print", *option, str(daemon.state)]
@@ -207,7 +211,7 @@ os.kill(os.getpid(), 9)
 
 
 def ended_states(setup: Setup) -> None:
-    """Where firm_state ends before it has read all lines, `firm-journal state` says why and ends with a status."""
+    """If firm_state ends before it has read all lines, `firmctl journal state` gives the reason and a status."""
     with setup.daemon("--snapshot-lines", "0") as daemon:
         daemon.start()
         with daemon.client() as client:
@@ -218,9 +222,9 @@ def ended_states(setup: Setup) -> None:
             environment = {**os.environ, "FIRM_STATE_PROGRAM": firmd_kit.stand_in(daemon.folder, text)}
             command = [*JOURNAL_TOOL, "state", str(daemon.state), "--tenant", "ALPHA"]
             done = subprocess.run(command, env=environment, capture_output=True, text=True)
-            require((done.returncode, done.stdout, done.stderr) == (status, "", f"firm-journal: {words}\n"), done)
+            require((done.returncode, done.stdout, done.stderr) == (status, "", f"firmctl: {words}\n"), done)
         with subprocess.Popen([*JOURNAL_TOOL, "print", str(daemon.state)], stdout=PIPE, stderr=PIPE) as printing:
-            opened(printing.stdout).close()  # as of `firm-journal print | head`
+            opened(printing.stdout).close()  # as of `firmctl journal print | head`
             require((opened(printing.stderr).read(), printing.wait()) == (b"", -signal.SIGPIPE), printing)
 
 

@@ -1,4 +1,4 @@
-"""Checks of the launcher ./firm: in a folder with crates of one line each, where a stand-in proves and builds them."""
+"""Checks of the launcher ./firm in a folder with crates of one line each; a stand-in proves and builds them."""
 
 from __future__ import annotations
 
@@ -31,17 +31,17 @@ TEXT = b"alpha show\n"
 REPLY = b"the program: --roster day.csv\n" + TEXT
 ROSTER = "tenant\nalpha\n"
 TRIAL = f"the trial: --roster opened {ROSTER} ".encode() + TEXT
-MOST_BYTES = 64 << 20  # of commands for an unproved answer
+MAX_BYTES = 64 << 20  # of commands for an unproved answer
 
 
 def listed() -> dict[str, list[str]]:
-    """The crates of crates.txt, each with the names behind it."""
+    """Return the crates of crates.txt, each with the names after it."""
     lines = [line.split(":") for line in (ROOT / "crates.txt").read_text().splitlines() if line[:1].isalpha()]
     return {name: libraries.split() for name, libraries in lines}
 
 
 def family(name: str, lines: dict[str, list[str]]) -> set[str]:
-    """A crate and all that it stands on in the repository."""
+    """Return a crate and all that it depends on in the repository."""
     found, left = set(), [name]
     while left:
         crate = left.pop()
@@ -51,14 +51,14 @@ def family(name: str, lines: dict[str, list[str]]) -> set[str]:
     return found
 
 
-def heed_signals() -> None:
-    """Has a started process end at an interrupt, also where the tests run in the background, which ignores it."""
+def restore_signals() -> None:
+    """Let a started process end at an interrupt, also if the tests run in the background, which ignores it."""
     for number in (signal.SIGINT, signal.SIGTERM):
         signal.signal(number, signal.SIG_DFL)
 
 
 class Place:
-    """A repository in a folder of its own, with the launcher and a path on which rt is the stand-in or absent."""
+    """A repository in a separate folder, with the launcher and a path on which rt is the stand-in or absent."""
 
     def __init__(self, folder: str) -> None:
         self.room, self.top, self.crates = Path(folder), Path(folder) / "repository", listed()
@@ -102,11 +102,11 @@ class Place:
                 (path / "rt").symlink_to(self.kit / "bin/rt")
 
     def above(self, name: str) -> set[str]:
-        """The crate and those of the program that stand on it."""
+        """Return the crate and the program's crates that depend on it."""
         return {crate for crate in self.needed if name in family(crate, self.crates)}
 
     def write(self, name: str, text: str = ONE_LINE) -> None:
-        """Writes a file, newer than all that is there, also where the clock of the files ticks slowly."""
+        """Write a file, newer than all existing ones, also if the clock of the files ticks slowly."""
         file = self.top / name
         file.parent.mkdir(parents=True, exist_ok=True)
         file.write_text(text)
@@ -123,14 +123,14 @@ class Place:
         stdin: int | IO[bytes] = subprocess.PIPE,
         **behaviour: str,
     ) -> subprocess.Popen[bytes]:
-        """Starts the launcher, or with words another command."""
+        """Start the launcher, or with words another command."""
         environment = {**os.environ, "PATH": str(self.paths[has_rt]), "TMPDIR": str(self.temporary), **behaviour}
         command: list[str | Path] = list(words) or [self.top / "firm", "--roster", "day.csv"]
         return subprocess.Popen(
             command,
             cwd=self.room,
             env=environment,
-            preexec_fn=heed_signals,
+            preexec_fn=restore_signals,
             stdin=stdin,
             stdout=subprocess.PIPE,
             stderr=subprocess.PIPE,
@@ -155,7 +155,7 @@ class Place:
         return self.end(self.start(*words, has_rt=has_rt, stdin=stdin, **behaviour))
 
     def wait_for(self, line: str, launched: subprocess.Popen[bytes]) -> None:
-        """Waits until the stand-in has written the line down."""
+        """Wait until the stand-in has written the line down."""
         ends = time.monotonic() + LIMIT_SECONDS
         while line not in self.record.read_text().splitlines():
             if time.monotonic() > ends:
@@ -164,7 +164,7 @@ class Place:
             time.sleep(0.02)
 
     def still_runs(self) -> bool:
-        """Whether a process of a crate's check is left."""
+        """Return whether a process of a crate's check is left."""
         for folder in Path("/proc").glob("[0-9]*/cwd"):
             with contextlib.suppress(FileNotFoundError, PermissionError, ProcessLookupError):  # one that ends meanwhile
                 if os.readlink(folder).startswith(f"{self.top}/crates/"):
@@ -172,53 +172,54 @@ class Place:
         return False
 
     def until_none_runs(self) -> None:
-        """Waits until no process of a crate's check is left: one that was killed is gone a moment later."""
+        """Wait until no process of a crate's check is left: a killed one is gone a moment later."""
         ends = time.monotonic() + LIMIT_SECONDS
         while self.still_runs():
             require(time.monotonic() < ends, "a check goes on")
             time.sleep(0.02)
 
     def standing(self) -> set[str]:
-        """The crates that a run has taken for proved: one whose check ends as its run is killed may not be."""
+        """Return the crates that a run has recorded as proved: one whose check ends as its run is killed may be
+        missing."""
         return {stamp.parts[-4] for stamp in self.top.glob("crates/*/out/statements/stamp")}
 
-    def asked(self) -> list[list[str]]:
-        """What the stand-in has written down since the last call, each line a word and a crate."""
+    def notes(self) -> list[list[str]]:
+        """Return the stand-in's notes since the last call, each line a word and a crate."""
         lines = self.record.read_text().splitlines()
         self.record.write_text("")
         return [line.split() for line in lines]
 
     def made(self) -> list[str]:
-        return [crate for word, crate in self.asked() if word == "made"]
+        return [crate for word, crate in self.notes() if word == "made"]
 
     def files(self) -> set[Path]:
-        """All files, but for the stand-in's record."""
+        """Return all files except the stand-in's record."""
         return set(self.room.rglob("*")) - {self.record}
 
     def build(self) -> None:
         done = self.run()
         require(done.status == 0, done)
-        self.asked()
+        self.notes()
 
 
 def source(crate: str) -> str:
-    """The root file of a crate."""
+    """Return the root file of a crate."""
     return "src/main.rt" if crate in PROGRAMS else "src/lib.rt"
 
 
 def require_reply(done: Run) -> None:
-    """The program ran on the words and the input of the run."""
+    """Require that the program ran on the words and the input of the run."""
     require(done.status == 0 and done.output == REPLY, done)
 
 
 def require_quiet_reply(done: Run) -> None:
-    """It did so at once: nothing is said on standard error."""
+    """Require the same without a build: standard error is empty."""
     require(done == (0, REPLY, b""), done)
 
 
-def require_nothing_asked(place: Place) -> None:
-    asked = place.asked()
-    require(not asked, f"the kit was asked: {asked}")
+def require_kit_unused(place: Place) -> None:
+    notes = place.notes()
+    require(not notes, f"the kit was called: {notes}")
 
 
 def require_made(place: Place, wanted: set[str]) -> None:
@@ -227,11 +228,11 @@ def require_made(place: Place, wanted: set[str]) -> None:
 
 
 def first_run(place: Place) -> None:
-    """The first run proves what the program stands on, each crate once and behind those below it, and tries nothing."""
+    """The first run proves the crates below the program, each once and after those below it, and tries nothing."""
     done = place.run()
     require_reply(done)
     ended: set[str] = set()
-    for word, crate in place.asked():
+    for word, crate in place.notes():
         require(word in ("begin", "made", "end"), f"{word} {crate}")
         if word == "begin":
             require(crate not in ended, f"{crate} twice")
@@ -245,29 +246,29 @@ def first_run(place: Place) -> None:
 
 
 def side_by_side(place: Place) -> None:
-    """Crates of which none stands on the other are proved at the same time, where there are processors for it."""
+    """Independent crates are proved at the same time, if there are processors for it."""
     if len(os.sched_getaffinity(0)) < 2:
         raise Skipped("there is one processor")
     launched = place.start(KIT_WAITS="firm_arena")
     place.wait_for("end firm_rules", launched)
     place.write("go")
     require_reply(place.end(launched))
-    words = place.asked()
+    words = place.notes()
     require(words.index(["end", "firm_rules"]) < words.index(["end", "firm_arena"]), words)
 
 
 def current(place: Place) -> None:
-    """A program that is there runs at once and says nothing, also by a link from elsewhere."""
+    """An up-to-date program runs at once and writes nothing, also by a link from elsewhere."""
     place.build()
     link = place.room / "linked"
     link.symlink_to(place.top / "firm")
     for launcher in (place.top / "firm", link):
         require_quiet_reply(place.run(launcher, "--roster", "day.csv"))
-    require_nothing_asked(place)
+    require_kit_unused(place)
 
 
 def newer_documents(place: Place) -> None:
-    """Newer documents, tests, edits and crates that the program does not stand on ask for nothing."""
+    """Newer documents, tests, edits and crates that the program does not depend on cause no build."""
     place.build()
     others = [f"crates/{crate}/{source(crate)}" for crate in set(place.crates) - place.needed]
     edits = ["crates/firm_net/must-fail/one.edit", "crates/firm_net/more-edits/two.edit"]
@@ -275,7 +276,7 @@ def newer_documents(place: Place) -> None:
         place.write(name, TWO_LINES)
     (place.top / "crates.txt").touch()
     require_quiet_reply(place.run())
-    require_nothing_asked(place)
+    require_kit_unused(place)
 
 
 def newer_source(place: Place) -> None:
@@ -292,16 +293,17 @@ def newer_source(place: Place) -> None:
 
 
 def newer_date(place: Place) -> None:
-    """A source that is newer by its date alone is looked at once: nothing is made anew, and then it starts at once."""
+    """A source that is newer by its date alone is looked at once: nothing is rebuilt, and then the program starts at
+    once."""
     place.build()
     place.write("crates/firm_net/src/lib.rt")
     for _ in range(2):
         require_quiet_reply(place.run())
-        require_nothing_asked(place)
+        require_kit_unused(place)
 
 
 def reverted_source(place: Place) -> None:
-    """What stands above a changed crate, and was not proved anew yet, stands again once the change is reverted."""
+    """Crates above a changed one that were not proved anew yet count as proved again once the change is reverted."""
     place.build()
     for broken, proved in (("firm_net", set[str]()), ("firm_paths", {"firm_net"})):
         place.write("crates/firm_net/src/lib.rt", TWO_LINES)
@@ -319,26 +321,26 @@ def edit_during_build(place: Place) -> None:
     place.wait_for("end firm_net", launched)
     place.write("crates/firm_net/src/lib.rt", TWO_LINES)
     require_reply(place.end(launched))
-    place.asked()
+    place.notes()
     require_reply(place.run())
     require_made(place, place.above("firm_net"))
 
 
 def edit_during_check(place: Place) -> None:
-    """A source that was another during its crate's check, for a moment only, is proved again with all above it."""
+    """A source that differed during its crate's check, for a moment only, is proved again with all above it."""
     launched = place.start(KIT_WAITS="firm_net")
     place.wait_for("begin firm_net", launched)
     for text in (TWO_LINES, ONE_LINE):
         place.write("crates/firm_net/src/lib.rt", text)
     place.write("go")
     require_reply(place.end(launched))
-    place.asked()
+    place.notes()
     require_reply(place.run())
     require_made(place, place.above("firm_net"))
 
 
 def lost_rlib(place: Place) -> None:
-    """A crate whose rlib is lost is made again, and nothing above it; a program that was replaced is put back."""
+    """A crate whose rlib is lost is built again, and nothing above it; a program that was replaced is put back."""
     place.build()
     shutil.rmtree(place.top / "crates/firm_net/out")
     place.write("crates/firm/out/firm", "another program\n")
@@ -348,7 +350,7 @@ def lost_rlib(place: Place) -> None:
 
 
 def other_kit(place: Place) -> None:
-    """Another kit proves all anew; where it is of another logic than the crates' own, a line says so first."""
+    """Another kit proves all anew; if its logic is not the crates' own, a line says so first."""
     place.build()
     place.name_kit("0123456789abcdef")
     place.write("crates/firm_net/src/lib.rt")
@@ -362,7 +364,7 @@ def other_kit(place: Place) -> None:
 
 
 def no_rt(place: Place) -> None:
-    """Without rt the program that is there runs, with a note where a source is newer; without either, status 127."""
+    """Without rt the existing program runs, with a note if a source is newer; without either, status 127."""
     done = place.run(has_rt=False)
     require(done.status == 127 and done.output == b"", done)
     require(all(word in done.faults for word in (b"rt", b"PATH", b"README.md", LOGIC.encode())), done.faults)
@@ -374,11 +376,11 @@ def no_rt(place: Place) -> None:
     require(done.faults.count(b"\n") == 1 and b"rt" in done.faults, done.faults)
     done = place.run(sys.executable, place.top / "build.py", has_rt=False)
     require(done.status == 127 and b"PATH" in done.faults, done)
-    require_nothing_asked(place)
+    require_kit_unused(place)
 
 
 def interrupted(place: Place) -> None:
-    """An interrupted run ends what it started, and the next goes on from there."""
+    """An interrupted run ends the processes that it started, and the next goes on from there."""
     for number in (signal.SIGINT, signal.SIGTERM):
         stood = place.standing()
         launched = place.start(KIT_SLOW="firm_graph")
@@ -393,18 +395,18 @@ def interrupted(place: Place) -> None:
 
 
 def killed(place: Place) -> None:
-    """So does one that is killed."""
+    """A run after a killed one goes on from there too."""
     launched = place.start(KIT_SLOW="firm_graph")
     place.wait_for("begin firm_graph", launched)
     launched.kill()
     place.end(launched)
     place.until_none_runs()
-    place.asked()
+    place.notes()
     require_goes_on(place)
 
 
 def require_goes_on(place: Place) -> None:
-    """After a run that ended at firm_graph, the next proves what that one did not prove, and nothing else."""
+    """After a run that ended at firm_graph, the next proves the rest, and nothing else."""
     stood = place.standing()
     require("firm_flow" in stood and "firm_graph" not in stood, stood)
     require_reply(place.run())
@@ -423,16 +425,16 @@ def failing_crate(place: Place) -> None:
 
 
 def two_at_once(place: Place) -> None:
-    """Of two runs at a time one builds; the other waits, and both are served."""
+    """Of two simultaneous runs one builds; the other waits, and both are served."""
     both = [place.start(), place.start()]
     for launched in both:
         require_reply(place.end(launched))
-    begun = sorted(crate for word, crate in place.asked() if word == "begin")
+    begun = sorted(crate for word, crate in place.notes() if word == "begin")
     require(begun == sorted(place.needed), begun)
 
 
 def named_programs(place: Place) -> None:
-    """build.py builds the programs and libraries that it is given, each crate once, and runs none."""
+    """build.py builds the named programs and libraries, each crate once, and runs none."""
     build = place.top / "build.py"
     for names, made in ((("firm_explain",), {"firm_explain"}), (("firm", "firm_explain"), {"firm"}), ((), set[str]())):
         done = place.run(build, *names)
@@ -444,7 +446,7 @@ def named_programs(place: Place) -> None:
     require(place.run(build, "firm_net").status == 0, "a library that stands")
     done = place.run(build, "firm_none")
     require(done.status == 2 and b"firm_explain" in done.faults, done)
-    require_nothing_asked(place)
+    require_kit_unused(place)
 
 
 def ask_unproved(place: Place, *words: str, **how: Any) -> Run:
@@ -452,7 +454,7 @@ def ask_unproved(place: Place, *words: str, **how: Any) -> Run:
 
 
 def unproved(place: Place) -> None:
-    """An unproved answer says before and after that it is one, ends as the program did, and keeps nothing."""
+    """An unproved answer is announced before and after, ends as the program did, and stores nothing."""
     before = place.files()
     for status in (0, 3):
         for words in (("--roster", "day.csv"), ("--roster=day.csv",)):
@@ -465,16 +467,16 @@ def unproved(place: Place) -> None:
     require(done.output.startswith(b"the trial: --roster opened --workers 8 "), done.output)
     done = ask_unproved(place, "--state", "day.csv")
     require(done.output.startswith(b"the trial: --state opened "), done.output)
-    require(place.asked() == [["try", "firm"]] * 6, "it is tried once for each")
+    require(place.notes() == [["try", "firm"]] * 6, "it is tried once for each")
     require(place.files() == before, place.files() - before)
 
 
 def unproved_without_answer(place: Place) -> None:
-    """Where the trial has none, the status is no status of the program's; an interrupted one keeps nothing either."""
+    """If the trial has no answer, the status is none of the program's; an interrupted one stores nothing either."""
     before = place.files()
     done = ask_unproved(place, "--roster", "day.csv", KIT_NO_ANSWER="firm")
     require(done.status == 70 and done.output == b"" and b"no answer" in done.faults, done)
-    place.asked()
+    place.notes()
     words = (place.top / "firm", "--unproved", "--roster", "day.csv")
     launched = place.start(*words, stdin=subprocess.DEVNULL, KIT_SLOW="firm")
     place.wait_for("try firm", launched)
@@ -485,10 +487,10 @@ def unproved_without_answer(place: Place) -> None:
 
 
 def unproved_refused(place: Place) -> None:
-    """It refuses what it can't answer: no roster, a terminal, too many commands, no rt."""
+    """It refuses unanswerable runs: no roster, a terminal, too many commands, no rt."""
     terminal, other = pty.openpty()
     with tempfile.TemporaryFile() as long, os.fdopen(terminal, "wb"), os.fdopen(other, "rb") as typed:
-        long.truncate(MOST_BYTES + 1)
+        long.truncate(MAX_BYTES + 1)
         refusals = {
             b"roster": ask_unproved(place),
             b"one of the two": ask_unproved(place, "--roster", "day.csv", "--state", "day.csv"),
@@ -500,34 +502,37 @@ def unproved_refused(place: Place) -> None:
         }
     for word, done in refusals.items():
         require(done.status == 2 and done.output == b"" and word in done.faults, f"{word!r}: {done}")
-    require_nothing_asked(place)
+    require_kit_unused(place)
 
 
 def unproved_never_by_default(place: Place) -> None:
-    """Nothing but the launcher's own word asks for an unproved answer, least of all the service."""
+    """Only the launcher's own word requests an unproved answer; the service never does."""
     require_reply(place.run(FIRM_UNPROVED="1", UNPROVED="1"))
-    require(["try", "firm"] not in place.asked(), "it was tried")
+    require(["try", "firm"] not in place.notes(), "it was tried")
     names = (path for path in (ROOT / "service").rglob("*") if path.suffix != ".pyc" and path.is_file())
     naming = [path for path in names if b"unproved" in path.read_bytes()]
     require(not naming, f"these name it: {naming}")
 
 
 def version(place: Place) -> None:
-    """The release, the commit and whether it is proved: of the sources as they are, and nothing is built for that."""
+    """The release, the commit and whether it is proved are those of the present sources; nothing is built to print
+    them."""
 
-    def told(*words: str) -> str:
+    def version_of(*words: str) -> str:
         done = place.run(place.top / "firm", *words, stdin=subprocess.DEVNULL)
         require(done.status == 0 and not done.faults, done)
         return done.output.decode()
 
     release = tomllib.loads((ROOT / "pyproject.toml").read_text())["project"]["version"]
-    require(told("--version") == f"firm {release}, commit unknown, not proved\n", "it is not built")
-    require_nothing_asked(place)
+    require(version_of("--version") == f"firm {release}, commit unknown, not proved\n", "it is not built")
+    require_kit_unused(place)
     place.build()
-    require(told("-V") == f"firm {release}, commit unknown, proved\n", "it is built")
+    require(version_of("-V") == f"firm {release}, commit unknown, proved\n", "it is built")
     for words in (["--unproved", "--version"], ["--version", "--unproved"]):
-        require(told(*words) == f"firm {release}, commit unknown, not proved\n", words)
-    require(told("--version", "--roster").startswith("the program: --version --roster\n"), "the program's own words")
+        require(version_of(*words) == f"firm {release}, commit unknown, not proved\n", words)
+    require(
+        version_of("--version", "--roster").startswith("the program: --version --roster\n"), "the program's own words"
+    )
     for path in place.paths.values():
         (path / "git").symlink_to(str(shutil.which("git")))
     (place.top / ".gitignore").write_text("out/\nasked\n")
@@ -535,9 +540,9 @@ def version(place: Place) -> None:
     for step in (["init", "-q"], ["add", "-A"], ["commit", "-q", "-m", "one"]):
         subprocess.run([*git, *step], check=True)
     commit = subprocess.run([*git, "rev-parse", "HEAD"], capture_output=True, text=True, check=True).stdout[:10]
-    require(told("--version") == f"firm {release}, commit {commit}, proved\n", "a commit")
+    require(version_of("--version") == f"firm {release}, commit {commit}, proved\n", "a commit")
     place.write("crates/firm/src/main.rt", TWO_LINES)
-    require(told("--version") == f"firm {release}, commit {commit}, changed, not proved\n", "an edit")
+    require(version_of("--version") == f"firm {release}, commit {commit}, changed, not proved\n", "an edit")
 
 
 CHECKS: list[Callable[[Place], None]] = [
@@ -567,6 +572,6 @@ CHECKS: list[Callable[[Place], None]] = [
 
 
 def run_in_place(check: Callable[[Place], None]) -> None:
-    """Runs a check in a new repository."""
+    """Run a check in a new repository."""
     with tempfile.TemporaryDirectory(prefix="firm-") as folder:
         check(Place(folder))

@@ -1,13 +1,13 @@
-"""Asks the built program as live clients do, which hold its input open and wait for each reply.
+"""Check the built program with live clients, which hold its input open and wait for each reply.
 
 usage: tools/run tests/live.py [--program FILE] [--under COMMAND] [--only WORDS] [--streams N] [--first SEED]
-With 1, 2 and 8 workers: random streams get the same replies line by line as in one go. During long rounds more of
-another tenant's lines go in than a pipe holds; their replies follow in order. Meanwhile the output closes (status 5),
-the input ends (all replies, status 0), a terminal hangs up (status 4), and the program is stopped and continued. While
-it waits it takes no processor time. It has two threads more than workers, and one less if the thread that reads ahead
-can't be started.
+With 1, 2 and 8 workers, random streams get the same replies line by line as in one go. During long rounds it sends more
+of another tenant's lines than a pipe holds; their replies follow in order. Meanwhile the output closes (status 5), the
+input ends (all replies, status 0), a terminal hangs up (status 4), and the program is stopped and continued. While it
+waits, for input or for rounds, it takes no processor time. With 1 to 8 workers it has two threads more than workers,
+and one less if the thread that reads ahead can't be started.
 
-Each check has a line, and the exit status is 1 where one failed. It needs a C compiler (cc) for refuse.c, which makes a
+Each check prints a line; the exit status is 1 if one failed. It needs a C compiler (cc) for refuse.c, which makes a
 round as long as a check wants it.
 """
 
@@ -44,17 +44,17 @@ ROWS = [
     b"beta job low 2",
     b"beta task low l",
 ]
-FIRST_ROUND = b"alpha 5 ok round cost 0 start a m1"
-# How long a worker waits for each memory that it asks for in a round, how long one at most that a check holds, and how
-# soon what waits behind a round comes.
+FIRST_ROUND, ROUND_OF_BETA = b"alpha 5 ok round cost 0 start a m1", b"beta 4 ok round cost 0 start l m1"
+# A worker's wait for each request for memory in a round, the longest wait for a held one, and the time limit of lines
+# after a round.
 DELAY_SECONDS, HOLD_SECONDS = 0.3, 120
 AT_ONCE_SECONDS = 20
 # A pause in which the service has gone to sleep.
 PAUSE_SECONDS = 0.05
-# For how long a service waits that then has taken next to no processor time.
-IDLE_SECONDS = 0.4
 # More than a pipe holds, in fewer lines than answers are held.
 LINES_MEANWHILE, LINE_BYTES = 1000, 250
+# Answers after two rounds, with which there is room for one more.
+HELD = 1_021
 
 
 @dataclass(frozen=True)
@@ -65,7 +65,7 @@ class Options(program.ProgramOptions):
 
 
 class Starter:
-    """Starts clients of the program, each with a roster of its own."""
+    """Start clients of the program, each with its roster."""
 
     def __init__(self, options: Options, folder: str) -> None:
         self.options, self.library = options, program.build_refusing(folder)
@@ -79,7 +79,7 @@ class Starter:
         is_slow: bool = False,
         **asked: int | Path,
     ) -> program.Client:
-        """A client, whose rounds may take a while; what is asked of refuse.c goes by the names that it has for it."""
+        """Start a client, whose rounds may take a while; the orders for refuse.c have its names."""
         if is_slow:
             asked["delay_memory"] = int(1000 * DELAY_SECONDS)
         environment = {"LD_PRELOAD": self.library} if asked else {}
@@ -88,7 +88,7 @@ class Starter:
 
     @contextmanager
     def held_client(self, roster_path: str, workers: str) -> Iterator[program.Client]:
-        """A client whose rounds do not end before they are let go, or for a long time."""
+        """Start a client whose rounds do not end before they are let go, or for a long time."""
         self.hold.touch()
         letting_go = threading.Timer(HOLD_SECONDS, self.let_go)
         letting_go.start()
@@ -112,7 +112,7 @@ def is_ok(reply: bytes | None) -> bool:
 
 
 def is_waiting(client: program.Client) -> bool:
-    """Whether no reply is there yet."""
+    """Return whether no reply is there yet."""
     return not client.received and not select.select([client.output], [], [], 0)[0]
 
 
@@ -140,7 +140,7 @@ def line_by_line(starter: Starter, workers: str) -> None:
 
 
 def lines_during_a_round(starter: Starter, workers: str) -> None:
-    """While a round is solved another tenant's lines are answered; the replies come right behind its own."""
+    """While a round is solved another tenant's lines are answered; the replies follow its own at once."""
     with program.Roster(ROSTER) as roster_path, starter.held_client(roster_path, workers) as client:
         add_rows(client)
         client.send(b"alpha round\n")
@@ -153,28 +153,30 @@ def lines_during_a_round(starter: Starter, workers: str) -> None:
         for number in range(LINES_MEANWHILE):
             require(client.reply() == b"beta %d ok waits 0" % (number + 4), f"reply {number + 4}")
         behind = time.monotonic() - solved
-        require(behind < AT_ONCE_SECONDS, f"the replies came {behind:.3f} s behind the round")
+        require(behind < AT_ONCE_SECONDS, f"the replies came {behind:.3f} s after the round")
         require(client.close() == (0, b"", b""), "its end")
 
 
 def idle(starter: Starter, workers: str) -> None:
-    """A service that waits for input or for a round sleeps."""
+    """A service sleeps that waits for input, for one round or for two, also with many answers held, or for input
+    that it already reads ahead."""
     with program.Roster(ROSTER) as roster_path, starter.held_client(roster_path, workers) as client:
         add_rows(client)
-        for awaited, line in (("input", b""), ("a round", b"alpha round\n")):
-            client.send(line)
-            time.sleep(PAUSE_SECONDS)
-            before = client.processor_seconds()
-            time.sleep(IDLE_SECONDS)
-            used = client.processor_seconds() - before
-            require(used < IDLE_SECONDS / 4, f"{used:.2f} processor seconds while it waits for {awaited}")
+        client.require_idle("input")
+        awaited = {"a round": b"alpha round\n", "two rounds": b"beta round\n", "many answers": b"beta where l\n" * HELD}
+        for name, lines in awaited.items():
+            client.send(lines)
+            client.require_idle(name)
         starter.let_go()
-        require(client.reply() == FIRST_ROUND, "the round's reply")
+        require((client.reply(), client.reply()) == (FIRST_ROUND, ROUND_OF_BETA), "the replies to the rounds")
+        for number in range(HELD):
+            require(client.reply() == b"beta %d ok at m1" % (number + 5), f"reply {number + 5}")
+        client.require_idle("input that it already reads ahead")
         require(client.close() == (0, b"", b""), "its end")
 
 
 def closed_output(starter: Starter, workers: str, line: bytes) -> None:
-    """Where nobody reads the replies any more the service ends with the next one, while its input is still open."""
+    """If nobody reads the replies any more the service ends with the next one, while its input is still open."""
     with program.Roster(ROSTER) as roster_path, starter.client(roster_path, workers) as client:
         add_rows(client)
         client.output.close()
@@ -183,7 +185,7 @@ def closed_output(starter: Starter, workers: str, line: bytes) -> None:
 
 
 def closed_meanwhile(starter: Starter, workers: str) -> None:
-    """The same where the output closes while a round is solved."""
+    """The service ends in the same way if the output closes while a round is solved."""
     with program.Roster(ROSTER) as roster_path, starter.held_client(roster_path, workers) as client:
         add_rows(client)
         client.send(b"alpha round\n")
@@ -194,11 +196,11 @@ def closed_meanwhile(starter: Starter, workers: str) -> None:
 
 
 def rest_of_the_input(starter: Starter, workers: str) -> None:
-    """What follows the last line feed is answered at the end of the input, behind the rounds that are asked."""
+    """The bytes after the last line feed are answered at the end of the input, after the rounds."""
     with program.Roster(ROSTER) as roster_path, starter.client(roster_path, workers, is_slow=True) as client:
         add_rows(client)
         client.send(b"alpha round\nbeta round\nalpha where a")
-        wanted = b"%s\nbeta 4 ok round cost 0 start l m1\nalpha 6 ok at m1\n" % FIRST_ROUND
+        wanted = b"%s\n%s\nalpha 6 ok at m1\n" % (FIRST_ROUND, ROUND_OF_BETA)
         require(client.close() == (0, wanted, b""), "the replies at the end")
 
 
@@ -231,7 +233,7 @@ def terminal(starter: Starter, workers: str, is_hung_up: bool) -> None:
 
 
 def suspended(starter: Starter, workers: str) -> None:
-    """A program that is stopped and goes on, as by a shell, goes on with its reads."""
+    """A program that is stopped and continued, as by a shell, goes on with its reads."""
     with program.Roster(ROSTER) as roster_path, starter.client(roster_path, workers, is_slow=True) as client:
         add_rows(client)
         for line, wanted in ((b"beta where l\n", b"beta 4 ok waits 0"), (b"alpha round\n", FIRST_ROUND)):
@@ -239,7 +241,7 @@ def suspended(starter: Starter, workers: str) -> None:
                 client.process.send_signal(number)
                 time.sleep(PAUSE_SECONDS)
             client.send(line)
-            time.sleep(PAUSE_SECONDS)  # in which the round begins
+            time.sleep(PAUSE_SECONDS)  # the round begins meanwhile
             for number in (signal.SIGSTOP, signal.SIGCONT):
                 client.process.send_signal(number)
                 time.sleep(PAUSE_SECONDS)
@@ -251,7 +253,7 @@ def threads(starter: Starter, workers: str) -> None:
     """Beside the workers there are two threads: the one that serves, and the one that reads ahead."""
     with program.Roster(ROSTER) as roster_path, starter.client(roster_path, workers) as client:
         require(client.ask(b"alpha costs") == b"alpha 1 ok costs", "a reply")
-        count = client.threads()
+        count = len(client.threads())
         require(count == int(workers) + 2, f"{count} threads with {workers} workers")
         require(client.close() == (0, b"", b""), "its end")
 
@@ -260,7 +262,7 @@ def no_reading_thread(starter: Starter, workers: str) -> None:
     """Without the thread that reads ahead all replies come before the next line is read."""
     with program.Roster(ROSTER) as roster_path, starter.client(roster_path, workers, refuse_thread=1) as client:
         add_rows(client)
-        require(client.threads() == int(workers) + 1, "the threads")
+        require(len(client.threads()) == int(workers) + 1, "the threads")
         require(client.ask(b"alpha round") == FIRST_ROUND, "the round's reply")
         client.send(b"alpha round\nalpha where a\n")
         require((client.reply(), client.reply()) == (b"alpha 6 ok round cost 0", b"alpha 7 ok at m1"), "the replies")
@@ -268,12 +270,13 @@ def no_reading_thread(starter: Starter, workers: str) -> None:
 
 
 def checks(starter: Starter) -> Iterator[tuple[str, Check]]:
-    """Each check's name, and the check."""
+    """Yield each check by name."""
+    for workers in map(str, range(1, 9)):
+        yield f"threads, workers {workers}", partial(threads, starter, workers)
     for workers in ("1", "2", "8"):
         named: dict[str, Callable[[Starter, str], None]] = {
             "line by line": line_by_line,
             "lines during a round": lines_during_a_round,
-            "threads": threads,
             "idle": idle,
             "closed output, a line": partial(closed_output, line=b"alpha show\n"),
             "closed output, a round": partial(closed_output, line=b"alpha round\n"),
@@ -293,9 +296,9 @@ def read_options() -> Options:
     program.add_program(parser)
     program.add_under(parser)
     parser.set_defaults(workers="")
-    parser.add_argument("--only", default="", help="nothing but the checks whose names have these words")
-    parser.add_argument("--streams", type=int, default=20, help="how many random streams go line by line")
-    parser.add_argument("--first", type=int, default=1, help="the first seed")
+    parser.add_argument("--only", default="", help="run only the checks whose names have these words")
+    parser.add_argument("--streams", type=int, default=20, help="number of random streams that go line by line")
+    parser.add_argument("--first", type=int, default=1, help="first seed of the streams")
     return Options(**vars(parser.parse_args()))
 
 

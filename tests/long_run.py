@@ -1,9 +1,9 @@
-"""Serves ten million lines for 64 tenants, with rounds among them, and checks every byte and the memory.
+"""Serve ten million lines for 64 tenants, with rounds among them, and check every byte and the memory.
 
 usage: tools/run tests/long_run.py [--program FILE] [--lines N] [--workers N,N,..]
-The expected output comes from harness/service.py. The program's memory is looked at a tenth of the way and at the end:
+The expected output comes from harness/service.py. The program's memory is measured a tenth of the way and at the end:
 it must not have grown by more than a twentieth. With `--workers 1,2,8` there is a run for each number. The exit status
-is 1 where the output differs or the memory grows.
+is 1 if the output differs or the memory grows.
 """
 
 from __future__ import annotations
@@ -21,7 +21,7 @@ from harness.checks import Missed, require, run_script
 
 TENANTS = 64
 MARK = "-mark-"
-# What a tenant's commands are, again and again; {0} is a number that makes names differ from turn to turn.
+# A tenant's commands, repeated; {0} is a number that makes names differ from turn to turn.
 CYCLE = [
     "machine a{0} 2",
     "job j{0} 9",
@@ -50,7 +50,7 @@ CYCLE = [
 ]
 
 
-# Each turn ends without rows, and the third has eight costs behind it: from then on all are alike.
+# Each turn ends without rows, and the third has eight costs before it: from then on all are alike.
 TURNS = 3
 
 
@@ -81,7 +81,7 @@ class Cycle:
         return tenant.answer(line.encode().split()).decode().split(" ", 2)[2]
 
     def next(self) -> tuple[str, str]:
-        """The next command and its reply."""
+        """Return the next command and its reply."""
         turn, step = divmod(self.given, len(CYCLE))
         self.given += 1
         text, number = self.turns[min(turn, TURNS - 1)][step], str(turn % 1000)
@@ -92,7 +92,7 @@ class Cycle:
 
 
 def write_files(folder: Path, lines: int) -> None:
-    """Writes the input and its expected output: tenants drawn at random, each in its own cycle."""
+    """Write the input and its expected output: tenants drawn at random, each in its own cycle."""
     cycles = [Cycle(tenant) for tenant in service.read_roster(roster()).values()]
     draw = random.Random(1)
     folder.mkdir(parents=True, exist_ok=True)
@@ -105,13 +105,13 @@ def write_files(folder: Path, lines: int) -> None:
 
 
 def most_memory(process: int) -> int:
-    """The most memory that the process has had, in kilobytes."""
+    """Return the process's maximum of memory so far, in kilobytes."""
     status = Path(f"/proc/{process}/status").read_text()
     return int(status.partition("VmHWM:")[2].split()[0])
 
 
 class Spent(NamedTuple):
-    """The most memory a tenth of the way and at the end, in kilobytes, and the processor time."""
+    """The maximum of memory a tenth of the way and at the end, in kilobytes, and the processor time."""
 
     early: int
     late: int
@@ -119,7 +119,7 @@ class Spent(NamedTuple):
 
 
 def serve(command: list[str], folder: Path) -> Spent:
-    """Runs the program over the files."""
+    """Run the program over the files."""
     words = [*command, "--roster", str(folder / "roster.csv")]
     size = (folder / "input").stat().st_size
     early, late, seconds = 0, 0, 0.0
@@ -140,7 +140,7 @@ def serve(command: list[str], folder: Path) -> Spent:
 
 
 def is_well(options: Options, workers: str, folder: Path) -> bool:
-    """Whether a run with a number of workers writes what is expected, and its memory does not grow."""
+    """Return whether a run with a number of workers writes the expected output, and its memory does not grow."""
     spent = serve(options.command(workers), folder)
     is_same = not subprocess.run(["cmp", str(folder / "output"), str(folder / "expected")]).returncode
     is_constant = spent.late <= spent.early * 1.05

@@ -1,8 +1,8 @@
-"""Asks what an operator meets: what the programs tell and in which form, and whose socket a name is.
+"""Check an operator's view of the programs: the form of their messages, and the owners of their sockets and folders.
 
 usage: tools/run tests/operation.py [--quick] [--only WORDS] [--program FILE]
-Each check has a line; the last line is 'N passed, M failed', and the exit status is 1 where one failed. It needs Python
-3 and the built program. What can't be asked here is said and skipped. --quick leaves out nothing.
+Each check prints a line; the last line is 'N passed, M failed', and the exit status is 1 if one failed. It needs Python
+3 and the built program. A check that can't run here is skipped with a line. --quick changes nothing.
 """
 
 from __future__ import annotations
@@ -29,12 +29,19 @@ from harness import program
 from harness.checks import Check, Skipped, Suite, require, run_script, run_suites
 from harness.deployed import LOCK_SECONDS, SERVICE
 from hostile import patch, patch_viewer
-from queue_kit import QUEUE
+from queue_kit import FIRM_API
 
-from firm_service.files import replace_synced
-from firm_service.slurm.bridge import lock_alone
+from firm.common.files import replace_synced
+from firm.slurm.bridge import lock_alone
 
 AGENT = [sys.executable, str(SERVICE / "firm-agent")]
+FAULTY_AGENT = [
+    "--server=unix:q",
+    "--tenant=alpha",
+    "--state=/dev/null/a",
+    "--name=a1",
+    "--machines=m1=1",
+]  # options of an agent
 CHECKS_AT_A_TIME = 4
 SLOW_SECONDS = 10.0
 # A firm whose last words would clear a terminal, and look like other messages.
@@ -44,7 +51,7 @@ read line || exit 0
 printf '\\033[2J\\rfirmd: forged \\302\\205end\\nfirmd: forged\\n' >&2
 exit 9
 """
-# A firmd that takes a name whose socket it has found dead when another waits for that, or once it has had long for it.
+# A firmd that takes over the name of a dead socket only once another one waits for it, or after a long time.
 SLOW_TO_TAKE = f"""\
 import pathlib, time
 def unlink(self, missing_ok=False, original=pathlib.Path.unlink):
@@ -56,10 +63,10 @@ def unlink(self, missing_ok=False, original=pathlib.Path.unlink):
     original(self, missing_ok)
 pathlib.Path.unlink = unlink
 """
-# A firmd that tells that it waits for the lock of a folder, for however long.
+# A firmd that reports its wait for the lock of a folder, however long it takes.
 PATIENT = f"""\
 import pathlib
-from firm_service import sockets
+from firm.common import sockets
 def is_locked(folder, original=sockets.is_locked):
     found = original(folder)
     if not found:
@@ -67,10 +74,10 @@ def is_locked(folder, original=sockets.is_locked):
     return found
 sockets.is_locked, sockets.LOCK_SECONDS = is_locked, {2 * SLOW_SECONDS}
 """
-# A firmd that ends when it may, once it listens no more and its clients are gone.
+# A firmd that ends on a signal, once it no longer listens and its clients have left.
 SLOW_TO_END = """\
 import asyncio, pathlib
-from firm_service import clients
+from firm.server import clients
 async def close(self, original=clients.Clients.close):
     await original(self)
     while not pathlib.Path({may_end!r}).exists():
@@ -78,14 +85,14 @@ async def close(self, original=clients.Clients.close):
 clients.Clients.close = close
 """
 FAULTY = """\
-from firm_service import view
+from firm.viewer import view
 def fail(*_):
     raise RuntimeError("made by the test\\nfirmd: forged")
 view.rows_of = fail
 """
 UNCAUGHT = """\
 import threading
-from firm_service import daemon
+from firm.server import daemon
 def fail(what):
     raise RuntimeError(f"of {what}\\nfirmd: forged")
 async def run(self):
@@ -97,32 +104,32 @@ daemon.Daemon.run = run
 """
 
 
-# What is told.
+# Messages.
 
 
 def stream_of(errors: Path) -> str:
-    """A file as systemd names its journal, which stands in for it."""
+    """Return a file's name in the form of systemd's JOURNAL_STREAM; the file stands in for the journal."""
     errors.touch()
     found = errors.stat()
     return f"JOURNAL_STREAM={found.st_dev}:{found.st_ino}"
 
 
 def as_journal(daemon: Daemon) -> Path:
-    """Has firmd take its standard error for systemd's journal; the file that it is."""
+    """Make firmd take its standard error for systemd's journal; return the file that stands in."""
     errors = daemon.folder / "errors"
     daemon.words = ["env", stream_of(errors), *daemon.words]
     return errors
 
 
 def run_in_journal(words: list[str], errors: Path) -> None:
-    """Runs a program that takes its standard error for systemd's journal."""
+    """Run a program that takes its standard error for systemd's journal."""
     with open(errors, "wb") as file:
         words = ["env", stream_of(errors), *words]
         subprocess.run(words, stdin=subprocess.DEVNULL, stderr=file, cwd=errors.parent, timeout=300)
 
 
 def priorities(setup: Setup) -> None:
-    """Where standard error is systemd's journal each line begins with its priority, and elsewhere with none."""
+    """If standard error is systemd's journal, each line begins with its priority; otherwise no line does."""
     with setup.daemon() as daemon:
         errors = as_journal(daemon)
         daemon.start()
@@ -135,12 +142,8 @@ def priorities(setup: Setup) -> None:
         daemon.words[1] += "0"  # the number of another file
         daemon.refuses(3)
         require(daemon.said().startswith(b"firmd: cannot read the roster "), daemon.said())
-        run_in_journal([*JOURNAL_TOOL, "print", "nothing"], errors)
-        require(daemon.said().startswith(b"<3>firm-journal: nothing is not a state"), daemon.said())
-        (daemon.folder / "agent.toml").write_text("")
-        words = ["--view", "v", "--socket", "s", "--state", "agent-state", "--table", "agent.toml"]
-        run_in_journal([*AGENT, "run", *words], errors)
-        require(daemon.said().startswith(b"<3>firm-agent: agent.toml: the table: tenant must be"), daemon.said())
+        run_in_journal([*AGENT, "run", *FAULTY_AGENT], errors)
+        require(daemon.said().startswith(b"<3>firm-agent: /dev/null/a: "), daemon.said())
 
 
 def records(setup: Setup) -> None:
@@ -153,20 +156,17 @@ def records(setup: Setup) -> None:
         require(re.fullmatch(r"20..-..-..T..:..:..\....Z", ready["time"]), ready)
         require((ready["level"], ready["program"]) == ("info", "firmd"), ready)
         require(ready["message"].startswith("ready: 0 lines replayed"), ready)
-        require(stopping["message"] == "stopping: what was taken is answered", stopping)
+        require(stopping["message"] == "stopping: draining accepted requests", stopping)
         errors = daemon.folder / "errors"
-        for words, message in (
-            ([*JOURNAL_TOOL, "print", "nothing"], "nothing is not a state"),
-            ([*AGENT, "run", "--view=v", "--socket=s", "--state=a", "--table=none"], "none: [Errno 2] No such file"),
-        ):
-            with open(errors, "wb") as file:
-                subprocess.run([*words, "--log-format", "json"], stderr=file, cwd=daemon.folder, timeout=300)
-            told = json.loads(daemon.said())
-            require(told["level"] == "error" and told["message"].startswith(message), told)
+        with open(errors, "wb") as file:
+            words = [*AGENT, "run", *FAULTY_AGENT, "--log-format", "json"]
+            subprocess.run(words, stderr=file, cwd=daemon.folder, timeout=300)
+        told = json.loads(daemon.said())
+        require(told["level"] == "error" and told["message"].startswith("/dev/null/a: "), told)
 
 
 def safe_to_print(setup: Setup) -> None:
-    """No message steers a terminal or looks like another one, whatever words of others are in it."""
+    """No message steers a terminal or looks like another one, whatever words of others it quotes."""
     with setup.daemon() as daemon:
         daemon.firm = stand_in(daemon.folder, FORGING)
         daemon.start()
@@ -185,7 +185,7 @@ def safe_to_print(setup: Setup) -> None:
 
 
 def tracebacks(setup: Setup) -> None:
-    """A traceback belongs to its message: by indentation, behind the priority too, or in one object."""
+    """A traceback belongs to its message: it is indented, after the priority too, or in one object."""
     for options, begins in (((), "  "), ((), "<4>  "), (("--log-format", "json"), "")):
         with setup.daemon(*options) as daemon:
             patch_viewer(daemon, FAULTY)
@@ -194,7 +194,7 @@ def tracebacks(setup: Setup) -> None:
             daemon.spawn()
             wait_for(lambda: b"ready" in daemon.said(), "it serves")
             with Client(daemon.state / "view") as client:
-                client.send(b'{"ask": "book", "tenant": "alpha"}\n')
+                client.send(b'{"ask": "watch", "tenant": "alpha"}\n')
                 require(client.rest() == b"", "the view is closed")
             daemon.running().send_signal(signal.SIGTERM)
             require(daemon.status() == 0, daemon.said())
@@ -204,13 +204,13 @@ def tracebacks(setup: Setup) -> None:
                 require(told["traceback"].startswith("Traceback") and told["part"] == "view", told)
                 require(told["program"] == "firm-viewer", told)
             else:
-                require("firm-viewer: a fault of view" in lines[1], lines)
+                require("firm-viewer: fault of view" in lines[1], lines)
                 require(lines[2] == f"{begins}Traceback (most recent call last):", lines)
                 require(all(line.startswith(begins) for line in lines[2:-1]) and len(lines) > 6, lines)
 
 
 def uncaught(setup: Setup) -> None:
-    """An error that nothing has caught, in a thread too, is told as all else is."""
+    """An uncaught error, in a thread too, is reported in the same form as all messages."""
     with setup.daemon() as daemon:
         patch(daemon, UNCAUGHT)
         daemon.refuses(1, "firmd: an error that nothing has caught", "\n  RuntimeError: of a thread", "of the program")
@@ -219,7 +219,7 @@ def uncaught(setup: Setup) -> None:
 
 
 def unheard(setup: Setup) -> None:
-    """A service whose standard error nobody reads any more goes on."""
+    """A service whose standard error has no reader any more goes on."""
     reading, writing = os.pipe()
     with setup.daemon() as daemon:
         words = [*daemon.words, "--firm", daemon.firm, "--state", str(daemon.state)]
@@ -234,11 +234,11 @@ def unheard(setup: Setup) -> None:
         require(daemon.status() == 0, "its end")
 
 
-# Whose a socket is.
+# Owners of sockets.
 
 
 def with_its_number(path: Path, inode: int) -> socket.socket:
-    """A socket of that name whose file has the number of one that was removed."""
+    """Return a socket of that name whose file has the number of a removed one."""
     for place in range(2_000):
         filler = path.with_name(f"filler-{place}")
         filler.touch()
@@ -255,7 +255,7 @@ def with_its_number(path: Path, inode: int) -> socket.socket:
 
 
 def number_of_a_successor(setup: Setup) -> None:
-    """A firmd that ends slowly leaves the socket of its successor alone, though its file has the number of its own."""
+    """A firmd that ends slowly leaves the socket of its successor alone, though both files have the same number."""
     with setup.daemon() as daemon:
         may_end = daemon.folder / "may-end"
         patch(daemon, SLOW_TO_END.format(may_end=str(may_end)))
@@ -281,7 +281,7 @@ def is_served(path: Path) -> bool:
 
 
 def two_at_a_time(setup: Setup) -> None:
-    """Of two that find a dead daemon's socket at the same time one has the name, and the other is told."""
+    """Of two that find a dead daemon's socket at the same time, one gets the name, and the other an error."""
     with setup.daemon() as dead, setup.daemon() as slow, setup.daemon() as other:
         dead.start().kill()
         for daemon in (slow, other):
@@ -289,7 +289,7 @@ def two_at_a_time(setup: Setup) -> None:
         patch(slow, SLOW_TO_TAKE.format(taken=str(dead.any)))
         patch(other, PATIENT.format(waiting=str(dead.folder / "waiting")))
         slow.spawn()
-        wait_for((dead.folder / "taking").exists, "it has found the socket dead")
+        wait_for((dead.folder / "taking").exists, "the first finds the socket dead")
         other.spawn()
         for daemon in (slow, other):
             wait_for(
@@ -308,7 +308,7 @@ def two_at_a_time(setup: Setup) -> None:
 
 
 def locked_folders(setup: Setup) -> None:
-    """Clients that keep the folders of their sockets locked delay a start by little, and an end by nothing."""
+    """Clients that keep the folders of their sockets locked delay a start by little, and an end not at all."""
     with setup.daemon() as daemon, ExitStack() as held:
         folders = [daemon.folder / f"client-{place}" for place in range(190)]
         require(LOCK_SECONDS * len(folders) > 2 * START_SECONDS, "a wait for each would be too long")
@@ -325,31 +325,43 @@ def locked_folders(setup: Setup) -> None:
         require(not any((folder / "lines").exists() for folder in folders), "its sockets are removed")
 
 
+def messages_until_ready(command: list[str]) -> str:
+    """Return a service's messages until it serves; then end it."""
+    with subprocess.Popen(command, stdin=subprocess.DEVNULL, stderr=subprocess.PIPE) as service:
+        said = b""
+        while not said.endswith(b": ready\n") and (line := program.opened(service.stderr).readline()):
+            said += line
+        service.terminate()
+    return said.decode()
+
+
 def folders_of_others(setup: Setup) -> None:
-    """Root writes nothing in a folder of another user, who could lead it elsewhere by a link: each program says whose
-    the folder is, and ends."""
+    """Root writes nothing in a folder of another user, who could redirect it by a link: each program names the
+    folder's owner, and ends; firm-api serves other tenants."""
     if os.geteuid():
         raise Skipped("it needs root, to have other users' folders")
     with tempfile.TemporaryDirectory(prefix="firm-") as name:
         folder, victim = Path(name, "state"), Path(name, "victim")
         folder.mkdir()
         (folder / "lock").symlink_to(victim)
-        places = ["--view", "v", "--state", str(folder)]
         verbs = (["state"], ["rewrite", "--extent"], ["new-id"])
         commands = [[*JOURNAL_TOOL, *words, str(folder)] for words in verbs]
         commands += [
             [*FIRMD, "--firm", setup.program, "--roster", "r", "--state", str(folder), "--socket", f"{name}/s"]
         ]
-        commands += [[*AGENT, "run", "--queue", "q", "--name", "a1", "--machines", "m1=1", *places]]
-        commands += [[*QUEUE, "--tenant", "alpha", "--socket", f"{name}/s", "--firm", "f", *places]]
-        for command in commands:
-            for owner in (NOBODY, 0):  # in a folder of root's own the link alone is refused
-                os.chown(folder, owner, owner)
-                victim.write_text("victim")
+        agent = ["--server=unix:q", "--tenant=alpha", "--name=a1", "--machines=m1=1", f"--state={folder}"]
+        commands += [[*AGENT, "run", *agent]]
+        api = [*FIRM_API, "run", "--state", "s", f"--socket={name}/s", "--lines=alpha=f", f"--queue=alpha={folder}"]
+        for owner in (NOBODY, 0):  # in a folder of root's the link alone is refused
+            os.chown(folder, owner, owner)
+            victim.write_text("victim")
+            told = f"it belongs to user {NOBODY}: run this as that user" if owner else "symbolic links"
+            for command in commands:
                 done = subprocess.run(command, stdin=subprocess.DEVNULL, capture_output=True, text=True, timeout=60)
                 require(done.returncode == 4 and victim.read_text() == "victim", (command, done))
-                told = f"it belongs to user {NOBODY}: run this as that user" if owner else "symbolic links"
                 require(told in done.stderr, (command, done.stderr))
+            said = messages_until_ready(api)
+            require(told in said and victim.read_text() == "victim", said)
         command = [*FIRMD, "--firm", setup.program, "--roster", "r", "--socket", f"{name}/s", "--state"]
         for state, told in led_by_others(Path(name)).items():
             done = subprocess.run([*command, str(state)], stdin=subprocess.DEVNULL, capture_output=True, text=True)
@@ -358,7 +370,7 @@ def folders_of_others(setup: Setup) -> None:
 
 
 def led_by_others(folder: Path) -> dict[Path, str]:
-    """Return folders of root's, and some to be made, that others could lead elsewhere, and why each is refused."""
+    """Return folders of root's, and some to be made, that others could redirect, with the reason for each refusal."""
     way, target, shared = folder / "way", folder / "target", folder / "shared"
     for one in (way, target, shared):
         one.mkdir()
@@ -410,7 +422,7 @@ def main() -> int:
     parser = argparse.ArgumentParser(description=(__doc__ or "").splitlines()[0])
     parser.add_argument("--quick", action="store_true", help="the part that tests/quick runs")
     program.add_program(parser)
-    parser.add_argument("--only", default="", help="nothing but the checks whose names have these words")
+    parser.add_argument("--only", default="", help="run only the checks whose names have these words")
     options = parser.parse_args()
     setup = Setup(options.program, options.quick, 0)
     named: dict[str, Check] = {check.__name__.replace("_", " "): partial(check, setup) for check in CHECKS}

@@ -1,45 +1,45 @@
-"""Who may ask firm-queue what, what is no request, and which files are shown as the outputs of tasks."""
+"""Check the rights of the queue's users, invalid requests, and access to the files of tasks' outputs."""
 
 from __future__ import annotations
 
 import os
+import shutil
 import sys
+import threading
 import time
-from base64 import b64decode
 from collections.abc import Callable
-from concurrent.futures import ThreadPoolExecutor
 from functools import partial
 from typing import Any
 
 from harness.checks import Skipped, require
-from harness.deployed import client as clients
-from queue_kit import ANN, BOB, FOREVER, Case, Client, Json, Setup, as_user, claim_place
+from harness.deployed import SERVICE
+from queue_client import LIMIT_SECONDS, Client, Json, as_user
+from queue_kit import ANN, BOB, FOREVER, Case, Setup, claim_place
 
 CAROL = 61_103  # a user without a name, of a queue
-SOON_SECONDS = 0.3  # in which a refusal would have come
-Queue = clients.Queue
-# A queue of another user, who need not be able to read what it is imported from.
-# What is imported later may be in a folder that this user can't read.
+SOON_SECONDS = 0.3  # a refusal would have come in this time
+# A firm-api of another user, from a copy of the package, as this one may be in a folder that the user can't read.
 BY_USER = """\
-import encodings.ascii, os, sys
-from firm_service.queue import daemon
-user = int(sys.argv[1])
+import os, sys
+folder, user = sys.argv[1], int(sys.argv[2])
 os.setgroups([])
 os.setgid(user)
 os.setuid(user)
-sys.exit(daemon.main(sys.argv[2:]))
+sys.path.insert(0, folder)
+from firm.api import daemon
+sys.exit(daemon.main(sys.argv[3:]))
 """
 
 
 def users(setup: Setup) -> None:
-    """Each user sees and changes what is his alone, and may have so many tasks; operators see and change all."""
+    """Each user sees and changes only the user's own tasks, up to a bound; operators see and change all."""
     if os.geteuid():
         raise Skipped("it needs root, to be other users")
     with setup.case("--most-of-user=10", "--socket-mode=666").start() as case, case.client() as root:
         os.chmod(case.folder, 0o755)
         submit: Json = {"ask": "submit", "command": ["forever"], "dir": "/tmp"}
-        ask = partial(as_user, path=case.socket)
-        answers = as_user(ANN, case.socket, [submit, {**submit, "array": [1, 9]}, submit, {"ask": "status"}])
+        ask = partial(as_user, place=case.place)
+        answers = as_user(ANN, case.place, [submit, {**submit, "array": [1, 9]}, submit, {"ask": "status"}])
         require([answer.get("submit", {}).get("number") for answer in answers[:2]] == [1, 2], answers)
         require(answers[0]["submit"]["job"] == f"u{ANN}", answers)
         require(answers[2]["error"] == "quota", answers)
@@ -54,7 +54,10 @@ def users(setup: Setup) -> None:
         names = [answer.get("error") for answer in found[1:10]]
         others = ["not-yours", "operator-only", "operator-only", "no-such-job"]
         require(names == ["no-such-task"] * 5 + others, names)
-        require([row["task"] for row in found[11]["tasks"]] == ["3"] and found[12]["history"] == [], found[11:])
+        require(
+            [row["task"] for row in found[11]["tasks"]] == ["3"] and found[12].get("error") == "operator-only",
+            found[11:],
+        )
         require(len(root.ask("tasks")) == 11, root.ask("tasks"))
         require({row["user"] for row in root.ask("tasks", user=str(ANN))} == {str(ANN)}, "the rows of a user")
         require(root.ask("cancel", tasks=["1", "3"])["changed"] == ["1", "3"], "an operator may")
@@ -62,33 +65,33 @@ def users(setup: Setup) -> None:
 
 
 def heavy(setup: Setup) -> None:
-    """Users other than operators have no job above --most-weight, nor go on with one of before; by default none is
-    heavier than usual."""
+    """Users other than operators have no job above --most-weight, and can't go on with an earlier one; by default
+    none is heavier than usual."""
     if os.geteuid():
         raise Skipped("it needs root, to be other users")
     submit: Json = {"ask": "submit", "command": FOREVER, "dir": "/tmp", "hold": True}
     with setup.case("--socket-mode=666") as case:
         case.folder.chmod(0o755)
         case.start()
-        answers = as_user(ANN, case.socket, [{**submit, "weight": 11}, {**submit, "job": f"u{BOB}"}])
+        answers = as_user(ANN, case.place, [{**submit, "weight": 11}, {**submit, "job": f"u{BOB}"}])
         require([answer["error"] for answer in answers] == ["weight-too-large", "not-yours"], answers)
-        (found,) = as_user(BOB, case.socket, [submit])
+        (found,) = as_user(BOB, case.place, [submit])
         require(found["submit"] == {"number": 1, "first": None, "last": None, "count": 1, "job": f"u{BOB}"}, found)
         case.kill()
         case.options.append("--most-weight=1000000")
         case.start()
-        (found,) = as_user(ANN, case.socket, [{**submit, "job": "old", "weight": 1_000_000}])
+        (found,) = as_user(ANN, case.place, [{**submit, "job": "old", "weight": 1_000_000}])
         require("submit" in found, found)
         case.kill()
         case.options.append("--most-weight=5")
         case.start()
         given: list[Json] = [{"weight": 6}, {"weight": 5, "job": "a"}, {}, {"job": "old"}, {"weight": 10**7}]
-        answers = as_user(ANN, case.socket, [{**submit, **fields} for fields in given])
+        answers = as_user(ANN, case.place, [{**submit, **fields} for fields in given])
         names = [answer.get("error") for answer in answers]
         require(names == ["weight-too-large", None, None, "weight-too-large", "bad-field"], answers)
         require("weight 6; a job of yours may have 5" in answers[0]["text"], answers[0])
         two: list[Json] = [{"command": FOREVER, "dir": "/"}, {"command": FOREVER, "dir": "/", "job": "b", "weight": 9}]
-        (refused,) = as_user(ANN, case.socket, [{"ask": "submit-all", "submissions": two}])
+        (refused,) = as_user(ANN, case.place, [{"ask": "submit-all", "submissions": two}])
         require((refused.get("error"), refused.get("at")) == ("weight-too-large", 1), refused)
         with case.client() as root:
             root.submit(*FOREVER, hold=True, job="c", weight=1_000_000)
@@ -98,7 +101,7 @@ def heavy(setup: Setup) -> None:
 
 
 def faulty(setup: Setup) -> None:
-    """Each faulty request is refused by name, and nothing is made of it."""
+    """Each faulty request is refused by name, and has no effect."""
     with setup.case().start() as case, case.client() as client:
         good: Json = {"command": ["x"], "dir": "/"}
         commands: list[Any] = [None, [], "x", [1], [""], ["a\0"], ["x" * 200_000], ["\ud800"]]
@@ -108,7 +111,7 @@ def faulty(setup: Setup) -> None:
             *({**good, "array": value} for value in ([1], [2, 1], [-1, 2], ["1", "2"], [0, 10**7], 5)),
             *({**good, "job": value} for value in ("", "Web", "x" * 17, 3)),
             *({**good, "weight": value} for value in (0, 1_000_001, 1.5, True)),
-            *({**good, "time": value} for value in (0, -1, "5", 10**400, float("inf"), float("nan"))),
+            *({**good, "time": value} for value in (0, -1, "5", 10**400)),
             *({**good, "near": value} for value in (["m"] * 5, ["M"], "m1")),
             *({**good, "env": value} for value in ([], {"1x": "a"}, {"A": 1}, {"A": "\0"})),
             *({**good, "retries": value} for value in (-1, 101, 1.0)),
@@ -123,23 +126,17 @@ def faulty(setup: Setup) -> None:
         for request in bad:
             answer = client.refused("bad-field", "submit", **request)
             require(answer["text"].startswith(answer["field"]), (request, answer))
-        for text in (b"x", b"[]", b"7", b"{}", b'{"ask": 1}', b"\xff\xfe", b"[" * 100_000):
-            client.send_text(text + b"\n")
-            answer = client.answer()
-            require(answer["error"] == "bad-request", (text[:10], answer))
+        client.refused("bad-request", "submit", **good, time=float("inf"))
         client.refused("bad-field", "tasks", states=["nowhere"])
         client.refused("bad-field", "tasks", user="nobody-of-this-name")
         client.refused("no-such-task", "wait", tasks=["x"])
         client.refused("no-such-machine", "cordon", machines=["m9"])
         require(client.ask("status")["last_number"] == 0 and client.ask("tasks") == [], "something was made")
-        with case.client() as other:
-            other.send_text(b"x" * (9 * 2**20))
-            require(other.answer()["error"] == "too-long", "a request that is too long")
         require(client.submit() == 1, "it still serves")
 
 
 def logs(setup: Setup) -> None:
-    """What a task has written is read from any place, and followed until its attempt has ended."""
+    """A task's output is read from any place, and followed until its attempt has ended."""
     with setup.case().start() as case, case.client() as client, case.client() as agent:
         agent.ask("register", agent="a1", id="x", machines={"m1": 1}, runs=[])
         client.submit(*FOREVER)
@@ -147,28 +144,26 @@ def logs(setup: Setup) -> None:
         agent.ask("claim", token="aaaaaaaa", run=1, **claim_place(case))
         path = case.folder / "output"
         path.write_bytes(b"first\n" + bytes(range(256)) * 1_000)
-        with case.client() as early, Queue(case.socket) as queue, ThreadPoolExecutor(1) as pool:
-            early.send({"ask": "log", "task": "1", "attempt": 1, "follow": True})
-            following = pool.submit(lambda: next(queue.log("1", follow=True)))
-            time.sleep(SOON_SECONDS)
-            running = {"token": "aaaaaaaa", "event": "running", "pid": 1, "time": time.time(), "host": None}
-            agent.ask("told", events=[{**running, "output": str(path)}])
-            require(b64decode(early.answer().get("log", "")).startswith(b"first\n"), "followed before it has begun")
-            require(following.result().startswith(b"first\n"), "followed by a client before it has begun")
-        text, end = log_of(client, task="1")
-        require(text == path.read_bytes() and end["state"] == "running", (len(text), end))
-        require(log_of(client, task="1", **{"from": 256_000})[0] == path.read_bytes()[256_000:], "from a place")
-        client.send({"ask": "log", "task": "1", "follow": True, "from": 256_006})
-        with open(path, "ab") as file:
-            file.write(b"more")
-        require(b64decode(client.answer()["log"]) == b"more", "what is added")
-        with open(path, "ab") as file:
-            file.write(b"last")
+        followed = [Following(client, task="1", attempt=1), Following(client, task="1")]
+        time.sleep(SOON_SECONDS)
+        running = {"token": "aaaaaaaa", "event": "running", "pid": 1, "time": time.time(), "host": None}
+        agent.ask("told", events=[{**running, "output": str(path)}])
+        followed.append(Following(client, task="1", from_=256_000))
+        for following in followed:
+            case.until(lambda: path.read_bytes().endswith(following.text) and following.text, "it is followed")
+        require(b"".join(client.log("1")) == path.read_bytes(), "as a whole")
+        for more in (b"more", b"last"):
+            with open(path, "ab") as file:
+                file.write(more)
+            case.until(lambda: all(one.text.endswith(more) for one in followed), "what is added")
+        require(client.state("1") == "running", client.state("1"))
         ended = {"token": "aaaaaaaa", "event": "ended", "status": 5, "asked": False}
         agent.ask("told", events=[ended])
-        found = [client.answer(), client.answer()]
-        require(b64decode(found[0]["log"]) == b"last", found)
-        require(found[1] == {"end": {"at": 256_014, "state": "failed", "status": 5}}, found)
+        for following in followed:
+            following.join(LIMIT_SECONDS)
+            require(not following.is_alive() and path.read_bytes().endswith(following.text), "it has ended")
+        require([len(one.text) for one in followed] == [256_014, 256_014, 14], [len(one.text) for one in followed])
+        require((client.state("1"), client.ask("task", task="1")["status"]) == ("failed", 5), "how it ended")
         path.unlink()
         client.refused("no-output", "log", task="1", attempt=1)
         client.refused("no-such-attempt", "log", task="1", attempt=2)
@@ -179,11 +174,11 @@ def logs(setup: Setup) -> None:
         (case.folder / "quick").write_text("quick")
         output = {"output": str(case.folder / "quick"), "host": None}
         agent.ask("told", events=[{**ended, **output, "token": "bbbbbbbb", "status": 0}])
-        require(log_of(client, task="2")[0] == b"quick", "the output of what ended before it was seen to run")
+        require(b"".join(client.log("2")) == b"quick", "the output of what ended before it was seen to run")
 
 
 def others_files(setup: Setup) -> None:
-    """The queue, root's here, reads no file for a user that is neither the user's nor the run's own."""
+    """The queue, which runs as root here, reads a file for a user only if the user's or the run's own user owns it."""
     if os.geteuid():
         raise Skipped("it needs root, to be other users")
     with setup.case("--socket-mode=666").start() as case, case.client() as agent:
@@ -192,7 +187,7 @@ def others_files(setup: Setup) -> None:
         secret, path = case.folder / "secret", case.folder / "output"
         secret.write_text("secret")
         path.symlink_to(secret)
-        ask = partial(as_user, ANN, case.socket)
+        ask = partial(as_user, ANN, case.place)
         ask([{"ask": "submit", "command": FOREVER, "dir": "/tmp", "output": str(path)}])
         agent.ask("claim", token="aaaaaaaa", run=1, **claim_place(case))
         running = {"token": "aaaaaaaa", "event": "running", "pid": 1, "time": time.time(), "output": str(path)}
@@ -204,12 +199,14 @@ def others_files(setup: Setup) -> None:
 
 
 def files_of_the_queue(setup: Setup) -> None:
-    """Where an agent of root runs a task as its user, no file of the queue's own user is shown; where the queue's own
-    agent runs it, its files are that user's. Both hold after a restart too."""
+    """If root's agent runs a task as its user, no file of the queue's own user is shown; if the queue's own agent
+    runs it, its files are that user's. Both hold after a restart too."""
     if os.geteuid():
         raise Skipped("it needs root, to be other users")
     with setup.case_alone("--socket-mode=666", "--lease=600") as case:
-        case.words = [sys.executable, "-c", BY_USER, str(CAROL), "run"]
+        case.words = [sys.executable, "-c", BY_USER, str(case.folder), str(CAROL), "run"]
+        package = shutil.copytree(SERVICE / "firm", case.folder / "firm")
+        (package / "RELEASE").write_text("of a copy")
         case.state.mkdir()
         secret = case.folder / "secret"
         secret.write_text("secret")
@@ -219,25 +216,25 @@ def files_of_the_queue(setup: Setup) -> None:
         for name in ("linked-1", "linked-3"):
             (case.folder / name).symlink_to(secret)
         case.start()
-        begin(case, partial(as_user, 0, case.socket), "a1", {"1": "linked-1", "2": "absent"})
-        begin(case, partial(as_user, CAROL, case.socket), "a2", {"3": "linked-3"})
+        begin(case, partial(as_user, 0, case.place), "a1", {"1": "linked-1", "2": "absent"})
+        begin(case, partial(as_user, CAROL, case.place), "a2", {"3": "linked-3"})
         for _ in range(2):
-            found = as_user(ANN, case.socket, [{"ask": "log", "task": task} for task in "12"] + [{"ask": "status"}])
+            found = as_user(ANN, case.place, [{"ask": "log", "task": task} for task in "12"] + [{"ask": "status"}])
             require([answer.get("error") for answer in found] == ["no-output", "no-output", None], found)
             texts = [answer["text"].replace(name, "") for answer, name in zip(found, ("linked-1", "absent"))]
             require(texts[0] == texts[1], f"a refusal tells what is there: {texts}")
-            found = as_user(ANN, case.socket, [{"ask": "log", "task": "3"}])
-            require(b64decode(found[0].get("log", "")) == b"secret", found)
+            found = as_user(ANN, case.place, [{"ask": "log", "task": "3"}])
+            require(found[0].get("log") == "secret", found)
             case.kill()
             case.start()
 
 
 def begin(case: Case, ask: Callable[[list[Json]], list[Json]], name: str, outputs: dict[str, str]) -> None:
-    """Has an agent, on a machine of its own, begin tasks of a user with these outputs, by their names."""
+    """Start tasks of a user with these outputs, by their names, at an agent with a separate machine."""
     agent: Json = {"ask": "register", "agent": name, "id": name, "machines": {f"m{name}": len(outputs)}}
     for task, output in outputs.items():
         submit = {"ask": "submit", "command": FOREVER, "dir": "/tmp", "output": str(case.folder / output)}
-        (answer,) = as_user(ANN, case.socket, [submit])
+        (answer,) = as_user(ANN, case.place, [submit])
         require(str(answer["submit"]["number"]) == task, answer)
     ask([{**agent, "runs": []}])
     runs: list[Json] = []
@@ -255,14 +252,17 @@ def begin(case: Case, ask: Callable[[list[Json]], list[Json]], name: str, output
     require(answers[1] == {"told": len(events)}, answers)
 
 
-def log_of(client: Client, **fields: Any) -> tuple[bytes, Json]:
-    """The whole answer to a request for a log."""
-    client.send({"ask": "log", **fields})
-    text = b""
-    while "log" in (answer := client.answer()):
-        require(answer["at"] == len(text) + fields.get("from", 0), answer["at"])
-        text += b64decode(answer["log"])
-    return text, answer["end"]
+class Following(threading.Thread):
+    """Follows a task's output."""
+
+    def __init__(self, client: Client, task: str, **query: Any) -> None:
+        super().__init__(daemon=True)
+        self._pieces, self.text = client.log(task, follow=True, **query), b""
+        self.start()
+
+    def run(self) -> None:
+        for piece in self._pieces:
+            self.text += piece
 
 
 CHECKS = (users, heavy, faulty, logs, others_files, files_of_the_queue)

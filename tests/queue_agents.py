@@ -5,15 +5,16 @@ from __future__ import annotations
 import time
 
 from harness.checks import require
-from queue_kit import FOREVER, Client, Json, Setup, claim_place
+from queue_client import Client, Json
+from queue_kit import FOREVER, Setup, claim_place
 
 FORMER_SECONDS = 4.0  # the lease of a queue before another one with a shorter one
-SOON_SECONDS = 0.3  # in which something that must not happen would have happened
+SOON_SECONDS = 0.3  # a forbidden event would have happened in this time
 KEPT_LEASE = "SELECT value FROM meta WHERE name = 'lease'"
 
 
 def other_slots(setup: Setup) -> None:
-    """An agent that is back with another number of slots keeps what runs; firm has the number once nothing does."""
+    """An agent that returns with another number of slots keeps its runs; firm gets the number once none is left."""
     with setup.case("--lease=300").start() as case, case.client() as client:
         agent = case.agent("a1", m1=1, m2=1)
         client.submit(*FOREVER, array=[1, 3])
@@ -34,7 +35,7 @@ def other_slots(setup: Setup) -> None:
 
 
 def lower_lease(setup: Setup) -> None:
-    """A queue with a shorter lease waits for what runs by the one before it, however often it is started meanwhile."""
+    """A queue with a shorter lease waits for runs under the former one, however often it is started meanwhile."""
     with setup.case(f"--lease={FORMER_SECONDS}").start() as case:
         with case.client() as client, case.client() as agent:
             agent.ask("register", agent="a1", id="x", machines={"m1": 1}, runs=[])
@@ -57,8 +58,8 @@ def lower_lease(setup: Setup) -> None:
 
 
 def claimed_again(setup: Setup) -> None:
-    """A claim whose answer was lost, repeated once its attempt has ended as lost, begins no attempt with the same
-    token: it would take the first one's row. The agent ends the run and claims with another token."""
+    """A lost claim that is repeated once its attempt has ended as lost starts no attempt with the same token, which
+    would take the first one's row. The agent ends the run and claims with another token."""
     with setup.case("--lease=15", "--margin=0.1").start() as case, case.client() as client:
         claim: Json = {"token": "aaaaaaaa", "run": 1}
         registration: Json = {"agent": "a1", "id": "x", "machines": {"m1": 1}}
@@ -92,4 +93,25 @@ def machine(client: Client, name: str) -> Json:
     return next(row for row in client.ask("machines") if row["machine"] == name)
 
 
-CHECKS = (other_slots, lower_lease, claimed_again)
+def memory_of_machines(setup: Setup) -> None:
+    """A task that names more memory than any machine has is refused, if all agents report their machines' memory."""
+    with setup.case("--lease=300").start() as case, case.client() as client, case.client() as first:
+        first_of: Json = {"agent": "a1", "id": "x", "machines": {"m1": 2, "m2": 1}, "runs": []}
+        others: list[object] = [5, [], {"m9": 1}, {"m1": 0}, {"m1": 1.5}, {"m1": "1G"}, {"m1": True}, {"m1": 2**61}]
+        for memory in others:
+            told = first.refused("bad-field", "register", **first_of, memory=memory)
+            require(told["field"] == "memory", told)
+        first.ask("register", **first_of, memory={"m1": 2**30})
+        client.submit(memory=2**40)  # the memory of m2 is unknown
+        first.ask("register", **first_of, memory={"m1": 2**30, "m2": 2**20})
+        told = client.refused("memory-too-large", "submit", command=["x"], dir="/", memory=2**30 + 1)
+        require(told["text"] == "memory: 1,073,741,825 bytes; the largest machine has 1,073,741,824", told)
+        both = [{"command": ["x"], "dir": "/"}, {"command": ["x"], "dir": "/", "memory": 2**40}]
+        require(client.refused("memory-too-large", "submit-all", submissions=both)["at"] == 1, "the second")
+        require(client.submit(memory=2**30) == 2, "as much as there is")
+        with case.client() as other:
+            other.ask("register", agent="a2", id="y", machines={"m3": 1}, runs=[])
+            client.submit(memory=2**40)
+
+
+CHECKS = (memory_of_machines, other_slots, lower_lease, claimed_again)

@@ -1,4 +1,4 @@
-"""Damages a queue's state in each way that a disk or an operator may, and checks that the queue notices.
+"""Damage a queue's state in each way that a disk or an operator may, and check that the queue notices.
 
 Each trial copies a state that a clean stop or a kill has left, changes one of its files, and reads the copy with the
 queue's own parts. They must report the damage, or read the same as from an unchanged copy.
@@ -19,21 +19,21 @@ from collections.abc import Callable
 from concurrent.futures import ProcessPoolExecutor
 from dataclasses import dataclass, fields
 from functools import cache, partial
-from multiprocessing import Process, get_context
+from multiprocessing import get_context
 from pathlib import Path
 from threading import Timer
 from typing import Any
 
 from harness.checks import require
-from harness.deployed import Attempt, Doors, Firm, Task
-from firm_service.faults import Exit, Fault
-from firm_service.queue import queries
-from firm_service.queue.core import Bounds, Core
-from firm_service.queue.day import day_of
-from firm_service.queue.fields import submit_of
-from firm_service.queue.states import Change, End
-from firm_service.queue.store import DATABASE, REACH, NotWritten, Store
-from firm_service.queue.users import User
+from harness.deployed import Attempt, FirmdSockets, Firm, Task
+from firm.queue.rows import CORDONED, Mark
+from firm.common.faults import Exit, Fault
+from firm.queue import queries
+from firm.queue.core import QueueLimits, Core
+from firm.queue.fields import submit_of
+from firm.queue.states import UserAction, End
+from firm.queue.store import DATABASE, REACH, NotWritten, Store
+from firm.common.users import User
 from queue_kit import FAST, Setup
 
 TRIALS, QUICK_TRIALS = 500, 20
@@ -45,16 +45,16 @@ FOREVER = {"command": ["/bin/rm", "-r", "/tmp/x"], "dir": "/tmp"}
 
 
 class Parts:
-    """The queue's database and what it knows, without sockets."""
+    """The queue's database and its memory, without sockets."""
 
     def __init__(self, folder: Path) -> None:
         self.damage: list[Fault] = []
         self.store = Store(folder, "alpha")
         self.store.on_damage = self.damage.append
-        doors = Doors("alpha", folder / "view", folder / "lines")
-        self.core = Core(self.store, Firm(doors, lambda heard: None), Bounds(100_000, 200_000, 100_000))
+        doors = FirmdSockets("alpha", folder / "view", folder / "lines")
+        self.core = Core(self.store, Firm(doors, lambda heard: None), QueueLimits(100_000, 200_000, 100_000))
 
-    async def begin(self) -> queries.Kept:
+    async def begin(self) -> queries.StoredState:
         await self.store.start()
         return await self.core.load()
 
@@ -82,7 +82,7 @@ async def fill(folder: Path, rounds: int, keep: Callable[[int], None] = lambda a
     store.save_agent("a1", "alpha-1", {"m1": 4, "m2": 8})
     store.save_agent("a2", "alpha-2", {"m3": 4})
     store.keep_lease(60.0)
-    store.mark("m2", "cordoned")
+    store.mark("m2", Mark(CORDONED, 7, "a new disk"))
     for at in range(rounds):
         first = submit(core, ANN, f"key-{at}" if at < KEYS else None, job="web", retries=2)
         submit(core, ANN, after=[str(first.name)], env={"SECRET": "x" * 50})
@@ -90,7 +90,7 @@ async def fill(folder: Path, rounds: int, keep: Callable[[int], None] = lambda a
         attempt(core, first, 0 if at % 2 else 3, 10 * at + 1)
         attempt(core, array, at % 4 or None, 10 * at + 2)
         if at % 5 == 0:
-            core.change(BOB, Change.CANCEL, [task for task in array.submission.tasks.values() if task.index == 4])
+            core.change(BOB, UserAction.CANCEL, [task for task in array.submission.tasks.values() if task.index == 4])
         if at == rounds // 2:
             submit(core, ANN, command=["x" * 20_000, "y" * 30_000], job="long")
         await store.settled()
@@ -111,7 +111,7 @@ async def read_all(folder: Path) -> Any:
             await parts.store.close()
 
 
-def all_of(kept: queries.Kept, connection: sqlite3.Connection) -> Any:
+def all_of(kept: queries.StoredState, connection: sqlite3.Connection) -> Any:
     rows, last = kept.rows, kept.rows.last_number
     live = sorted((str(task.name), task.is_held, task.outcome, task.attempts) for task in rows.live_tasks())
     memory = (last, live, sorted(rows.open), kept.agents, kept.marks, kept.spent, kept.lease)
@@ -122,14 +122,11 @@ def all_of(kept: queries.Kept, connection: sqlite3.Connection) -> Any:
     attempts = [
         list(map(shown, queries.attempts_of(connection, task.name))) for one in whole for task in one.tasks.values()
     ]
-    history = queries.history(connection, queries.Asked(limit=100_000))
-    failed, more = queries.ended(connection, queries.Asked(outcomes=frozenset(["failed", "cancelled"])), 2**26)
+    history = queries.history(connection, queries.TaskFilter(limit=100_000))
     answers = [queries.answer_to(connection, ANN.number, f"key-{at}") for at in range(KEYS)]
-    day = day_of(connection, time.time(), BOB.number)
-    ended = [shown(task) for one in failed for task in one.tasks.values()]
     past = [(one.number, one.failed, sorted(one.tasks)) for one in forgotten]
     jobs = queries.own_jobs(connection, ["web", "long", "other", "u1002"])
-    return memory, details, tasks, attempts, history, ended, more, answers, day.outcomes, past, jobs
+    return memory, details, tasks, attempts, history, answers, past, jobs
 
 
 def shown(row: Task | Attempt) -> tuple[Any, ...]:
@@ -145,7 +142,7 @@ class Trial:
     """A change of one file in a copy of a state."""
 
     state: Path
-    older: tuple[Path, ...]  # earlier copies of the same, to be put in its place
+    older: tuple[Path, ...]  # earlier copies of the same file, to replace it
     file: str
     seed: int
 
@@ -225,13 +222,14 @@ def fill_until_killed(live: Path, base: Path) -> None:
 
 
 def damaged(setup: Setup) -> None:
-    """No changed bit, cut, missing or older file is served unseen, after a clean stop or a kill."""
+    """No changed bit, cut, missing or older file is served unnoticed, after a clean stop or a kill."""
     count = QUICK_TRIALS if setup.is_quick else TRIALS
     with tempfile.TemporaryDirectory(prefix="queue-damage-", dir=FAST) as name:
         stopped, killed = Path(name) / "stopped", Path(name) / "killed"
         for state in (stopped, killed):
             state.mkdir(mode=0o700)
-        process = Process(target=fill_until_killed, args=(killed, Path(name)))
+        # Not a fork: it would copy the locks that other checks' threads hold, such as SQLite's.
+        process = get_context("spawn").Process(target=fill_until_killed, args=(killed, Path(name)))
         process.start()
         asyncio.run(fill(stopped, ROUNDS))
         process.join()

@@ -1,4 +1,4 @@
-"""What firm-queue does where a word of firmd or of an agent is lost or late, and where nobody asks firm for a round."""
+"""Check the queue after lost or late messages of firmd or an agent, and when nobody requests a round."""
 
 from __future__ import annotations
 
@@ -11,29 +11,31 @@ from contextlib import closing, contextmanager, suppress
 from math import inf
 
 from harness.checks import require
-from harness.deployed import Book, Doors, Limits, backlog, books, bound
-from firm_service import view, viewed
-from firm_service.queue import giving
+from harness.deployed import Book, FirmdSockets, Limits, books, bound, fair_order
+from firm.viewer import view, view_books as viewed
+from firm.queue import placement_sync as giving
 from firmd_kit import Client as FirmdClient
-from queue_kit import FOREVER, Case, Json, Setup, Size, asked_of_firm, claim_place
+from queue_client import Json
+from queue_kit import FOREVER, Case, Setup, Size, claim_place
 from queue_tables import Plans
 
-SOON_SECONDS = 60.0  # for what comes within one, on a busy host
-LOOK_SECONDS = 1.0  # between two looks of the queue whose jobs firm has
-# A queue that has waits age 50 times as fast.
+SOON_SECONDS = 180.0  # for events within one, on a busy host
+LOOK_SECONDS = 1.0  # between two looks for jobs that firm has
+# A queue whose waits age 50 times as fast.
 SOON = """\
 import sys
-from firm_service.queue import daemon, giving
+from firm.api import daemon
+from firm.queue import placement_sync as giving
 giving.AGING_SECONDS = 0.1
 sys.exit(daemon.main(sys.argv[1:]))
 """
 
 
 def kept_ends(setup: Setup) -> None:
-    """What an agent keeps ends once it is cancelled, or its machine drained, though the cordon that kept it is gone. Of
-    one that is gone at once agents hear nothing."""
+    """A kept run ends once it is cancelled, or its machine drained, though the cordon that kept it is gone. Agents
+    hear nothing of a cordon that is taken back at once."""
     tokens = {"1": "aaaaaaaa", "2": "bbbbbbbb"}
-    with setup.case("--lease=300").start() as case, case.client() as client, case.client() as agent:
+    with setup.case("--lease=300").start_failing() as case, case.client() as client, case.client() as agent:
         register: Json = {"agent": "a1", "id": "x", "machines": {"m1": 2}}
         agent.ask("register", **register, runs=[])
 
@@ -45,7 +47,10 @@ def kept_ends(setup: Setup) -> None:
         for number, (task, token) in enumerate(tokens.items(), 1):
             client.submit(*FOREVER)
             agent.ask("claim", token=token, run=number, **claim_place(case, task))
-        client.send({"ask": "cordon", "machines": ["m1"]}, {"ask": "uncordon", "machines": ["m1"]})
+        with case.failure("hangs"):  # so that the cordon is gone before its report
+            for change, state in (("cordon", "cordoned"), ("uncordon", "up")):
+                client.send({"ask": change, "machines": ["m1"]})
+                case.until(lambda: [row["state"] for row in client.ask("machines")] == [state], change)
         require([*client.answer(), *client.answer()] == ["cordon", "uncordon"], "both are done")
         require((found := told()) == [], f"behind a cordon that is not there any more: {found}")
         require(agent.ask("kept", tokens=["aaaaaaaa"]) == 1, "what the agent has recorded holds")
@@ -57,7 +62,7 @@ def kept_ends(setup: Setup) -> None:
         client.ask("cordon", machines=["m1"])
         require((found := told())[:1] == [{"tell": "keep", "tokens": ["bbbbbbbb"]}], found)
         require(agent.ask("kept", tokens=["bbbbbbbb"]) == 1, "it is kept")
-        case.until(lambda: asked_of_firm(case, "machines") == [], "firm has m1 no more")
+        case.until(lambda: case.firm_rows("machines") == [], "firm has m1 no more")
         client.ask("drain", machines=["m1"])
         require((found := told()) == [{"tell": "end", "tokens": ["bbbbbbbb"]}], f"behind the drain: {found}")
         run = {"token": "bbbbbbbb", "task": "2", "run": 2, "machine": "m1", "state": "running"}
@@ -67,7 +72,8 @@ def kept_ends(setup: Setup) -> None:
 
 
 def kept_alone(setup: Setup) -> None:
-    """While all runs of a machine are kept by a cordon that is gone, firm gives its slots to nobody; then it has it."""
+    """While a removed cordon still keeps all runs of a machine, firm gives its slots to nobody; then firm has the
+    machine."""
     with setup.case("--lease=300").start() as case, case.client() as client, case.client() as agent:
         agent.ask("register", agent="a1", id="x", machines={"m1": 1}, runs=[])
         client.submit(*FOREVER)
@@ -76,23 +82,24 @@ def kept_alone(setup: Setup) -> None:
             client.ask(ask, machines=["m1"])
         agent.ask("kept", tokens=["aaaaaaaa"])
         client.submit(*FOREVER)
-        case.until(lambda: asked_of_firm(case, "machines") == [], "firm has m1 no more", SOON_SECONDS)
+        case.until(lambda: case.firm_rows("machines") == [], "firm has m1 no more", SOON_SECONDS)
         case.until_state(client, "2", "waiting")
         agent.ask("told", events=[{"token": "aaaaaaaa", "event": "ended", "status": 0, "asked": False}])
         require(claim_place(case)["task"] == "2", "it has the slot then")
 
 
 def first_round(setup: Setup) -> None:
-    """What an earlier run gave to firm, and did not come to ask a round for, has one as the queue begins."""
+    """If an earlier queue gave rows to firm and ended before it requested a round, the next queue requests one at
+    its start."""
     with setup.case() as case, case.firmd.client() as firm:
         for line in ("machine m 2", "job j 3", "task j mine"):
             require(firm.ask(f"{case.tenant} {line}".encode()).endswith(b" ok"), line)
         case.start()
-        case.until(lambda: asked_of_firm(case, "tasks")[0]["machine"] == "m", "a round places it", SOON_SECONDS)
+        case.until(lambda: case.firm_rows("tasks")[0]["machine"] == "m", "a round places it", SOON_SECONDS)
 
 
 def ages(setup: Setup) -> None:
-    """What waits beside a slot that is dearer than its wait is given it in the end, though nothing else changes."""
+    """A task beside a slot that costs more than its wait gets the slot in the end, though nothing else changes."""
     with setup.case(size=Size(spread=3)) as case:
         case.words = [sys.executable, "-c", SOON, "run"]
         case.start()
@@ -103,16 +110,17 @@ def ages(setup: Setup) -> None:
 
 
 def book_of(limits: Limits, *tasks: tuple[str | None, tuple[str, ...], int]) -> Book:
-    """Machines with 3 slots and 1, and tasks of weight 1: where each is, what it prefers and how long it has waited."""
+    """Return a book: machines with 3 slots and 1, and tasks of weight 1 with their places, preferences and waits."""
     found = Book(limits, {"m": 3, "n": 1}, {"j": 1})
     for number, (machine, prefers, waited) in enumerate(tasks):
-        found.tasks[f"t{number}"] = books.Task("j", number, prefers, -waited, None, machine)
+        found.tasks[f"t{number}"] = books.FirmTask("j", number, prefers, -waited, None, machine)
         found.waiting += machine is None
     return found
 
 
 def rounds_that_age() -> None:
-    """Rounds are asked for to make waits dearer only where that gives one a slot in some time, and nobody else asks."""
+    """The queue requests rounds to age waits only if that gives a task a slot in some time, and nobody else requests
+    one."""
     limits, dear = Limits("alpha", 64, 400, 1_000, 2, 0, 7), Limits("alpha", 64, 400, 1_000, 2, 0, 50_000)
     on_both = (("m", (), 0), ("n", (), 0))
     cases = {
@@ -142,12 +150,12 @@ def rounds_that_age() -> None:
 
 
 class Door:
-    """In front of firmd's socket for lines; as it takes the first `job`, the connection is lost before its reply."""
+    """A proxy for firmd's socket for lines; it cuts the connection after the first `job`, before its reply."""
 
     def __init__(self, case: Case) -> None:
         self.is_lost, self._lines = False, case.doors.lines
         path = case.folder / "door"
-        case.doors = Doors(case.tenant, case.doors.view, path)
+        case.doors = FirmdSockets(case.tenant, case.doors.view, path)
         self.listening = bound(path)
         self.listening.listen()
         threading.Thread(target=self._serve, daemon=True).start()
@@ -181,25 +189,27 @@ def losing(case: Case) -> Iterator[Door]:
 
 
 def lost_reply(setup: Setup) -> None:
-    """A job whose reply was lost is the queue's own as any other: it is closed, and comes with another weight then."""
+    """A job whose reply was lost belongs to the queue as any other: the queue closes it, and can submit it with
+    another weight."""
     with setup.case() as case, losing(case) as door, case.start().client() as client:
-        time.sleep(1.5 * LOOK_SECONDS)  # it has looked which jobs of an earlier run are there
+        time.sleep(1.5 * LOOK_SECONDS)  # it has looked for jobs of an earlier run
         client.submit(*FOREVER, job="web", weight=10)
         case.until(lambda: case.firm_tasks() == ["1"], "it is in firm")
         require(door.is_lost, "a reply was lost")
         client.ask("cancel", tasks=["1"])
-        case.until(lambda: asked_of_firm(case, "jobs") == [], "its job is closed", SOON_SECONDS)
+        case.until(lambda: case.firm_rows("jobs") == [], "its job is closed", SOON_SECONDS)
         client.submit(*FOREVER, job="web", weight=20)
         case.until(lambda: case.firm_tasks() == ["2"], "it is in firm, with another weight", SOON_SECONDS)
 
 
 def told_waits() -> None:
-    """Rows that are told anew have waited as long as is told: what is lighter with that takes no place of theirs."""
+    """Rows that are sent anew keep the waits that firmd reports: tasks that are lighter by these waits take no place
+    of theirs."""
     for weight, expected in {20: [], 502: [], 503: ["done 1-1", "job heavy 503", "task heavy 2-1"]}.items():
         plans = Plans()
         plans.book.jobs["light"] = 2
         plans.want(1, "light", 2)
-        plans.backlog = backlog.Backlog()
+        plans.backlog = fair_order.Backlog()
         plans.has("1-1", "light")
         plans.book.rounds, plans.book.waiting = 500, 1
         (plans.book,) = viewed.books_of("alpha", view.rows_of(plans.book)).tenants.values()
@@ -209,7 +219,8 @@ def told_waits() -> None:
 
 
 def admitted_again(setup: Setup) -> None:
-    """The tasks of a tenant that is retired and comes again are given to it, whatever it had answered before."""
+    """The tasks of a tenant that is retired and admitted again are submitted to it, whatever its earlier replies
+    were."""
     with setup.case_alone().start() as case, case.client() as client, FirmdClient(case.firmd.operator) as operator:
         case.agent("a1", m1=4)
         client.submit(*FOREVER, array=[1, 3])
@@ -224,11 +235,11 @@ def admitted_again(setup: Setup) -> None:
 
 
 def late_agent(setup: Setup) -> None:
-    """Nothing waits for an agent that is away while another has room."""
+    """Nothing waits for an absent agent while another has room."""
     with setup.case("--lease=300").start() as case, case.client() as client:
         first = case.agent("a1", m1=4)
         case.agent("a2", m2=4)
-        case.until(lambda: len(asked_of_firm(case, "machines")) == 2, "both are there")
+        case.until(lambda: len(case.firm_rows("machines")) == 2, "both are there")
         first.kill()
         client.submit(*FOREVER, array=[1, 4])
         case.until(lambda: len(case.world.running()) == 4, "all run on the other one")

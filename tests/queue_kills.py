@@ -1,5 +1,7 @@
-"""Kills of queue, firmd and agents, and failures of the disk, at random moments, and a judge that asks the database and
-what really ran alone."""
+"""Random kills of queue, firmd and agents, and random failures of the disk.
+
+A judge reads only the database and the record of processes.
+"""
 
 from __future__ import annotations
 
@@ -11,11 +13,12 @@ from contextlib import suppress
 from dataclasses import dataclass
 
 from harness.checks import require
-from queue_kit import LIMIT_SECONDS, Case, Client, Closed, Json, Size, StandIn
+from queue_client import LIMIT_SECONDS, Client, Closed, Json
+from queue_kit import Case, Size, StandIn
 
 
 class Submitter:
-    """A client that submits until it is told to stop, and sends again what was not answered."""
+    """A client that submits until it is stopped, and repeats requests without an answer."""
 
     pause = 0.03  # seconds between two submissions
 
@@ -41,10 +44,10 @@ class Submitter:
         if "submit" in answer:
             self.answers[key] = answer["submit"]
             return
-        require(answer["error"] in ("not-written", "stopping"), answer)
+        require(answer["error"] in ("not-written", "not-there", "stopping"), answer)
 
     def command(self) -> list[str]:
-        """How long a task takes, and its status."""
+        """Return a task's duration and status."""
         return [str(self.draw.choice([0.01, 0.1, 0.4])), str(self.draw.choice([0, 0, 0, 7]))]
 
     def _request(self, key: str) -> Json:
@@ -66,7 +69,8 @@ class Plan:
 
 
 def kills(case_of: Callable[..., Case], plan: Plan) -> None:
-    """Queue, firmd and agents are killed at random moments: each submission is there once, runs once, and ends once."""
+    """Queue, firmd and agents are killed at random moments: each submission is stored once, runs once, and ends
+    once."""
     draw = random.Random(plan.seed)
     with case_of("--lease=3", "--margin=0.5", size=Size(churn=200)).start() as case:
         agents = [case.agent("a1", m1=4, m2=3), case.agent("a2", m3=4)]
@@ -84,7 +88,8 @@ def kills(case_of: Callable[..., Case], plan: Plan) -> None:
 
 
 def disk_failures(case_of: Callable[..., Case], plan: Plan) -> None:
-    """The disk fails at random moments: what is acknowledged, while memory is read anew too, is there and goes on."""
+    """The disk fails at random moments: acknowledged work, also from a time when memory is read anew, is stored and
+    goes on."""
     draw = random.Random(plan.seed)
     with case_of("--lease=60", size=Size(churn=200)).start_failing() as case:
         agents = [case.agent("a1", m1=4, m2=3), case.agent("a2", m3=4)]
@@ -107,7 +112,7 @@ def disk_failures(case_of: Callable[..., Case], plan: Plan) -> None:
 
 
 def judge_all(case: Case, submitter: Submitter, agents: list[StandIn]) -> None:
-    """Judges once all has ended."""
+    """Judge once all has ended."""
     with case.client() as client:
         case.until(lambda: client.states() == {}, "all have ended")
         case.until(lambda: case.firm_tasks() == [], "firm has none of them")
@@ -116,7 +121,7 @@ def judge_all(case: Case, submitter: Submitter, agents: list[StandIn]) -> None:
 
 
 def kill_one(case: Case, agents: list[StandIn], draw: random.Random) -> None:
-    """Kills one of them, perhaps in its start too, and starts it again."""
+    """Kill one of them, perhaps during its start too, and start it again."""
     pause = draw.choice([0, 0.01, 0.2])
     victim = draw.choice(["queue", "queue", "firmd", "agent"])
     if victim == "queue":
@@ -140,7 +145,7 @@ def kill_one(case: Case, agents: list[StandIn], draw: random.Random) -> None:
 
 @dataclass(frozen=True)
 class Record:
-    """What the database says of an attempt."""
+    """The database's row of an attempt."""
 
     task: str
     number: int
@@ -150,15 +155,15 @@ class Record:
 
 @dataclass(frozen=True)
 class Book:
-    """The same of all: outcomes by task, and attempts in order."""
+    """All such rows: outcomes by task, and attempts in order."""
 
     tasks: dict[str, str]
     attempts: dict[str, list[Record]]
 
 
 def judged_book(case: Case, submitter: Submitter, *others: str) -> Book:
-    """Asks, of the database alone, that each submission is there, and each task ended once, in one of the usual ways
-    or of some others."""
+    """Require, from the database alone, that each submission is stored, and each task ended once, in one of the
+    usual ways or of some others."""
     submissions = dict(case.rows("SELECT number, COALESCE(last - first + 1, 1) FROM submission"))
     told = {answer["number"]: answer["count"] for answer in submitter.answers.values()}
     require(len(told) == len(submitter.answers), "two have one number")
@@ -179,7 +184,7 @@ def judged_book(case: Case, submitter: Submitter, *others: str) -> Book:
 
 
 def judge(case: Case, submitter: Submitter) -> None:
-    """Asks, of the database and of what really ran alone, that each submission is there and ended, once."""
+    """Require, from the database and the record of processes alone, that each submission is stored and ended, once."""
     book = judged_book(case, submitter)
     by_token = {record.token: record.outcome for records in book.attempts.values() for record in records}
     case.world.require_single()

@@ -1,41 +1,43 @@
-"""firm-queue over a real firmd, and stand-ins for agents that speak its protocol, for the checks that ask it."""
+"""The kit for checks of the queue: firm-api with a queue over a real firmd, and stand-ins for agents."""
 
 from __future__ import annotations
 
 import asyncio
 import itertools
 import json
-import os
 import secrets
 import signal
-import socket
 import sqlite3
 import subprocess
 import sys
 import tempfile
 import threading
 import time
-from collections.abc import Callable, Coroutine, Iterator, Sequence
+from collections.abc import Callable, Coroutine, Iterator
 from contextlib import closing, contextmanager, suppress
 from dataclasses import dataclass, field
 from pathlib import Path
 from typing import Any, TypeVar
 
+import aiohttp
 from agent_kit import remove
-from firmd_kit import Client as FirmdClient
-from firmd_kit import Daemon
+from firmd_kit import Client as FirmdClient, Daemon
 from harness.checks import Missed, require
-from harness.deployed import SERVICE, Doors, Firm
+from harness.deployed import SERVICE, FirmdSockets, Firm
 from harness.waiting import pause_since
+from queue_client import LIMIT_SECONDS, Answer, Client, Closed, Connection, Json, Place
 
-QUEUE = [sys.executable, str(SERVICE / "firm-queue"), "run"]
-# A queue of which commits, reads of all rows, or all looks at the database fail while files of these names are there,
-# and such reads take long; while there is `hangs`, commits do.
+FIRM_API = [sys.executable, str(SERVICE / "firm-api")]
+# A queue whose commits, counts of commits, reads of all rows, or all accesses to the database fail while files of these
+# names exist; such reads take long. While `hangs` exists, commits hang.
 FAILING = """\
 import os, sqlite3, sys, time
-from firm_service.queue import daemon, queries
-from firm_service.queue.store import Store
+from firm.api import daemon
+from firm.queue import queries
+from firm.queue.commit_count import Reach
+from firm.queue.store import Store
 commit, read, load, folder = Store._commit, Store._read, queries.load, sys.argv.pop(1)
+keep = Reach.keep
 def require_no(sign):
     if os.path.exists(os.path.join(folder, sign)):
         raise sqlite3.OperationalError("disk I/O error")
@@ -52,99 +54,27 @@ def failing_load(connection):
 def failing_read(store, *query):
     require_no("looks")
     return read(store, *query)
+def failing_keep(reach, number):
+    if os.path.exists(os.path.join(folder, "counts")):
+        raise OSError(28, "No space left on device")
+    keep(reach, number)
 Store._commit, Store._read, queries.load = failing_commit, failing_read, failing_load
+Reach.keep = failing_keep
 sys.exit(daemon.main(sys.argv[1:]))
 """
 ANN, BOB = 61_101, 61_102  # users without names
 FOREVER = ["forever"]  # the command of a task that never ends by itself
 HEADING = "tenant,nodes,arcs,life,spread,churn\n"
-LIMIT_SECONDS = 180.0  # for anything that is waited for
 LOOK_SECONDS = 0.02
 ASK_AGAIN_SECONDS = 0.2  # at most, by a stand-in for an agent
+MAX_RSS, CPU_SECONDS = 3 * 2**20, 0.25  # of each process of a stand-in for an agent
 FAST = Path("/dev/shm")
-Json = dict[str, Any]
 Result = TypeVar("Result")
-
-
-class Closed(Exception):
-    """The queue has closed the connection, or is not there."""
-
-
-class Client:
-    """A connection to the queue's socket."""
-
-    def __init__(self, path: Path) -> None:
-        self.socket = socket.socket(socket.AF_UNIX)
-        self.socket.settimeout(LIMIT_SECONDS)
-        try:
-            self.socket.connect(str(path))
-        except OSError as error:
-            raise Closed(str(error)) from error
-        self.answers = self.socket.makefile("rb")
-
-    def __enter__(self) -> Client:
-        return self
-
-    def __exit__(self, *_: object) -> None:
-        self.answers.close()
-        self.socket.close()
-
-    def send(self, *requests: Json) -> None:
-        self.send_text(b"".join(json.dumps(request).encode() + b"\n" for request in requests))
-
-    def send_text(self, text: bytes) -> None:
-        try:
-            self.socket.sendall(text)
-        except OSError as error:
-            raise Closed(str(error)) from error
-
-    def answer(self) -> Json:
-        """The next answer; what is told before it is passed by."""
-        found = self.line()
-        return self.answer() if "tell" in found else found
-
-    def line(self) -> Json:
-        """An answer, or what is told between answers."""
-        try:
-            line = self.answers.readline()
-        except ConnectionError as error:
-            raise Closed(str(error)) from error
-        if not line.endswith(b"\n"):
-            raise Closed("no answer")
-        found: Json = json.loads(line)
-        return found
-
-    def try_ask(self, ask: str, **fields: Any) -> Json:
-        """The answer, a refusal too."""
-        self.send({"ask": ask, **fields})
-        return self.answer()
-
-    def ask(self, ask: str, **fields: Any) -> Any:
-        """What the answer has under the request's name."""
-        answer = self.try_ask(ask, **fields)
-        require("error" not in answer, f"{ask} {fields}: {answer}")
-        return answer[ask]
-
-    def refused(self, name: str, ask: str, **fields: Any) -> Json:
-        """Asks that a request is refused by this name."""
-        answer = self.try_ask(ask, **fields)
-        require(answer.get("error") == name and answer["text"], f"{ask} {fields}: {answer} instead of {name}")
-        return answer
-
-    def submit(self, *command: str, **fields: Any) -> int:
-        found = self.ask("submit", command=list(command) or ["true"], dir="/tmp", **fields)
-        return int(found["number"])
-
-    def state(self, task: str) -> str:
-        return str(self.ask("task", task=task)["state"])
-
-    def states(self) -> dict[str, int]:
-        return dict(self.ask("status")["states"])
 
 
 @dataclass
 class Process:
-    """What an agent has begun."""
+    """A process that an agent has started."""
 
     task: str
     token: str
@@ -157,13 +87,14 @@ class Process:
 
 
 class World:
-    """What really runs, whatever becomes of the agents. Commands say for how long, and the status: SECONDS STATUS."""
+    """The simulated processes, which outlive agents. A command gives a process's duration and status: SECONDS
+    STATUS."""
 
     def __init__(self) -> None:
         self.processes: list[Process] = []
         self.by_token: dict[str, Process] = {}
-        self.is_held = False  # nothing ends by itself
-        self.leases: dict[str, float] = {}  # by agent, by CLOCK_BOOTTIME
+        self.is_held = False  # no process ends by itself
+        self.leases: dict[str, float] = {}  # by agent, in CLOCK_BOOTTIME
         self.owners: dict[str, str] = {}  # agents, by token
 
     def begin(self, agent: str, token: str, task: str, machine: str, command: list[str]) -> None:
@@ -175,7 +106,7 @@ class World:
         self.by_token[token], self.owners[token] = process, agent
 
     def look(self) -> None:
-        """Ends what has ended meanwhile: by itself, or as its agent's lease is over."""
+        """End the processes whose time or whose agent's lease is over."""
         now, boot = time.monotonic(), time.clock_gettime(time.CLOCK_BOOTTIME)
         for process in list(self.by_token.values()):  # the agents' thread may add some meanwhile
             if process.ended is not None:
@@ -187,14 +118,14 @@ class World:
                 process.ended, process.is_asked = min(by_itself, over), over < by_itself
 
     def end(self, token: str) -> None:
-        """Ends a process that an agent asks to end, if it has not ended."""
+        """End a process at its agent's request, if it has not ended."""
         self.look()
         process = self.by_token[token]
         if process.ended is None:
             process.ended, process.is_asked = time.monotonic(), True
 
     def running(self) -> dict[str, int]:
-        """How many processes there are of each task."""
+        """Return the number of processes of each task."""
         self.look()
         found: dict[str, int] = {}
         for process in list(self.by_token.values()):
@@ -203,7 +134,7 @@ class World:
         return found
 
     def require_single(self) -> None:
-        """Asks that no task ever had two processes at a time."""
+        """Require that no task ever had two processes at a time."""
         self.look()
         by_task: dict[str, list[Process]] = {}
         for process in list(self.processes):
@@ -214,24 +145,24 @@ class World:
                 require(holds, f"{task} ran twice at a time: {first} {second}")
 
     def ends(self, task: str) -> list[int]:
-        """The statuses with which processes of a task ended by themselves."""
+        """Return the statuses with which a task's processes ended by themselves."""
         self.look()
         return [one.status for one in self.processes if one.task == task and one.ended and not one.is_asked]
 
 
 @dataclass
 class Disk:
-    """What an agent keeps when it is killed."""
+    """The state of an agent that outlasts a kill."""
 
     id: str = field(default_factory=lambda: f"alpha-{secrets.token_hex(4)}")
     runs: dict[str, Json] = field(default_factory=dict)  # by token
-    events: list[Json] = field(default_factory=list)  # that are not acknowledged
+    events: list[Json] = field(default_factory=list)  # unacknowledged ones
     kept: set[str] = field(default_factory=set)
     last_run: int = 0
 
 
 class StandIn:
-    """An agent by the queue's protocol, with processes that are made of nothing but the world's word."""
+    """An agent by the API, whose processes exist only in the simulated world."""
 
     def __init__(self, case: Case, name: str, machines: dict[str, int], disk: Disk | None = None) -> None:
         self.case, self.name, self.machines = case, name, machines
@@ -243,8 +174,8 @@ class StandIn:
         self.claims = 0
         self.ends: list[str] = []  # of its connections
         self.lease = self.beat = 1.0
-        self.is_mute = False  # it beats no more
-        self._due: dict[str, float] = {}  # when a task may be claimed again
+        self.is_mute = False  # it sends no more heartbeats
+        self._due: dict[str, float] = {}  # the time of the next claim, by task
         self._claiming: set[str] = set()
         self._task: asyncio.Future[None] | None = None
 
@@ -253,7 +184,7 @@ class StandIn:
         return self
 
     def kill(self) -> None:
-        """As -9 does: what it has begun goes on."""
+        """Kill the agent as SIGKILL does: its processes go on."""
         if self._task is not None:
             self.case.cancel(self._task)
             self._task = None
@@ -264,27 +195,30 @@ class StandIn:
             group.create_task(self._talk_for_ever())
 
     async def _talk_for_ever(self) -> None:
+        url = f"http://localhost/v1/tenants/{self.case.tenant}/agents/connect"
         while True:
-            try:
-                reader, self.writer = await asyncio.open_unix_connection(self.case.socket, limit=1 << 26)
-            except OSError:
-                await asyncio.sleep(0.05)
-                continue
             self.owed: list[asyncio.Future[Json]] = []
             try:
-                async with asyncio.TaskGroup() as group:
-                    group.create_task(self._read(reader))
-                    group.create_task(self._work())
-            except* (OSError, EOFError, Closed) as group:
-                self.ends.append(repr(group.exceptions))
+                async with aiohttp.ClientSession(connector=aiohttp.UnixConnector(str(self.case.api))) as session:
+                    self.link = await session.ws_connect(url, max_msg_size=0)
+                    await self._work_on_link()
+            except (OSError, aiohttp.ClientError):  # it is not there
+                pass
             finally:
-                self.writer.close()
                 self._claiming.clear()
             await asyncio.sleep(0.05)
 
-    async def _read(self, reader: asyncio.StreamReader) -> None:
-        while line := await reader.readline():
-            answer = json.loads(line)
+    async def _work_on_link(self) -> None:
+        try:
+            async with asyncio.TaskGroup() as group:
+                group.create_task(self._read())
+                group.create_task(self._work())
+        except* (OSError, EOFError, Closed, aiohttp.ClientError) as errors:
+            self.ends.append(repr(errors.exceptions))
+
+    async def _read(self) -> None:
+        async for message in self.link:
+            answer = json.loads(message.data)
             if "tell" not in answer:
                 self.owed.pop(0).set_result(answer)
             elif answer["tell"] == "again":
@@ -294,21 +228,25 @@ class StandIn:
                     self._end(token, "told")
             elif answer["tell"] == "keep":
                 self.disk.kept.update(answer["tokens"])
-                self._send({"ask": "kept", "tokens": answer["tokens"]})
+                await self._send({"ask": "kept", "tokens": answer["tokens"]})
         raise EOFError
 
-    def _send(self, request: Json) -> asyncio.Future[Json]:
+    async def _send(self, request: Json) -> asyncio.Future[Json]:
+        """Send a request. Return the future of its answer."""
         future: asyncio.Future[Json] = asyncio.get_running_loop().create_future()
         self.owed.append(future)
-        self.writer.write(json.dumps(request).encode() + b"\n")
+        await self.link.send_json(request)
         return future
+
+    async def _ask(self, request: Json) -> Json:
+        return await (await self._send(request))
 
     async def _register(self) -> None:
         while True:
             runs = [{"token": token, **run} for token, run in self.disk.runs.items()]
             asked = time.clock_gettime(time.CLOCK_BOOTTIME)
             machines = {"agent": self.name, "id": self.disk.id, "machines": self.machines, "runs": runs}
-            answer = await self._send({"ask": "register", **machines})
+            answer = await self._ask({"ask": "register", **machines})
             if "error" not in answer:
                 break
             self.refusals.append(answer)
@@ -320,7 +258,7 @@ class StandIn:
             self._end(token, "told")
         if found["keep"]:
             self.disk.kept.update(found["keep"])
-            await self._send({"ask": "kept", "tokens": found["keep"]})
+            await self._ask({"ask": "kept", "tokens": found["keep"]})
 
     async def _work(self) -> None:
         await self._register()
@@ -342,7 +280,7 @@ class StandIn:
     async def _beat(self) -> None:
         asked = time.clock_gettime(time.CLOCK_BOOTTIME)
         open_runs = [token for token, run in self.disk.runs.items() if run["state"] != "ended"]
-        answer = await self._send({"ask": "beat", "runs": open_runs})
+        answer = await self._ask({"ask": "beat", "runs": open_runs})
         if "error" in answer:
             raise Closed(answer["error"])
         self.world.leases[self.name] = asked + answer["beat"]["lease"]
@@ -365,7 +303,7 @@ class StandIn:
         run |= {"line": place["line"], "firm": place["state"]}
         self.disk.runs[token] = run
         self.claims += 1
-        answer = await self._send({"ask": "claim", "token": token, "task": name, **place, "run": run["run"]})
+        answer = await self._ask({"ask": "claim", "token": token, "task": name, **place, "run": run["run"]})
         found = answer.get("claim", {"wait": answer.get("text")})
         if "work" in found:
             run["state"] = "running"
@@ -381,7 +319,7 @@ class StandIn:
         self._claiming.discard(name)
 
     def _look_at_runs(self) -> None:
-        """Ends what firm does not want, and notes what has ended."""
+        """End the runs that firm no longer wants, and record the ends."""
         self.world.look()
         book = self.firm.book
         for token, run in list(self.disk.runs.items()):
@@ -411,11 +349,12 @@ class StandIn:
         process = self.world.by_token[token]
         seconds = max(0.0, (process.ended or 0) - process.began)
         end = {"token": token, "event": "ended", "time": time.time(), "status": process.status, "seconds": seconds}
-        self.disk.events.append({**end, "asked": process.is_asked, "why": why})
+        used = {"max_rss": MAX_RSS, "cpu_seconds": CPU_SECONDS}
+        self.disk.events.append({**end, **used, "asked": process.is_asked, "why": why})
 
     async def _tell(self) -> None:
         events = self.disk.events[:1000]
-        answer = await self._send({"ask": "told", "events": events})
+        answer = await self._ask({"ask": "told", "events": events})
         if "error" in answer:
             if answer["error"] != "not-written":
                 raise Closed(str(answer))
@@ -429,7 +368,7 @@ class StandIn:
 
 @dataclass
 class Size:
-    """Of the tenant's arena, and how dear it is to preempt, and to share a machine."""
+    """The size of the tenant's arena, and the costs of preempting and of sharing a machine."""
 
     nodes: int = 4096
     arcs: int = 65_536
@@ -437,12 +376,12 @@ class Size:
     spread: int = 0
 
     def row(self, tenant: str) -> str:
-        """Of a roster."""
+        """Return the tenant's row of a roster."""
         return f"{tenant},{self.nodes},{self.arcs},1000000000,{self.spread},{self.churn}"
 
 
 class Firmd:
-    """A firmd for many cases, none of which does anything to it: each has a tenant of its own there."""
+    """A firmd that many cases share; each case has a separate tenant, and none disturbs the firmd."""
 
     def __init__(self, program: str) -> None:
         self.folder = Path(tempfile.mkdtemp(prefix="firm-queue-", dir=FAST))
@@ -459,7 +398,7 @@ class Firmd:
         remove(self.folder)
 
     def admit(self, size: Size) -> str:
-        """The name of a new tenant."""
+        """Admit a tenant; return its name."""
         name = f"t{next(self._numbers)}"
         self._say(f"+ admit {size.row(name)}", f"+ ok admitted {name}")
         return name
@@ -474,7 +413,7 @@ class Firmd:
 
 
 class Case:
-    """A folder with a queue and stand-ins for agents, over a firmd of its own or a tenant of another one."""
+    """A folder with a queue and stand-ins for agents, over a separate firmd or a tenant of a shared one."""
 
     def __init__(
         self, program: str, *options: str, size: Size = Size(), folder: Path = FAST, others: Firmd | None = None
@@ -483,16 +422,18 @@ class Case:
         (self.folder / "roster.csv").write_text(f"{HEADING}{size.row('alpha')}\n")
         self.firmd = Daemon(self.folder, program) if others is None else others.daemon
         self.tenant = "alpha" if others is None else others.admit(size)
-        self.socket, self.state = self.folder / "queue", self.folder / "queue-state"
-        self.doors = Doors(self.tenant, self.firmd.state / "view", self.firmd.any)
+        self.api, self.state = self.folder / "api", self.folder / "queue-state"
+        self.place = Place(self.api, self.tenant)
+        self.doors = FirmdSockets(self.tenant, self.firmd.state / "view", self.firmd.any)
         self.options = list(options)
-        self.words = list(QUEUE)
+        self.words = [*FIRM_API, "run"]
+        self.has_queue = True
         self.world = World()
         self.agents: list[StandIn] = []
         self.queue: subprocess.Popen[bytes] | None = None
         self.log = open(self.folder / "log", "wb")
         self.loop = asyncio.new_event_loop()
-        self.loop.set_exception_handler(lambda *_: None)  # connections of what is killed fail
+        self.loop.set_exception_handler(lambda *_: None)  # connections of killed processes fail
         self.thread = threading.Thread(target=self.loop.run_forever, daemon=True)
         self.thread.start()
         if others is None:
@@ -536,8 +477,8 @@ class Case:
     # The queue
 
     def start_failing(self, late: float | None = None) -> Case:
-        """Starts one whose disk fails within `failure`, and perhaps takes too long after so many seconds."""
-        first = "" if late is None else f"from firm_service.queue import store\nstore.LATE_SECONDS = {late}\n"
+        """Start a queue whose disk fails during `failure`, and optionally delays commits by this many seconds."""
+        first = "" if late is None else f"from firm.queue import store\nstore.LATE_SECONDS = {late}\n"
         self.words = [sys.executable, "-c", first + FAILING, str(self.folder), "run"]
         return self.start()
 
@@ -551,16 +492,18 @@ class Case:
             sign.unlink()
 
     def spawn(self) -> subprocess.Popen[bytes]:
-        places = {"state": self.state, "socket": self.socket, "firm": self.doors.lines, "view": self.doors.view}
-        words = [f"--{name}={path}" for name, path in places.items()]
-        words = [*self.words, f"--tenant={self.tenant}", *words, *self.options]
+        places = {"lines": self.doors.lines}
+        if self.has_queue:
+            places |= {"queue": self.state}
+        words = [f"--{name}={self.tenant}={path}" for name, path in places.items()]
+        words = [*self.words, f"--state={self.doors.view.parent}", f"--socket={self.api}", *words, *self.options]
         null = subprocess.DEVNULL
         return subprocess.Popen(words, stdin=null, stdout=null, stderr=self.log)
 
     def start(self) -> Case:
-        before, began = self.said().count("ready:"), time.monotonic()
+        before, began = self.said().count("api: ready\n"), time.monotonic()
         self.queue = process = self.spawn()
-        while self.said().count("ready:") == before:
+        while self.said().count("api: ready\n") == before:
             require(process.poll() is None, f"it ended with status {process.poll()}: {self.said()}")
             require(time.monotonic() - began < LIMIT_SECONDS, "the queue is not ready in time")
             pause_since(began)
@@ -569,8 +512,16 @@ class Case:
     def said(self) -> str:
         return (self.folder / "log").read_text()
 
+    def is_away(self, *texts: str) -> None:
+        """Require that firm-api serves, and gives the reason why it has no queue."""
+        at = len(self.said())
+        self.start()
+        said = self.said()[at:]
+        require(all(text in said for text in texts) and "have not ended" not in said, said)
+        self.stop()
+
     def refuses(self, status: int, *texts: str) -> None:
-        """Asks that the queue ends at its start, with this status and these words."""
+        """Require that firm-api ends at its start, with this status and these words."""
         at = len(self.said())
         got = self.spawn().wait(LIMIT_SECONDS)
         said = self.said()[at:]
@@ -589,7 +540,7 @@ class Case:
         require(status == 0 and "Traceback" not in self.said(), f"status {status}: {self.said()}")
 
     def client(self) -> Client:
-        return Client(self.socket)
+        return Client(self.place)
 
     def until(self, holds: Callable[[], object], what: str, seconds: float = LIMIT_SECONDS) -> None:
         began = time.monotonic()
@@ -609,16 +560,24 @@ class Case:
         except Missed as missed:
             raise Missed(f"{task} is {seen[0]}, not {state}{missed}") from None
 
+    def firm_rows(self, kind: str) -> list[Json]:
+        """Return firm's rows: tasks, machines or jobs."""
+        answers = list[Answer]()
+
+        def is_known() -> bool:
+            with closing(Connection(self.api)) as connection:
+                answers.append(connection.ask("GET", f"/v1/tenants/{self.tenant}/firm/{kind}?limit=1000"))
+            return answers[-1].status != 503  # from an API that does not know firm's rows yet
+
+        self.until(is_known, "firm's rows are known")
+        return list(answers[-1].good()["rows"])
+
     def firm_tasks(self) -> list[str]:
-        """The names of the tasks in firm, asked of firmd itself."""
-        with closing(socket.socket(socket.AF_UNIX)) as view:
-            view.settimeout(LIMIT_SECONDS)
-            view.connect(str(self.doors.view))
-            view.sendall(json.dumps({"ask": "tasks", "tenant": self.tenant}).encode() + b"\n")
-            return [row["task"] for row in json.loads(view.makefile("rb").readline())["tasks"]]
+        """Return the names of the tasks in firm."""
+        return [row["task"] for row in self.firm_rows("tasks")]
 
     def rows(self, words: str) -> list[Any]:
-        """What a query of the queue's database gives, asked by another program than the queue."""
+        """Return the rows of a query to the queue's database, by another program than the queue."""
         with closing(sqlite3.connect(f"file:{self.state / 'queue.db'}?mode=ro", uri=True)) as connection:
             return connection.execute(words).fetchall()
 
@@ -631,65 +590,25 @@ class Setup:
     firmd: Firmd | None = None
 
     def case(self, *options: str, size: Size = Size()) -> Case:
-        """One that does nothing to firmd, which others ask too where there is such a one."""
+        """Return a case that does not disturb firmd; it shares a firmd with others if one is running."""
         return Case(self.program, *options, size=size, others=self.firmd)
 
     def case_alone(self, *options: str, size: Size = Size()) -> Case:
         return Case(self.program, *options, size=size)
 
 
-def asked_of_firm(case: Case, what: str) -> list[Json]:
-    with Client(case.doors.view) as view:
-        view.send({"ask": what, "tenant": case.tenant})
-        return list(view.answer()[what])
-
-
 def claim_place(case: Case, task: str | None = None) -> Json:
-    """The first task that firm has placed, or the one that is named, as a claim names it."""
+    """Return the first task that firm has placed, or the named one, in the form of a claim."""
     found: list[Json] = []
 
     def is_placed() -> bool:
-        rows = asked_of_firm(case, "tasks")
+        rows = case.firm_rows("tasks")
         found[:] = [row for row in rows if row["machine"] is not None and task in (None, row["task"])]
         return bool(found)
 
     case.until(is_placed, "it is placed")
     state = (case.firmd.state / "id").read_text().strip()
     return {"task": found[0]["task"], "line": found[0]["line"], "machine": found[0]["machine"], "state": state}
-
-
-def as_user(user: int, path: Path, requests: list[Json]) -> list[Json]:
-    """The answers to another user's requests, by a child of that user."""
-
-    def ask() -> list[Json]:
-        try:
-            with Client(path) as client:
-                client.send(*requests)
-                return [client.answer() for _ in requests]
-        except Exception as error:
-            return [{"error": "child", "text": repr(error)}] * len(requests)
-
-    found: list[Json] = as_user_does(user, ask)
-    return found
-
-
-def as_user_does(user: int, work: Callable[[], Any], groups: Sequence[int] = ()) -> Any:
-    """Return a function's value, as JSON has it, from a child of another user and of these groups besides."""
-    given, taken = os.pipe()
-    child = os.fork()
-    if child == 0:
-        try:
-            os.setgroups(groups)
-            os.setgid(user)
-            os.setuid(user)
-            os.write(taken, json.dumps(work()).encode())
-        finally:
-            os._exit(0)
-    os.close(taken)
-    with open(given, "rb") as file:
-        text = file.read()
-    os.waitpid(child, 0)
-    return json.loads(text)
 
 
 def numbers(names: list[str]) -> Iterator[int]:

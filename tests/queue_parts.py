@@ -1,9 +1,8 @@
-"""Checks of parts of the queue and the agent without sockets and processes: counters, retention, files of events."""
+"""Checks of parts of the queue without sockets and processes: counters, lookups, retention, checksums."""
 
 from __future__ import annotations
 
 import asyncio
-import os
 import random
 import sqlite3
 import tempfile
@@ -15,22 +14,28 @@ from pathlib import Path
 from types import SimpleNamespace
 from typing import Any
 from unittest.mock import patch
+from zlib import crc32
 
 from harness.checks import Missed, require
-from harness.deployed import Book, Doors, Firm, agent_events, books, supervisor
-from firm_service import agent_state, agent_sweep, view
-from firm_service.agent_state import Key, State, StateError
-from firm_service.queue import retention, sums, users
-from firm_service.queue.agents import Agents, Terms
-from firm_service.queue.backlog import Machines
-from firm_service.queue.core import Core
-from firm_service.queue.firm import Heard
-from firm_service.queue.listing import Lists
-from firm_service.queue.rows import Task
-from firm_service.queue.seals import columns, seal
-from firm_service.queue.states import Change, Facts, state_of
-from firm_service.queue.store import NotWritten
-from firm_service.queue.users import User
+from harness.deployed import Book, FirmdSockets, Firm, books
+from firm.common import tables
+from firm.viewer import view
+from firm.api.rows import QueueRows
+from firm.queue import queries, retention
+from firm.cli import accounting as sums
+from firm.common import users
+from firm.queue.agents import AgentRecord, Agents, Terms
+from firm.queue.backlog import Machines
+from firm.common.seen_time import SeenTime
+from firm.queue.core import Core
+from firm.queue.firmd import Heard
+from firm.queue.listing import Lists
+from firm.queue.requests import Requests
+from firm.queue.rows import DRAINED, Attempt, Mark, Task
+from firm.queue.checksums import STARTS, columns, seal, sealed
+from firm.queue.states import UserAction, Facts, state_of
+from firm.queue.store import NotWritten
+from firm.common.users import User
 from queue_damage import ANN, BOB, Parts, attempt, submit
 from queue_kit import FAST
 from queue_tables import book_of
@@ -39,6 +44,7 @@ ROOT = User(0, True)
 NO_MACHINES = Machines({}, set())
 DAY = 86_400.0
 STEPS = 400  # of changes in the check of counters
+COUNTING = "WITH RECURSIVE number (it) AS (SELECT 1 UNION ALL SELECT it + 1 FROM number)"  # without end
 
 
 def within(work: Callable[[Path], None]) -> Callable[[], None]:
@@ -51,7 +57,7 @@ def within(work: Callable[[Path], None]) -> Callable[[], None]:
     return check
 
 
-# What the queue counts.
+# Counters.
 
 
 def know(core: Core, book: Book) -> None:
@@ -71,18 +77,16 @@ def require_counts(core: Core) -> None:
         state = state_of(core.facts(task)).value
         oldest[state] = min(oldest.get(state, task.submission.sent), task.submission.sent)
     require(core.ages() == (core.states_of(None), oldest), f"{core.ages()} instead of {oldest}")
+    of_agents = [one for open_ones in core.rows.open_of_agent.values() for one in open_ones.items()]
+    require(dict(of_agents) == core.rows.open and all(core.rows.open_of_agent.values()), of_agents)
     for name, job in core.rows.jobs.items():
         begun = [task for task in core.begun().values() if task.submission.job == name]
         wanted = core.counts(task for task in core.rows.live_tasks() if task.submission.job == name)
         require(core.states_with(job.counts, begun) == wanted, name)
-    for submission in core.rows.submissions.values():
-        begun = [task for task in core.begun().values() if task.submission is submission]
-        states = core.states_of_submission(submission, begun)
-        require(states == core.counts(submission.tasks.values()), f"{submission.number}: {states}")
 
 
 def counters(folder: Path) -> None:
-    """After random changes the counters by user, job and submission, and the oldest, equal those of a walk."""
+    """After random changes the counters by user and job, and the oldest, equal those of a walk."""
 
     async def play() -> None:
         parts, draw = Parts(folder), random.Random(7)
@@ -104,9 +108,9 @@ def counters(folder: Path) -> None:
                     owner = ANN if task.submission.user == ANN.number else BOB
                     submit(core, owner, after_any=[str(task.name)], array=[1, 3])
                 case "hold" | "release" | "cancel" as change if task is not None:
-                    core.change(ROOT, Change(change), [task])
+                    core.change(ROOT, UserAction(change), [task])
                 case "give" if task is not None:
-                    book.tasks[task.firm] = books.Task(task.submission.job, 1, (), 0, None, None)
+                    book.tasks[task.firm] = books.FirmTask(task.submission.job, 1, (), 0, None, None)
                 case "place" if task is not None and task.firm in book.tasks:
                     book.tasks[task.firm].machine = draw.choice([None, "m1"])
                 case "begin" if task is not None and task.open_attempt is None and not task.submission.is_blocked:
@@ -124,7 +128,7 @@ def counters(folder: Path) -> None:
 
 
 def no_walks(folder: Path) -> None:
-    """Status, metrics, jobs and the page's submissions read counters, and look at no task that only waits."""
+    """Status, metrics, jobs and the page's submissions read counters, and examine no task that only waits."""
 
     async def play() -> None:
         parts = Parts(folder)
@@ -141,8 +145,191 @@ def no_walks(folder: Path) -> None:
         setattr(core, "facts", facts_of)
         require(core.ages()[0] == Counter(queued=2_000, held=2_000), core.ages())
         require(len(Lists(core, Agents(core, Terms())).jobs(ROOT)) == 2, "two jobs")
-        states = [core.states_of_submission(one, []) for one in core.rows.submissions.values()]
-        require(states == [{"queued": 2_000}, {"held": 2_000}] and not looked, f"{states}; {len(looked):,} looks")
+        require(not looked, f"{len(looked):,} looks")
+        await parts.store.close()
+
+    asyncio.run(play())
+
+
+def machines_of_many(folder: Path) -> None:
+    """The list of machines searches all agents for none of them, which takes seconds with thousands. An agent that is
+    not lost has a machine before one that is."""
+
+    async def play() -> None:
+        parts = Parts(folder)
+        await parts.begin()
+        agents = Agents(parts.core, Terms())
+        for name, machine, is_lost in (
+            ("a1", "m1", True),
+            ("a2", "m1", False),
+            ("a3", "m1", False),
+            ("a4", "m2", True),
+        ):
+            agents.agents[name] = AgentRecord(name, name, {machine: 4}, 0.0, is_lost=is_lost)
+        wanted = {machine: agents.of_machine(machine) for machine in ("m1", "m2")}
+        with patch.object(Agents, "of_machine", side_effect=AssertionError):
+            rows = Lists(parts.core, agents).machines([])
+        found = {row["machine"]: (row["agent"], row["state"]) for row in rows}
+        require(found == {"m1": ("a2", "silent"), "m2": ("a4", "silent")}, found)
+        require(agents.by_machine() == wanted, "another agent has it")
+        await parts.store.close()
+
+    asyncio.run(play())
+
+
+def attempts_of_many(folder: Path) -> None:
+    """What concerns many agents or machines, as their registrations after a start, an operator's status or a drain,
+    looks at all attempts once at most, and not again for each."""
+
+    async def play() -> None:
+        parts, count = Parts(folder), 20
+        await parts.begin()
+        core, agents = parts.core, Agents(parts.core, Terms())
+        tasks = submit(core, ANN, array=[1, count]).submission.tasks
+        for number, task in tasks.items():
+            core.begin_attempt(task, Attempt(task.name, 1, f"a{number}", "id", f"m{number}", 1, f"{number:032x}", 0.0))
+        core.rows.open = Walked(core.rows.open)
+        for number in tasks:
+            runs = [{"token": f"{number:032x}", "state": "running"}] if number > 1 else []
+            asked = {"agent": f"a{number}", "id": "id", "machines": {f"m{number}": 1}, "runs": runs}
+            await agents.register(Session(), {"ask": "register", **asked})
+        require(Walked.count == 0, f"{Walked.count} looks at all attempts for {count} registrations")
+        found = [told for told in agents.differences() if "is open" in told]
+        require([told.partition(":")[0] for told in found] == [str(tasks[1].name)], found)
+        changed, _ = await agents.set_mark([f"m{number}" for number in tasks], Mark(DRAINED, 0))
+        require(len(changed) == count and Walked.count <= 1, f"{Walked.count} looks for {count} machines")
+        await parts.store.close()
+
+    asyncio.run(play())
+
+
+class Walked(dict[str, Attempt]):
+    """Attempts that count who looks at all of them."""
+
+    count = 0
+
+    def values(self) -> Any:
+        Walked.count += 1
+        return super().values()
+
+
+def needs_that_ended(folder: Path) -> None:
+    """Tasks that had ended when others were submitted to wait for them are forgotten like all that has ended, though
+    their arrays went on: each end would look at all that are kept."""
+
+    async def play() -> None:
+        parts = Parts(folder)
+        await parts.begin()
+        core, count = parts.core, 50
+        arrays = [submit(core, ANN, array=[1, 2], hold=True).submission.tasks for _ in range(count)]
+        core.change(ANN, UserAction.CANCEL, [tasks[1] for tasks in arrays])
+        waiting = submit(core, ANN, after_any=[str(tasks[1].name) for tasks in arrays])
+        last = submit(core, ANN, after_any=[str(arrays[-1][2].name)])
+        require((waiting.submission.open_needs, last.submission.open_needs) == (0, 1), "they wait for what is live")
+        core.change(ANN, UserAction.CANCEL, [tasks[2] for tasks in arrays])
+        core.rows.forget(10, 2**20)
+        require(last.submission.open_needs == 0 and not core.rows.waiters, core.rows.waiters)
+        require(len(core.rows.submissions) <= 2 + 10 // 2, f"{len(core.rows.submissions)} are in memory")
+        await parts.store.settled()
+        require((await core.load()).rows.live == 2, "both are there after a restart")
+        await parts.store.close()
+
+    asyncio.run(play())
+
+
+def one_of_many(folder: Path) -> None:
+    """A question for the output or the reasons of one task of a large array that memory has forgotten reads no other
+    task: claims wait for the same thread."""
+
+    async def play() -> None:
+        parts, count = Parts(folder), 200
+        await parts.begin()
+        core = parts.core
+        requests = Requests(core, Agents(core, Terms()), "alpha")
+        array = submit(core, ANN, array=[1, count], hold=True).submission
+        single = submit(core, ANN, hold=True, after_any=["1_3"])
+        core.change(ANN, UserAction.CANCEL, [*array.tasks.values(), single])
+        core.rows.forget(0, 0)
+        require(not core.rows.submissions, "they are in memory")
+        task = await requests._one(ANN, "1_7")
+        require((str(task.name), task.outcome) == ("1_7", "cancelled"), task.name)
+        require(len(task.submission.tasks) == 1, f"{len(task.submission.tasks)} tasks were read")
+        require(str((await requests._one(ANN, "2")).name) == "2", "one without others")
+        for user, text, why in (
+            (ANN, "1", "1 is an array; name a task of it, as 1_1"),
+            (ANN, f"1_{count + 1}", "1_201: no such task"),
+            (BOB, "1_7", "1_7: no such task"),
+        ):
+            error = (await asyncio.gather(requests._one(user, text), return_exceptions=True))[0]
+            require(str(error) == why, error)
+        await parts.store.close()
+
+    asyncio.run(play())
+
+
+def needs_of_ended(folder: Path) -> None:
+    """To tell what a task waits for takes no look at all tasks of the arrays that have ended."""
+
+    async def play() -> None:
+        parts, steps = Parts(folder), 0
+        await parts.begin()
+        core, count = parts.core, 3_000
+        array = submit(core, ANN, array=[1, count], hold=True).submission
+        live = submit(core, ANN, hold=True)
+        waiting = submit(core, ANN, after_any=[str(array.number), str(live.name)])
+        core.change(ANN, UserAction.CANCEL, list(array.tasks.values()))
+        await parts.store.settled()
+        rows = QueueRows(folder, core.firm)
+        rows.tell_away("")
+
+        def step() -> int:
+            nonlocal steps
+            steps += 1
+            return 0
+
+        opened = rows._near._opened()
+        opened.set_progress_handler(step, 1)
+        with patch.object(rows._near, "_opened", lambda: Watched(opened)):
+            found = await rows.task(waiting.name, None)
+        require(found["reason"] == f"waits for {live.name}" and 0 < steps < count, f"{steps} steps: {found['reason']}")
+        await parts.store.close()
+
+    asyncio.run(play())
+
+
+class Watched:
+    """A connection that keeps its progress handler."""
+
+    def __init__(self, connection: sqlite3.Connection) -> None:
+        self._connection = connection
+
+    def __getattr__(self, name: str) -> Any:
+        return getattr(self._connection, name)
+
+    def set_progress_handler(self, *_: Any) -> None:
+        """Do nothing."""
+
+
+def long_reads(folder: Path) -> None:
+    """The time for a list begins with its query: one that has waited for another's long one is not cut short."""
+
+    def rest(db: sqlite3.Connection) -> list[Any]:
+        db.create_function("rest", 0, lambda: time.sleep(0.02))
+        return queries.fetched(db, f"{COUNTING} SELECT rest() FROM number WHERE it <= 40 LIMIT 40")
+
+    async def play() -> None:
+        parts = Parts(folder)
+        await parts.begin()
+        rows = QueueRows(folder, parts.core.firm)
+        rows.tell_away("")
+        with patch("firm.api.rows.READ_SECONDS", 1.5):
+            long = asyncio.create_task(
+                rows._read(lambda db: queries.fetched(db, f"{COUNTING} SELECT MAX(it) FROM number"))
+            )
+            await asyncio.sleep(0.3)
+            require(len(await rows._read(rest)) == 40, "it takes 0.8 s")
+        error = await asyncio.gather(long, return_exceptions=True)
+        require([getattr(one, "name", one) for one in error] == ["too-long"], error)
         await parts.store.close()
 
     asyncio.run(play())
@@ -168,12 +355,12 @@ def kept_ages(folder: Path) -> None:
         first.rounds = 130
         heavy = submit(core, ROOT, job="heavy", weight=39)
         core.sort(NO_MACHINES)
-        ages = [(first.rounds - (one.since or 0), core.backlog.first()) for one in (task, heavy)]
+        ages = [(first.rounds - (one.since or 0), core.backlog.first(ANN.number)) for one in (task, heavy)]
         hear(other)
-        ages += [(other.rounds - (one.since or 0), core.backlog.first()) for one in (task, heavy)]
+        ages += [(other.rounds - (one.since or 0), core.backlog.first(ANN.number)) for one in (task, heavy)]
         require([age for age, _ in ages] == [30, 0, 30, 0], ages)
-        require(core.backlog.first() == (-40, 1, -1), core.backlog.first())
-        other.tasks["1"] = books.Task("u1001", 1, (), 0, None, "m1")
+        require(core.backlog.first(ANN.number) == (-40, 1, -1), core.backlog.first(ANN.number))
+        other.tasks["1"] = books.FirmTask("u1001", 1, (), 0, None, "m1")
         attempt(core, task, None, 1)
         core.look_at([task.name])
         core.sort(NO_MACHINES)
@@ -194,12 +381,12 @@ def old_history(folder: Path) -> None:
         done = submit(core, ANN, "key-1")
         attempt(core, done, 0, 1)
         large = submit(core, ANN, array=[1, 1_200])
-        core.change(ROOT, Change.CANCEL, large.submission.tasks.values())
+        core.change(ROOT, UserAction.CANCEL, large.submission.tasks.values())
         half = submit(core, BOB, array="1,3,5")
         attempt(core, half, 0, 2)
         waiter = submit(core, BOB, after_any=["3"])
         gaps = submit(core, ANN, array="2,4-6")
-        core.change(ROOT, Change.CANCEL, gaps.submission.tasks.values())
+        core.change(ROOT, UserAction.CANCEL, gaps.submission.tasks.values())
         await parts.store.settled()
         commit, step = parts.store._commit, retention.STEP_SECONDS
 
@@ -210,8 +397,8 @@ def old_history(folder: Path) -> None:
         setattr(parts.store, "_commit", measured)
         retention.STEP_SECONDS = 0.0
         try:
-            early = await retention.Retention(core, 30 * DAY).remove_old()
-            count = await retention.Retention(core, -1.0).remove_old()
+            early = await retention.Retention(core, 30 * DAY, SeenTime(None)).remove_old()
+            count = await retention.Retention(core, -1.0, SeenTime(None)).remove_old()
         finally:
             retention.STEP_SECONDS = step
         require(early == 0, f"{early} were removed at once")
@@ -230,8 +417,28 @@ def old_history(folder: Path) -> None:
     asyncio.run(play())
 
 
+def clock_ahead(folder: Path) -> None:
+    """A start with a clock that is far ahead removes no history; what gets old while the process runs is removed."""
+
+    async def play() -> None:
+        parts = Parts(folder)
+        await parts.begin()
+        attempt(parts.core, submit(parts.core, ANN), 0, 1)
+        await parts.store.settled()
+        kept = await parts.core.load()
+        ahead, passed = time.time() + 40 * DAY, [0.0]
+        clock = SeenTime(kept.newest, lambda: ahead, lambda: passed[0])
+        old = retention.Retention(parts.core, 30 * DAY, clock)
+        require(await old.remove_old() == 0, "it ended just now")
+        passed[0] = 31 * DAY
+        require(await old.remove_old() == 1, "31 days have passed")
+        await parts.store.close()
+
+    asyncio.run(play())
+
+
 def damaged_history(folder: Path) -> None:
-    """A task whose time of its end is damaged, so that it looks old, is reported and not removed."""
+    """A task with a damaged time of its end, which makes it look old, is reported and not removed."""
 
     async def play() -> None:
         parts = Parts(folder)
@@ -243,7 +450,7 @@ def damaged_history(folder: Path) -> None:
             connection.execute("UPDATE submission SET sent = 1.0, sum = ?", [seal_of_old(connection)])
             connection.commit()
         with suppress(sqlite3.Error):
-            await retention.Retention(parts.core, 30 * DAY).remove_old()
+            await retention.Retention(parts.core, 30 * DAY, SeenTime(None)).remove_old()
         rows = await parts.store.read(lambda connection: tuple(connection.execute(COUNTS).fetchone()))
         require(rows[0] == 1 and "of task" in str(parts.damage), f"{rows}, {parts.damage}")
         await parts.store.close()
@@ -252,7 +459,7 @@ def damaged_history(folder: Path) -> None:
 
 
 def seal_of_old(connection: sqlite3.Connection) -> int:
-    """The checksum of the only submission as if it were old."""
+    """Return the checksum of the only submission as if it were old."""
     (row,) = connection.execute(f"SELECT {columns('submission')} FROM submission").fetchall()
     return seal("submission", (*row[:6], 1.0, *row[7:9]))
 
@@ -264,7 +471,7 @@ COUNTS = (
 
 
 def late_agents(folder: Path) -> None:
-    """Idle machines of an agent that is away, or late with a beat, leave firm; busy ones stay."""
+    """Idle machines of an absent agent, or of one with a late heartbeat, leave firm; busy ones stay."""
 
     async def play() -> None:
         parts = Parts(folder)
@@ -303,7 +510,7 @@ def late_agents(folder: Path) -> None:
 
 
 def token_twice(folder: Path) -> None:
-    """An attempt with the token of another one is not written, and takes nothing from that."""
+    """An attempt with the token of another one is not written, and takes nothing from that one."""
 
     async def play() -> None:
         parts = Parts(folder)
@@ -326,8 +533,40 @@ def token_twice(folder: Path) -> None:
     asyncio.run(play())
 
 
+def zero_of_either_sign(folder: Path) -> None:
+    """An agent's times of -0.0, which the database stores as 0.0, are no damage."""
+
+    async def play() -> None:
+        parts = Parts(folder)
+        agents, session, line = Agents(parts.core, Terms(60.0, 10.0)), Session(), "{:032x}".format
+        await agents.begin(await parts.begin())
+        await agents.register(session, {"ask": "register", "agent": "a1", "id": "alpha-1", "machines": {"m1": 4}})
+        for number in (1, 2):
+            attempt(parts.core, submit(parts.core, ANN), None, number)
+        running = {"token": line(1), "event": "running", "time": -0.0}
+        ended = {"token": line(2), "event": "ended", "status": 0, "time": -0.0, "seconds": -0.0}
+        require(await agents.told(session, {"ask": "told", "events": [running, ended]}) == 2, "both are taken")
+        await parts.store.close()
+        again = Parts(folder)
+        kept = await again.begin()
+        require([attempt.began for attempt in kept.rows.open.values()] == [0.0], kept.rows.open)
+        await again.store.close()
+
+    asyncio.run(play())
+
+
+def seals_of_letters(_: Path) -> None:
+    """The checksum of a row does not depend on the letters that Python knows: a further version would take the row for
+    a damaged one."""
+    for letter, text in {"\u00e9": "\\xe9", "\u4e2d": "\\u4e2d", "\U0001fae8": "\\U0001fae8"}.items():
+        row = (1_000, letter, 1, "[]")
+        wanted = crc32(f"(1000, '{text}', 1, '[]')".encode(), STARTS["request"])
+        require((seal("request", row), sealed("request", [row])) == (wanted, [(*row, wanted)]), f"the letter {text}")
+
+
 def default_jobs(folder: Path) -> None:
-    """The default job of a user whose login name looks like another user's default job is named by the number."""
+    """If a user's login name looks like another user's default job, the user's default job has the number as its
+    name."""
     names = {61_201: "u5", 61_202: "u61202", 61_203: "u05", 61_204: "ann", 61_205: "12"}
     with patch.object(users, "name_of", names.get):
         found = [users.job_of(number) for number in names]
@@ -338,6 +577,7 @@ class Session:
     """A connection of an agent, which nobody reads."""
 
     user = User(0, True)
+    is_remote = False
 
     def tell(self, words: dict[str, Any]) -> None:
         """Discard it."""
@@ -350,10 +590,10 @@ class Session:
 
 
 def counted_anew(folder: Path) -> None:
-    """Replies from before a tenant was retired, or from meanwhile, hold up nothing after it is admitted again."""
+    """Replies from before a tenant's retirement, or from meanwhile, delay nothing after it is admitted again."""
 
     async def play() -> None:
-        firm = Firm(Doors("alpha", folder / "view", folder / "lines"), lambda heard: None)
+        firm = Firm(FirmdSockets("alpha", folder / "view", folder / "lines"), lambda heard: None)
         lines = iter(range(2, 100))
 
         def tell(line: str, reply: str) -> None:
@@ -389,152 +629,43 @@ def cells(_: Path) -> None:
     require(found == ["'=1\\x1b[2J", "no such command: ./\\n\\r\\x9b", "a b", -1.5, None], found)
 
 
-# An agent's state.
-
-
-def state_of_agent(folder: Path) -> tuple[State, agent_events.Events]:
-    events = agent_events.Events(folder)
-    state = State(folder, "alpha", is_patient=True, observer=events)
-    events.check()
-    return state, events
-
-
-def run_once(state: State, number: int) -> None:
-    run = state.start(Key(f"t{number}", number, "firmd"), {"job": "j", "weight": 10, "machine": "m1", "ssh": ""})
-    state.record("running", run=run.number, pid=7)
-    state.record("ended", run=run.number, status=0, asked=False, seconds=1.0)
-
-
-def short_file(folder: Path) -> None:
-    """The file of an agent's events stays short after many runs, and keeps open runs and unacknowledged events."""
-    most, agent_state.MAX_FILE = agent_state.MAX_FILE, 10_000
-    try:
-        state, events = state_of_agent(folder)
-        first = state.start(Key("first", 1, "firmd"), {"job": "j", "weight": 1, "machine": "m1", "ssh": ""})
-        state.record("running", run=first.number, pid=7)
-        state.record("end", run=first.number, why="preempted")
-        last = state.start(Key("last", 2, "firmd"), {"job": "j", "weight": 1, "machine": "m2", "ssh": ""})
-        state.record("keep", run=last.number)
-        events.acknowledged(1)
-        for number in range(3, 303):
-            run_once(state, number)
-            state.history.tallies.clear()
-            if number < 300:
-                events.acknowledged(2)
-        size = (folder / agent_state.EVENTS).stat().st_size
-        require(size < 25_000, f"{size:,} bytes for two open runs")
-        told = [event["event"] for event in events.first()]
-        wanted = ["running", "ended"] * 3
-        require(told == wanted, told)
-        for _ in range(2):
-            state.lock.close()
-            time.sleep(0.2)  # a thread writes the cursor
-            again, heard = state_of_agent(folder)
-            runs = {
-                run.key.task: (run.number, run.token, run.machine, run.has_run, run.ends, run.is_kept, run.host)
-                for run in again.history.runs.values()
-            }
-            require(runs["first"][:5] == (1, first.token, "m1", True, "preempted"), runs)
-            require(runs["last"][:3] == (2, last.token, "m2") and runs["last"][5], runs)
-            require(again.history.last_run == 302 and again.history.name == state.history.name, again.history.last_run)
-            require([event["event"] for event in heard.first()][-6:] == wanted, heard.first())
-            require(again.regained == [], again.regained)
-            state = again
-        state.lock.close()
-    finally:
-        agent_state.MAX_FILE = most
-
-
-def torn_event(folder: Path) -> None:
-    """A start cuts an event that a power cut has torn, with its end on the disk; a changed earlier one is damage."""
-    state, _ = state_of_agent(folder)
-    for number in range(1, 4):
-        run_once(state, number)
-    whole = (folder / agent_state.EVENTS).read_bytes()
-    state.start(Key("torn", 9, "firmd"), {"job": "j", "weight": 10, "machine": "m1", "ssh": ""})
-    state.lock.close()
-    path = folder / agent_state.EVENTS
-    torn = bytearray(path.read_bytes())
-    torn[len(whole) : len(whole) + 100] = bytes(100)
-    path.write_bytes(torn)
-    for note in (folder / agent_state.OPEN).iterdir():
-        note.unlink()
-    again, _ = state_of_agent(folder)
-    require(again.history.last_run == 3 and path.read_bytes() == whole, "it is not cut")
-    run_once(again, 4)
-    again.lock.close()
-    again, _ = state_of_agent(folder)
-    again.lock.close()
-    good, draw = path.read_bytes(), random.Random(3)
-    lines = good.splitlines(keepends=True)
-    for _ in range(60):
-        place = draw.randrange(8 * (len(good) - len(lines[-1])))
-        changed = bytearray(good)
-        changed[place // 8] ^= 1 << place % 8
-        path.write_bytes(changed)
-        try:
-            found, _ = state_of_agent(folder)
-        except StateError:
-            continue
-        found.lock.close()
-        if found.history != again.history:  # a changed name of the checksum's field loses nothing
-            raise Missed(f"bit {place % 8} of byte {place // 8} is served")
-
-
-def sealed_files(_: Path) -> None:
-    """No changed bit in a run's status or claim is read as if it were whole."""
-    outcome = supervisor.Outcome(1, False, None, None, 2.5)
-    text = outcome.text().encode()
-    require(supervisor.opened(text.decode())["status"] == 1, text)
-    for place in range(8 * len(text)):
-        changed = bytearray(text)
-        changed[place // 8] ^= 1 << place % 8
-        try:
-            found = supervisor.opened(changed.decode())
-        except ValueError:
-            continue
-        same = isinstance(found, dict) and all(
-            found.get(name) == value for name, value in outcome._asdict().items() if value is not None
-        )
-        require(same, f"bit {place % 8} of byte {place // 8}: {found}")
-
-
-def old_runs(folder: Path) -> None:
-    """Folders of runs are removed a day after their end, with an output once the queue forgets the task; no others."""
-    made = {
-        "gone.1": (2, 0),
-        "kept.2": (2, 5),
-        "old.3": (31, 5),
-        "young.4": (0, 0),
-        "open.5": (40, 0),
-        "untold.6": (40, 5),
+def sizes(_: Path) -> None:
+    """Bytes are shown in people's notation."""
+    wanted = {
+        None: "-",
+        0: "0",
+        1_023: "1023",
+        10_250: "10K",
+        2**20 - 1: "1024K",
+        3 * 2**29: "1.5G",
+        2**50: "1024T",
     }
-    for name, (days, size) in made.items():
-        run = folder / "alpha-1" / name
-        run.mkdir(parents=True)
-        (run / "process").write_text("{}")
-        (run / "output").write_bytes(b"x" * size)
-        if name != "open.5":
-            (run / "status").write_text("{}")
-            os.utime(run / "status", (time.time() - days * DAY,) * 2)
-    count = agent_sweep.sweep(folder, {"alpha-1/untold.6"}, 30 * DAY)
-    left = sorted(run.name for run in (folder / "alpha-1").iterdir())
-    require((count, left) == (2, ["kept.2", "open.5", "untold.6", "young.4"]), left)
+    found = {count: tables.size(count) for count in wanted}
+    require(found == wanted, found)
+
+
+# An agent's state.
 
 
 CHECKS: dict[str, Callable[[], None]] = {
     "counters": within(counters),
     "no walks": within(no_walks),
+    "machines of many": within(machines_of_many),
+    "attempts of many": within(attempts_of_many),
+    "needs that ended": within(needs_that_ended),
+    "one of many": within(one_of_many),
+    "needs of ended": within(needs_of_ended),
+    "long reads": within(long_reads),
     "kept ages": within(kept_ages),
     "old history": within(old_history),
+    "clock ahead": within(clock_ahead),
     "damaged history": within(damaged_history),
     "cells": within(cells),
+    "sizes": within(sizes),
     "late agents": within(late_agents),
     "token twice": within(token_twice),
+    "zero of either sign": within(zero_of_either_sign),
     "default jobs": within(default_jobs),
     "counted anew": within(counted_anew),
-    "short file": within(short_file),
-    "torn event": within(torn_event),
-    "sealed files": within(sealed_files),
-    "old runs": within(old_runs),
+    "seals of letters": within(seals_of_letters),
 }

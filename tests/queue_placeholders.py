@@ -12,18 +12,20 @@ from string import ascii_lowercase
 
 from harness.checks import require
 from harness.deployed import Book, Spec, Submission, Task, backlog, books, rows
-from firm_service.queue.placeholders import Placeholders, newest_letters
+from firm.queue.placeholders import Placeholders, newest_letters
 from queue_kills import Plan, Submitter, judge_all, kill_one
-from queue_kit import FOREVER, LIMIT_SECONDS, Case, Client, Setup, Size, StandIn, asked_of_firm
+from queue_client import LIMIT_SECONDS, Client
+from queue_kit import FOREVER, Case, Setup, Size, StandIn
 from queue_tables import book_of
 
 AWAY_SECONDS = 5.0  # after which an agent is away
-SOON_SECONDS = 30.0  # in which a task runs: within 3 on an idle host, and after 300 in vain
+SOON_SECONDS = 120.0  # for a task's start: within 3 on an idle host, and after 300 in vain
 FEW = 10  # absences, in which perhaps no task is placed where it can't begin
 QUIET_SECONDS = 1.0  # in which firm's rows would change again, if they did
 HASTY = """\
 import sys
-from firm_service.queue import agents, daemon
+from firm.api import daemon
+from firm.queue import agents
 agents.AWAY_SECONDS = agents.LOOK_SECONDS = 0.05
 sys.exit(daemon.main(sys.argv[1:]))
 """
@@ -37,7 +39,7 @@ def begun(case: Case, client: Client, **first: int) -> StandIn:
     client.submit(*FOREVER, job="first")
     case.until(lambda: len(case.world.running()) == 1, "a task runs")
     case.agent("a2", **(first or {"m2": 4}))
-    case.until(lambda: len(asked_of_firm(case, "machines")) == 2, "both are there")
+    case.until(lambda: len(case.firm_rows("machines")) == 2, "both are there")
     agent.kill()
     case.until(lambda: client.ask("agents")[0]["silent"] > AWAY_SECONDS, "it is away")
     time.sleep(QUIET_SECONDS)
@@ -45,18 +47,18 @@ def begun(case: Case, client: Client, **first: int) -> StandIn:
 
 
 def in_firm(case: Case) -> dict[str, str | None]:
-    """The machines of the rows in firm, by their names."""
-    return {row["task"]: row["machine"] for row in asked_of_firm(case, "tasks")}
+    """Return the machines of the rows in firm, by their names."""
+    return {row["task"]: row["machine"] for row in case.firm_rows("tasks")}
 
 
 def machines_of(case: Case) -> dict[str, str]:
-    """The machine of the last process of each task."""
+    """Return the machine of the last process of each task."""
     return {process.task: process.machine for process in case.world.processes}
 
 
 def busy_away(setup: Setup) -> None:
     """A task runs on another machine within seconds, keeps its process when the queue restarts and when the agent is
-    back, and nothing runs twice. Free slots of the machine hold a placeholder each, until then."""
+    back, and nothing runs twice. Until then, each free slot of the machine holds a placeholder."""
     with setup.case("--lease=300").start() as case:
         with case.client() as client:
             agent = begun(case, client)
@@ -114,13 +116,13 @@ def full_elsewhere(setup: Setup) -> None:
 
 
 def turns(setup: Setup) -> None:
-    """Tasks given again take no slots in turn from running ones, even if a preemption costs nothing."""
+    """Resubmitted tasks take no slots in turn from running ones, even if a preemption costs nothing."""
     with setup.case("--lease=300", size=Size(churn=0, spread=2)).start() as case, case.client() as client:
         begun(case, client)
         for _ in range(8):
             client.submit(*FOREVER)
         case.until(lambda: len(case.world.running()) == 5, "the other machine is full", SOON_SECONDS)
-        time.sleep(3 * QUIET_SECONDS)  # what was given again before it was full may change places with others once
+        time.sleep(3 * QUIET_SECONDS)  # tasks resubmitted before it was full may change places with others once
         before, processes = commands_of(case), len(case.world.processes)
         time.sleep(5 * QUIET_SECONDS)
         require(commands_of(case) - before <= 4, f"{commands_of(case) - before} commands")
@@ -128,7 +130,7 @@ def turns(setup: Setup) -> None:
 
 
 def alone_away(setup: Setup) -> None:
-    """Nothing is given again where no other machine is there."""
+    """Nothing is resubmitted without another machine."""
     with setup.case("--lease=300").start() as case, case.client() as client:
         agent = case.agent("a1", m1=2)
         client.submit(*FOREVER)
@@ -144,12 +146,12 @@ def alone_away(setup: Setup) -> None:
 
 def ended_elsewhere(setup: Setup) -> None:
     """Placeholders outlive their tasks, keep no job's weight, and go with a machine whose agent is lost."""
-    with setup.case("--lease=20", "--margin=0.1").start() as case, case.client() as client:
+    with setup.case("--lease=45", "--margin=0.1").start() as case, case.client() as client:
         agent = case.agent("a1", m1=3)
         client.submit(*FOREVER, job="first", grace=0)
         case.until(lambda: len(case.world.running()) == 1, "a task runs")
         case.agent("a2", m2=2)
-        case.until(lambda: len(asked_of_firm(case, "machines")) == 2, "both are there")
+        case.until(lambda: len(case.firm_rows("machines")) == 2, "both are there")
         agent.kill()
         case.until(lambda: client.ask("agents")[0]["silent"] > AWAY_SECONDS, "it is away")
         client.submit("0.01", job="short", weight=5)
@@ -166,14 +168,14 @@ def ended_elsewhere(setup: Setup) -> None:
 
 
 def long_grace(setup: Setup) -> None:
-    """A task with a long grace does not hold up others that its agent ran, once that is silent."""
+    """A task with a long grace does not delay others of its agent, once that is silent."""
     with setup.case("--lease=10", "--margin=0.1").start() as case, case.client() as client:
         agent = case.agent("a1", m1=3)
         client.submit(*FOREVER, grace=3_600)
         client.submit(*FOREVER, grace=0)
         case.until(lambda: len(case.world.running()) == 2, "they run")
         case.agent("a2", m2=2)
-        case.until(lambda: len(asked_of_firm(case, "machines")) == 2, "both are there")
+        case.until(lambda: len(case.firm_rows("machines")) == 2, "both are there")
         agent.kill()
         case.until(lambda: machines_of(case)["2"] == "m2", "it runs elsewhere")
         require(client.ask("task", task="2")["attempts"][0]["outcome"] == "lost", "its first attempt")
@@ -208,7 +210,7 @@ class Steady(Submitter):
 
 
 def absences(case_of: Callable[..., Case], plan: Plan) -> None:
-    """Agents are away for a while again and again, and queue and firmd are killed meanwhile: each task ends once."""
+    """Agents are away for a while repeatedly, and queue and firmd are killed meanwhile: each task ends once."""
     draw = random.Random(plan.seed)
     with case_of("--lease=4", "--margin=0.2", size=Size(churn=20)) as case:
         case.words = [sys.executable, "-c", HASTY, "run"]
@@ -236,14 +238,13 @@ def absences(case_of: Callable[..., Case], plan: Plan) -> None:
 
 
 def commands_of(case: Case) -> int:
-    """Commands that the tenant has given."""
-    with Client(case.doors.view) as view:
-        view.send({"ask": "watch", "tenant": case.tenant})
-        return int(view.answer()["book"]["commands"])
+    """Return the number of commands of the tenant."""
+    with case.client() as client:
+        return int(client.ask("status")["commands"])
 
 
 def table_of_rows() -> None:
-    """A task's own row among several."""
+    """Choose a task's own row among several."""
     cases: list[tuple[str, dict[str, str | None], str | None, str, backlog.Machines]] = [
         ("", {}, None, "1", CLOSED),
         ("a", {}, None, "1", CLOSED),
@@ -263,11 +264,11 @@ def table_of_rows() -> None:
         if attempt is not None:
             task.attempt = rows.Attempt(task.name, 1, "a", "a", attempt, 1, "t", 0.0)
         for line, (name, machine) in enumerate(found.items()):
-            book.tasks[name] = books.Task("j", line, (), 0, None, machine)
+            book.tasks[name] = books.FirmTask("j", line, (), 0, None, machine)
         placeholders = of(book, machines)
         row = placeholders.choose(task, placeholders.rows_of(task.name, task, book))
         require((task.firm, row) == (expected, book.tasks.get(expected)), f"{letters} {found} {attempt}: {task.firm}")
-        if machines is not OPEN:  # a reader of firm's rows alone doesn't know which machines are
+        if machines is not OPEN:  # a reader of firm's rows alone doesn't know which machines are open
             require(newest_letters(task, book) == task.letters, f"{letters} {found} {attempt}: another row to readers")
 
 
@@ -282,12 +283,12 @@ def of(book: Book, machines: backlog.Machines) -> Placeholders:
 
 
 def longest_names() -> None:
-    """Names with letters are given as far as firm takes them."""
+    """Names with letters are submitted as far as firm accepts them."""
     last = Submission(99_999_999, 0, "j", 5, Spec(("x",), "/"), 9_999_999, 9_999_999, 0.0)
     book, task = book_of(64, 256), Task(last, 9_999_999)
     book.machines, book.jobs = {"m1": 4, "m2": 4}, {"j": 5}
     for line in range(28):
-        book.tasks[task.firm] = row = books.Task("j", line, (), 0, None, "m1")
+        book.tasks[task.firm] = row = books.FirmTask("j", line, (), 0, None, "m1")
         is_given = of(book, CLOSED).replace(task, row, book)
         require(is_given == (line < 26) and len(task.firm) == 16, task.firm)
 

@@ -1,16 +1,18 @@
-"""Tables of the queue's pure rules: which state a task is in, what follows from an end, what is given to firm."""
+"""Tables of the queue's pure rules: a task's state, the effect of an end, and the lines for firm."""
 
 from __future__ import annotations
 
 import asyncio
+import os
 import time
 from collections.abc import Callable
+from dataclasses import replace
 from math import inf
 from typing import Any
 
 from harness.checks import require
 from harness.deployed import Attempt, Book, Name, Spec, Submission, Task, array_limits, backlog, books, estimates
-from harness.deployed import roster, rows, shares, states
+from harness.deployed import fair_order, output, roster, rows, shares, states
 
 Facts, End, Past, Needed = states.Facts, states.End, states.Past, states.Needed
 STATES: list[tuple[str, bool, dict[str, Any]]] = [  # the state, whether firm should have the task, and the facts
@@ -31,7 +33,7 @@ STATES: list[tuple[str, bool, dict[str, Any]]] = [  # the state, whether firm sh
     ("ending", False, {"is_in_firm": True, "machine": "m1", "attempt_machine": "m1", "is_cancelled": True}),
     *[(state, False, {"outcome": state, "is_in_firm": True}) for state in sorted(states.ENDED)],
 ]
-CHANGES: list[tuple[str, str | None, dict[str, Any]]] = [  # the change, why it has no effect, and the facts
+CHANGES: list[tuple[str, str | None, dict[str, Any]]] = [  # the change, the reason why it has no effect, and the facts
     ("cancel", None, {}),
     ("cancel", None, {"is_held": True}),
     ("cancel", None, {"attempt_machine": "m1"}),
@@ -56,8 +58,8 @@ NEEDS: list[tuple[str, list[tuple[bool, int, int]]]] = [
     ("unmet", [(OK, 4, 1)]),
     ("unmet", [(ANY, 3, 0), (OK, 0, 1)]),
 ]
-# How an attempt ended, what was before (retries, failures, lost, whether it is cancelled), and what follows: outcomes
-# of the attempt and of the task, failures, lost, pause.
+# The end of an attempt, the facts before it (retries, failures, lost, whether the task is cancelled), and its effect:
+# outcomes of the attempt and of the task, failures, lost, pause.
 ENDS: list[tuple[Any, tuple[int, int, int, bool], tuple[str, str | None, int, int, float]]] = [
     (End("ended"), (0, 0, 2, False), ("done", "done", 0, 0, 0)),
     (End("ended", 1), (0, 0, 0, False), ("failed", "failed", 1, 0, 0)),
@@ -84,7 +86,7 @@ ENDS: list[tuple[Any, tuple[int, int, int, bool], tuple[str, str | None, int, in
 
 
 def table_of_states() -> None:
-    """The state of a task, and whether firm should have it."""
+    """A task's state, and whether firm should have the task."""
     for state, is_wanted, given in STATES:
         facts = Facts(**given)
         found = states.state_of(facts), states.is_wanted(facts)
@@ -92,21 +94,21 @@ def table_of_states() -> None:
 
 
 def table_of_changes() -> None:
-    """What a user may change in which state."""
+    """The changes that a user may make in each state."""
     for change, why, given in CHANGES:
-        found = states.refusal(states.Change(change), Facts(**given))
+        found = states.refusal(states.UserAction(change), Facts(**given))
         require(found == why, f"{change} {given}: {found}")
 
 
 def table_of_needs() -> None:
-    """What waits for others."""
+    """The state of a dependent task by the outcomes of the others."""
     for judgement, needs in NEEDS:
         found = states.judge(Needed(*need) for need in needs)
         require(found == judgement, f"{needs}: {found}")
 
 
 def table_of_ends() -> None:
-    """What follows from the end of an attempt."""
+    """The effect of an attempt's end."""
     for end, past, expected in ENDS:
         verdict = states.after(end, Past(*past))
         found = (verdict.attempt, verdict.task, verdict.failures, verdict.lost, verdict.pause)
@@ -131,16 +133,21 @@ def book_of(nodes: int, arcs: int) -> Book:
     return Book(roster.Limits("alpha", nodes, arcs, 10**9, 0, 0))
 
 
-class Plans:
-    """A book, and tasks that are to be given."""
+USERS = {"ann": 1, "bob": 2, "eve": 3}
 
-    def __init__(self, nodes: int = 4096, arcs: int = 65_536) -> None:
-        self.book, self.backlog = book_of(nodes, arcs), backlog.Backlog()
+
+class Plans:
+    """A book, and tasks to submit to firm."""
+
+    def __init__(self, nodes: int = 4096, arcs: int = 65_536, **shares: float) -> None:
+        self.book = book_of(nodes, arcs)
+        self.backlog = fair_order.Backlog({USERS[name]: share for name, share in shares.items()})
         self.tasks: dict[Name, Task] = {}
 
     def want(self, number: int, job: str, weight: int, count: int = 1, near: tuple[str, ...] = ()) -> None:
+        """Add tasks to submit, of the user whose name begins the job's, or of root."""
         spec = Spec(("x",), "/", near=near)
-        submission = Submission(number, 0, job, weight, spec, 1, count, 0.0)
+        submission = Submission(number, USERS.get(job[:3], 0), job, weight, spec, 1, count, 0.0)
         submission.add_tasks(False)
         for task in submission.tasks.values():
             self.tasks[task.name] = task
@@ -148,10 +155,58 @@ class Plans:
             self.backlog.put(task)
 
     def has(self, name: str, job: str, machine: str | None = None) -> None:
-        self.book.tasks[name] = books.Task(job, 1, (), 0, None, machine)
+        self.book.tasks[name] = books.FirmTask(job, 1, (), self.book.rounds, None, machine)
+
+    def given(self, **wishes: Any) -> list[str]:
+        """Return the submitted tasks, which wait in firm from then on; none leaves firm."""
+        lines = self.lines(**wishes)
+        self.obey(lines)
+        require(not self.left, self.left)
+        return [line.split()[2] for line in lines if line.startswith("task ")]
+
+    def obey(self, lines: list[str]) -> None:
+        self.left = [line for line in lines if line.startswith("done ")]
+        for verb, job, *names in map(str.split, lines):
+            if verb == "task":
+                self.has(names[0], job)
+                self.book.jobs[job] = self.tasks[Name.of_firm(names[0]) or Name(0)].submission.weight
+                self.note(names[0])
+            elif verb == "done":
+                self.end(job)
+                self.backlog.put(self.tasks[Name.of_firm(job) or Name(0)])
+
+    def note(self, name: str, is_there: bool = True) -> None:
+        self.backlog.claims.note(self.tasks[Name.of_firm(name) or Name(0)], is_there)
+
+    def place(self, *names: str) -> None:
+        """Place these tasks, as a round does."""
+        for name in names:
+            self.book.tasks[name].machine = "m1"
+        self.book.rounds += 1
+
+    def end(self, *names: str) -> None:
+        for name in names:
+            del self.book.tasks[name]
+            self.note(name, False)
 
     def lines(self, **wishes: Any) -> list[str]:
         return [str(line) for line in backlog.plan(self.book, backlog.Wishes(**wishes), self.backlog, self.tasks.get)]
+
+
+def owners_of_outputs() -> None:
+    """If an agent is neither root's nor the queue's own, the queue shows only files of that agent's user.
+
+    The agent may name any file, and the queue may read more than the agent may. Root's agent runs each process as the
+    task's user.
+    """
+    user, other = os.geteuid() + 1, os.geteuid() + 2
+    submission = Submission(1, user, "web", 10, Spec(("x",), "/"), None, None, 0.0)
+    submission.add_tasks(False)
+    (task,) = submission.tasks.values()
+    for runs_as, owners in ((user, {user}), (os.geteuid(), {user, os.geteuid()}), (other, {other})):
+        attempt = Attempt(task.name, 1, "a1", "x", "m1", 1, "aaaaaaaa", 0.0, output="/x", runs_as=runs_as)
+        found = output.output_of(task, attempt).owners
+        require(found == owners, f"processes of {runs_as}: {found}")
 
 
 def plans_in_order() -> None:
@@ -166,8 +221,8 @@ def plans_in_order() -> None:
 
 
 def plans_in_age() -> None:
-    """What has waited here is as much heavier as it would be in firm: of a stream of heavier tasks, those that come too
-    late go behind it, and it takes the place of one that waits there."""
+    """A waiting task gains weight here as it would in firm. In a stream of heavier tasks, those that arrive too late
+    go after it, and it takes the place of one that waits in firm."""
     plans = Plans()
     plans.want(1, "light", 10)
     plans.book.rounds = 5
@@ -187,15 +242,18 @@ def plans_in_age() -> None:
 
 
 def plans_in_room() -> None:
-    """No more is given than there is room for, and a part is left for machines."""
+    """The queue submits no more than there is room for, and reserves a part for machines."""
     plans = Plans(nodes=32, arcs=64)
+    plans.book.machines["m1"] = 16
     plans.want(1, "j", 1, 100)
     found = plans.lines()
-    require(len(found) == 1 + 19, found)  # arcs: 64 - 4 in reserve - 1 of the job, three for each
+    require(len(found) == 1 + 14, found)  # arcs: 64 - 4 in reserve - 17 of the machine - 1 of the job, three for each
     plans = Plans(nodes=32, arcs=1_000)
+    plans.book.machines["m1"] = 64
     plans.want(1, "j", 1, 100)
-    require(len(found := plans.lines()) == 1 + 27, found)  # nodes: 32 - 2 - 2 in reserve - 1 of the job
+    require(len(found := plans.lines()) == 1 + 26, found)  # nodes: 32 - 2 - 2 in reserve - those of machine and job
     plans = Plans()
+    plans.book.machines["m1"] = 64
     plans.want(1, "j", 1, 100)
     require(len(found := plans.lines(most=7)) == 1 + 7, found)
     for name in range(7):
@@ -205,14 +263,14 @@ def plans_in_room() -> None:
 
 
 def plans_of_heavier() -> None:
-    """Where firm is full, tasks that wait there lighter make room, the youngest of the lightest first; none that has a
-    place or a process, or has waited long, nor another's."""
+    """If firm is full, lighter tasks that wait there make room, the youngest of the lightest first. A task stays if
+    it has a place or a process, has waited long, or belongs to another user."""
     plans = Plans()
     plans.book.jobs |= {"light": 2, "middle": 5}
     plans.book.rounds = 4
     plans.want(1, "light", 2, 6)
     plans.want(2, "middle", 5, 2)
-    plans.backlog = backlog.Backlog()
+    plans.backlog = fair_order.Backlog()
     for name, machine in {"1-1": "m1", "1-2": None, "1-3": None, "1-4": None, "1-5": None, "2-1": None}.items():
         plans.has(name, "light" if name.startswith("1") else "middle", machine)
         plans.book.tasks[name].line, plans.book.tasks[name].waits_from = len(plans.book.tasks), 4
@@ -228,6 +286,7 @@ def plans_of_heavier() -> None:
     plans.backlog.put(plans.tasks[Name(3, 1)])
     require((found := plans.lines(most=0)) == [], f"while firm is found full: {found}")
     plans = Plans(nodes=32, arcs=64)
+    plans.book.machines["m0"] = 16
     plans.want(1, "light", 1, 100)
     given = [line.split() for line in plans.lines()]
     plans.book.jobs["light"] = 1
@@ -240,8 +299,155 @@ def plans_of_heavier() -> None:
     require({line.split()[0] for line in found[:-2]} == {"done"} and len(found) < 6, found)
 
 
+def plans_in_turn() -> None:
+    """Few tasks wait in firm beside those for free slots. A newcomer's tasks come first there, until users have as
+    many tasks in firm as their shares say; each user's tasks keep their order."""
+    plans = Plans(bob=2)
+    plans.book.machines["m1"] = 40
+    plans.want(1, "ann", 10, 400)
+    found = plans.given()
+    require(found == [f"1-{index}" for index in range(1, 46)], found)  # an eighth of the slots, beside each
+    plans.place(*found[:40])
+    require(plans.lines() == [], "no further one before a slot is free")
+    plans.want(2, "bob", 10, 200)
+    plans.want(3, "bob-more", 11, 1)
+    plans.end("1-1", "1-2", "1-3")
+    found = plans.lines()
+    left = [f"done 1-{index}" for index in range(41, 46)]
+    require(found == [*left, "job bob-more 11", "task bob-more 3-1"], found)
+    plans.obey(found)
+    require((found := plans.given()) == [f"2-{index}" for index in range(1, 8)], found)
+    plans.place("3-1", "2-1", "2-2")
+    for _ in range(60):
+        ended = next(name for name, row in plans.book.tasks.items() if row.machine and row.job == "ann")
+        waiting = next(name for name, row in plans.book.tasks.items() if row.machine is None)
+        plans.end(ended)
+        plans.given()
+        plans.place(waiting)
+    users = [row.job[:3] for row in plans.book.tasks.values()]
+    require((users.count("ann"), users.count("bob")) == (15, 30), users)
+    plans.want(4, "eve", 10)
+    found = plans.lines()
+    require(len(found) == 7 and found[5:] == ["job eve 10", "task eve 4-1"], f"the others leave: {found}")
+    plans.obey(found)
+    left = [line.split()[1] for line in plans.left]
+    require(len(found := plans.given()) == 4 and set(found) < set(left), f"they come back: {found}")
+
+
+def plans_of_newcomers() -> None:
+    """Rows leave once for all newcomers that arrive together, and rows of users without a slot stay. No share is too
+    small for a turn, or too large beside such a share."""
+    plans = Plans()
+    plans.book.machines["m1"] = 40
+    plans.want(1, "ann", 10, 400)
+    plans.place(*plans.given()[:40])
+    plans.want(2, "bob", 1, 3)
+    plans.want(3, "eve", 10, 2)
+    found = plans.lines()
+    left = [f"done 1-{index}" for index in range(41, 46)]
+    require(found == [*left, "job eve 10", "task eve 3-1", "job bob 1", "task bob 2-1"], found)
+    plans.obey(found)
+    plans.given()
+    plans.place("3-1")
+    plans.want(4, "root", 10, 1)
+    plans.end("1-1", "1-2")
+    plans.obey(found := plans.lines())
+    require("task root 4-1" in found and not any(line.startswith("done 2-") for line in found), found)
+    for plans in (Plans(bob=0.02), Plans(ann=100)):
+        plans.book.machines["m1"] = 40
+        plans.want(1, "ann", 10, 400)
+        plans.place(*plans.given()[:40])
+        plans.want(2, "bob", 10)
+        plans.place("1-41")
+        plans.end("1-1")
+        require((found := plans.given()) == ["2-1"], found)
+
+
+def plans_of_comers() -> None:
+    """A user who submits and cancels repeatedly displaces other rows, two lines of the journal for each, only at
+    intervals, which grow with the number of rows."""
+    plans, now = Plans(), [1.0]
+    plans.backlog.claims = fair_order.Claims(clock=lambda: now[0])
+    plans.book.machines["m1"] = 40
+    plans.want(1, "ann", 10, 400)
+    plans.place(*plans.given()[:40])
+    left = 0
+    for number in range(2, 102):
+        plans.want(number, "bob", 10)
+        plans.obey(plans.lines())
+        left += len(plans.left)
+        name = f"{number}-1"
+        if name in plans.book.tasks:
+            plans.end(name)
+        else:
+            plans.backlog.drop(plans.tasks[Name(number, 1)])
+        plans.given()
+        now[0] += fair_order.AHEAD_SECONDS / 2
+    require(left == 50, f"{left} rows have left in turn of 100 comers")
+
+
+def plans_that_settle() -> None:
+    """If firm is full, newcomers and heavier tasks do not take each other's places again and again."""
+    for nodes in range(46, 56):
+        for most in (None, 41, 45):
+            plans = Plans(nodes=nodes, eve=0.1)
+            plans.book.machines["m1"] = 40
+            plans.want(1, "ann", 10, 400)
+            plans.place(*plans.given(most=most)[:40])
+            plans.book.rounds += 3
+            for number, job in enumerate(("bob", "eve", "root"), 2):
+                plans.want(number, job, number, 30)
+            for _ in range(20):
+                lines = plans.lines(most=most)
+                require(len(set(lines)) == len(lines), lines)
+                plans.obey(lines)
+            require(not lines, f"{nodes} nodes, at most {most} tasks: {lines}")
+
+
+def plans_of_few() -> None:
+    """A task that a round left waiting beside free slots takes no place from others. Nor does a task whose weight
+    exceeds a running one's by more than a preemption costs. A user's heavier task takes the place of a lighter one
+    of that user alone."""
+    plans = Plans()
+    plans.book.machines["m1"] = 8
+    plans.want(1, "ann", 10, 100)
+    first = plans.given()
+    require(len(first) == 12, first)
+    plans.place()  # none
+    require(plans.given() == [], "those that wait are counted")
+    found = plans.given(left_free=True)
+    require(len(found) == 0, f"no more than slots, and a few: {found}")
+    plans.want(2, "bob", 5, 100)
+    found = plans.given(left_free=True)
+    require(len(found) == 12 and found[0] == "2-1", found)
+    require(plans.given(left_free=True) == [], "these have had no round")
+    plans = Plans()
+    plans.book.machines["m1"] = 2
+    plans.want(1, "ann", 10, 100)
+    plans.place(*plans.given()[:2])
+    plans.want(2, "bob", 20, 100)
+    plans.backlog.claims.counts[USERS["bob"]] = 1  # no newcomer
+    plans.book.limits = replace(plans.book.limits, churn=10)
+    require(plans.given() == [], "it can preempt nothing")
+    plans.book.limits = replace(plans.book.limits, churn=9)
+    require(plans.given() == [], "as many wait as there are slots")
+    for name in [name for name, row in plans.book.tasks.items() if row.machine is None][1:]:
+        del plans.book.tasks[name]
+    require((found := plans.given())[:1] == ["2-1"], found)
+    plans = Plans()
+    plans.book.machines["m1"] = 2
+    plans.want(1, "ann", 5, 100)
+    plans.place(*plans.given()[:2])
+    plans.book.limits = replace(plans.book.limits, churn=1_000)
+    plans.want(2, "bob", 20)
+    plans.backlog.claims.counts[USERS["bob"]] = 1
+    require(plans.lines() == [], "another's lighter ones stay")
+    plans.want(3, "ann-more", 20)
+    require((found := plans.lines()) == ["done 1-6", "job ann-more 20", "task ann-more 3-1"], found)
+
+
 def plans_of_machines() -> None:
-    """Machines come and go; for one without room waiting tasks are taken back, the last first."""
+    """Machines come and go; to make room for one, waiting tasks are withdrawn, the last first."""
     plans = Plans(nodes=10, arcs=40)
     plans.book.machines |= {"m1": 2, "m2": 2}
     found = plans.lines(machines={"m1": 4, "m3": 1}, unwanted={"m2", "m9"})
@@ -254,7 +460,7 @@ def plans_of_machines() -> None:
 
 
 def plans_of_rows() -> None:
-    """What firm should not have is taken from it, and jobs that are not needed any more are closed."""
+    """Tasks that firm should not have are withdrawn, and jobs without further use are closed."""
     plans = Plans()
     plans.book.jobs |= {"old": 1, "mine": 2, "other": 3}
     plans.has("7", "old")
@@ -270,8 +476,9 @@ def plans_of_rows() -> None:
 
 
 def what_is_kept() -> None:
-    """What has ended is dropped by the number of its tasks and by its words, the first first, but for what is live."""
-    kept = rows.Rows()
+    """Ended tasks are dropped once they exceed a number of tasks or of bytes, the earliest end first; live ones
+    stay."""
+    kept = rows.LiveRows()
     for number in range(1, 6):
         one = Submission(number, 0, "j", 1, Spec(("x",), "/"), None, None, 0.0)
         one.add_tasks(False)
@@ -310,8 +517,24 @@ def starts() -> None:
     require([slots.take(other.tasks[rows.SINGLE], inf) for _ in range(4)][-1] == inf, "no slot")
 
 
+def starts_in_turn() -> None:
+    """Users take estimated slots in turn: the next slot goes to the user with the fewest for the user's share."""
+    waiting: list[Task] = []
+    for number, user in enumerate((1, 1, 2, 2, 2), 1):
+        one = Submission(number, user, "j", 1, Spec(("x",), "/"), None, None, 0.0)
+        one.add_tasks(False)
+        waiting += one.tasks.values()
+    used = [(5.0, waiting[0]), (0.0, None), (0.0, None), (1.0, None)]
+    slots = estimates.Slots(used)
+    turns = estimates.SlotTurns(waiting[1:], used, fair_order.Claims({2: 2.0}))
+    found = []
+    while (task := turns.next(slots.former_user)) is not None:
+        found.append((task.submission.number, slots.take(task, 10.0)))
+    require(found == [(3, 0.0), (4, 0.0), (2, 1.0), (5, 5.0)], found)
+
+
 def limits_of_arrays() -> None:
-    """No more tasks of an array are admitted than may be, those with the lowest indexes first; others follow."""
+    """An array's tasks are admitted up to its limit, the lowest indexes first; others follow."""
     array = Submission(1, 0, "j", 1, Spec(("x",), "/", at_once=2), 1, 5, 0.0)
     array.add_tasks(False)
     limits = array_limits.ArrayLimits()
@@ -325,7 +548,7 @@ def limits_of_arrays() -> None:
     limits.leave(array.tasks[3])  # as it is held
     limits.leave(array.tasks[1])
     require(admitted() == [4] and not admitted(), "the next one that is not held")
-    limits.admit(array.tasks[5])  # as somebody else has told firm of it
+    limits.admit(array.tasks[5])  # as if somebody else had submitted it to firm
     limits.leave(array.tasks[2])
     require(not limits.admits(array.tasks[3]) and not admitted(), "two are in firm")
     for index in (4, 5):
@@ -334,7 +557,7 @@ def limits_of_arrays() -> None:
 
 
 def rests() -> None:
-    """A user rests after a turn that took a processor for long, not after one in which others had the processors."""
+    """A user rests after a turn with much processor time, not after a turn in which others had the processors."""
     waits, uses = asyncio.run(pauses(lambda: time.sleep(0.05))), asyncio.run(pauses(use_processor))
     require(waits < 0.1 <= uses, f"rests of {waits:.3f} s after waits, and of {uses:.3f} s after work")
 
@@ -346,9 +569,9 @@ def use_processor() -> None:
 
 
 async def pauses(work: Callable[[], None]) -> float:
-    """The shortest time from the end of a user's turn with such work to the next one."""
+    """Return the shortest time from the end of a user's turn with such work to the next one."""
     found, loop = [], asyncio.get_running_loop()
-    all_shares, share = shares.Shares(shares.BOUNDS, lambda: None), shares.Share(b"user", True)
+    all_shares, share = shares.Quotas(shares.BOUNDS, lambda: None), shares.ConnectionQuota(b"user", True)
     for _ in range(5):
         await all_shares.turn(share)
         work()
@@ -366,12 +589,19 @@ CHECKS: dict[str, Callable[[], None]] = {
     "table of names": table_of_names,
     "what is kept": what_is_kept,
     "starts": starts,
+    "starts in turn": starts_in_turn,
     "limits of arrays": limits_of_arrays,
     "rests": rests,
     "plans in order": plans_in_order,
     "plans in age": plans_in_age,
     "plans in room": plans_in_room,
     "plans of heavier": plans_of_heavier,
+    "plans in turn": plans_in_turn,
+    "plans of newcomers": plans_of_newcomers,
+    "plans of comers": plans_of_comers,
+    "owners of outputs": owners_of_outputs,
+    "plans that settle": plans_that_settle,
+    "plans of few": plans_of_few,
     "plans of machines": plans_of_machines,
     "plans of rows": plans_of_rows,
 }

@@ -1,72 +1,47 @@
-"""Checks of agents whose queue, or firmd, says what none says, which tests/supervision.py runs."""
+"""Checks of agents whose queue, or firmd, sends malformed messages, which tests/supervision.py runs."""
 
 from __future__ import annotations
 
-import asyncio
 from collections.abc import Iterator
 from contextlib import contextmanager
-from itertools import cycle
-from pathlib import Path
 
 from harness.checks import require
 from queue_stand_in import Cluster
 
 # In place of rows.
-MALFORMED_VIEW = [
-    "5",
-    "[]",
-    '{"book": 5, "state": "first"}',
-    '{"book": {"limits": {"nodes": 2, "depth": 1}}, "state": "first"}',
-    '{"book": null, "state": 5}',
-    '{"book": null}',
-    '{"reply": 5, "number": 1, "line": "x"}',
-    "[" * 100_000,
+MALFORMED_ROWS: list[dict[str, object]] = [
+    {},
+    {"state": 5, "machines": {}, "tasks": []},
+    {"state": "first", "machines": [], "tasks": []},
+    {"state": "first", "machines": {"m1": "4"}, "tasks": []},
+    {"state": "first", "machines": {}, "tasks": 5},
+    {"state": "first", "machines": {}, "tasks": [{"task": "A", "line": 1, "job": "j", "machine": "m1"}]},
+    {"state": "first", "machines": {}, "tasks": [{"task": "a", "line": True, "job": "j", "machine": "m1"}]},
+    {"state": "first", "machines": {}, "tasks": [{"task": "a", "line": 1, "job": "j"}]},
+    {"state": "first", "machines": {}, "tasks": [[]]},
 ]
 
 
-class MalformedView:
-    """A view that says something else to each who asks."""
-
-    def __init__(self) -> None:
-        self.asked = 0
-        self._lines = cycle(MALFORMED_VIEW)
-
-    async def serve(self, path: Path) -> asyncio.AbstractServer:
-        path.unlink(missing_ok=True)
-        return await asyncio.start_unix_server(self._answer, path)
-
-    async def _answer(self, reader: asyncio.StreamReader, writer: asyncio.StreamWriter) -> None:
-        await reader.readline()
-        self.asked += 1
-        writer.write(next(self._lines).encode() + b"\n")
-        writer.close()
-
-
 def malformed_rows() -> None:
-    """The same of what the view of firmd tells: the agent waits for one that it understands."""
+    """If the queue sends malformed rows of firm, the agent connects anew, and runs go on."""
     with Cluster("a") as case:
         case.start_registered()
         case.firmd.round("start a m1")
         case.until_told("running", "a")
-        case.firmd.close()
-        view = MalformedView()
-        server = case.firmd.within(view.serve(case.folder / "view"))
-        case.until(lambda: view.asked > len(MALFORMED_VIEW) or case.agents["a1"].poll() is not None, "all is said")
-        require(case.agents["a1"].poll() is None, f"it ends: {case.told()}")
-        require("what it says is not understood" in case.told() and case.processes().keys() == {"a"}, case.told())
-        case.firmd.loop.call_soon_threadsafe(server.close)
-        case.firmd.open()
+        for rows in MALFORMED_ROWS:
+            with named(case, "malformed rows of firm", again=True):
+                case.queue.tell("a1", tell="firm", **rows)
+        require(case.processes().keys() == {"a"} and case.agents["a1"].poll() is None, case.told())
         case.go("a")
         require(case.until_told("ended", "a")["status"] == 0, "how a ended")
 
 
 def malformed_words() -> None:
-    """A word that no queue says is named and refused, whatever it is in: the agent goes on, and so does what runs."""
+    """A malformed message of the queue is named and refused, whatever it is part of: the agent and its runs go on."""
     nan, endless = float("nan"), float("inf")
     others: list[object] = [None, "soon", nan, endless, -1, 10**400, True, [1], {"a": 1}]
     lists: list[object] = [None, 5, "0123456789abcdef", {"a": 1}]
-    said: list[tuple[str, object, str]] = [("status", {"tenant": 5}, "status: tenant is 5")]
-    said += [("status", 5, "status is 5"), ("register", [[]], "register is a list"), ("beat", 5, "beat is 5")]
+    said: list[tuple[str, object, str]] = [("register", [[]], "register is a list"), ("beat", 5, "beat is 5")]
     said += [("register", {"lease": value}, "register: lease is ") for value in others]
     said += [("register", {"beat": value}, "register: beat is ") for value in others[:3]]
     said += [("register", {word: value}, f"register: {word} is ") for word in ("end", "keep") for value in lists]
@@ -94,7 +69,8 @@ def malformed_words() -> None:
 
 @contextmanager
 def named(case: Cluster, words: str, again: bool = False) -> Iterator[None]:
-    """Asks that an agent names a malformed word, and perhaps is registered again once the queue says none."""
+    """Require that an agent names a malformed word, and optionally registers again once the queue's messages are
+    valid."""
     log = case.folder / "log"
     size = log.stat().st_size
     yield
@@ -106,7 +82,7 @@ def named(case: Cluster, words: str, again: bool = False) -> Iterator[None]:
 
 
 def malformed_answers(case: Cluster) -> None:
-    """The same of answers to claims and events."""
+    """Malformed answers to claims and events are named and refused."""
     with named(case, "claim is 5"):
         case.queue.says = {"claim": 5}
         case.firmd.round("start c m1")
@@ -127,7 +103,7 @@ def malformed_answers(case: Cluster) -> None:
 
 
 def malformed_tells(case: Cluster) -> None:
-    """The same of what a queue tells by itself, and of lines that are no objects."""
+    """Malformed unsolicited messages, and lines that are no objects, are named and refused."""
     for tell in ("end", "keep"):
         for words, value in {"not there": None, "5": 5, "'0123456789abcdef'": "0123456789abcdef"}.items():
             with named(case, f"tell '{tell}': tokens is {words}"):
@@ -142,8 +118,8 @@ def malformed_tells(case: Cluster) -> None:
         case.queue.open()
     lease, case.queue.lease = case.queue.lease, float("nan")
     with named(case, "tell 'lease': lease is nan"):
-        case.queue.is_hung = True  # so that a beat's answer waits
+        case.queue.is_hung = True  # so that a heartbeat's answer waits
     case.queue.lease, case.queue.is_hung = lease, False
     for line in ("5", "[]", '"tell"', "[" * 100_000):
-        with named(case, "a line that is ", again=True):
+        with named(case, "a frame that is ", again=True):
             case.queue.tell_text("a1", line)

@@ -1,14 +1,14 @@
 // Preloaded into the program: refuses requests for memory and threads, fails, shortens or interrupts reads and writes, and delays.
 //
-// The environment says which, each a number, counted from 1 and from the start of the program:
+// The environment gives the numbers of the calls, counted from 1 and from the start of the program:
 //   REFUSE_MEMORY, REFUSE_MEMORY_LAST   the first and the last request for memory that is refused (the last is the first if unset)
-//   FAIL_READ, FAIL_WRITE, FAIL_FILE    which read of standard input, write of standard output, or read of another file fails, once
-//   FAIL_WITH                           with which error; 0: a write answers 0
-//   READ_MOST, WRITE_MOST               how many bytes a read of standard input gives, a write of standard output takes, at most
+//   FAIL_READ, FAIL_WRITE, FAIL_FILE    the read of standard input, write of standard output, or read of another file that fails, once
+//   FAIL_WITH                           the error; 0: a write returns 0
+//   READ_MOST, WRITE_MOST               the most bytes that a read of standard input gives, a write of standard output takes
 //   REFUSE_WARM_UP                      1: workers get no memory as they start
-//   REFUSE_THREAD                       which thread can't be started
-//   DELAY_MEMORY                        how many milliseconds each request for memory takes on another thread than the first
-//   HOLD_MEMORY                         no number, but a file: as long as it is there these requests wait
+//   REFUSE_THREAD                       the thread that can't be started
+//   DELAY_MEMORY                        milliseconds that each request for memory takes on another thread than the first
+//   HOLD_MEMORY                         no number, but a file: these requests wait while it exists
 //   HOLD_ONE                            1: only the first of them does
 //   COUNTS                              a file to which the counts are written: memory, reads, writes, other reads, threads
 #define _GNU_SOURCE
@@ -91,7 +91,7 @@ static int is_refused(void) {
     if (!is_ready) return 0;
     if ((delay_memory != 0 || hold_memory != NULL) && !is_first_thread()) {
         int holds = hold_memory != NULL && !(atomic_exchange(&has_held, 1) && hold_one);
-        while (holds && access(hold_memory, F_OK) == 0) rest(5);
+        while (holds && access(hold_memory, F_OK) == 0) rest(50);
         rest(delay_memory);
     }
     unsigned long place = count(MEMORY);
@@ -100,10 +100,13 @@ static int is_refused(void) {
     return 1;
 }
 
-// Whether a worker asks for this as it starts. Such a request races with those of the first thread, so it is neither
-// counted nor delayed.
+// Whether this is a worker's first request, at its start. Such a request races with those of the first thread,
+// so it is neither counted nor delayed.
+static _Thread_local int has_warmed_up __attribute__((tls_model("initial-exec")));
+
 static int is_warm_up(size_t size) {
-    return size == WARM_BYTES && !is_first_thread();
+    if (size != WARM_BYTES || is_first_thread() || has_warmed_up) return 0;
+    return has_warmed_up = 1;
 }
 
 void *malloc(size_t size) {

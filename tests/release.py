@@ -1,8 +1,8 @@
-"""Makes a release of the built programs, installs it into an empty root, and plays the tutorial there, without a kit.
+"""Make a release of the built programs, install it into an empty root, and play the tutorial there, without a kit.
 
 usage: tools/run tests/release.py
-Each check has a line; the last line is 'N passed, M failed', and the exit status is 1 where one failed. It needs
-dpkg-deb, help2man and python3-shtab, Debian's packages; what can't be asked here is said and skipped.
+Each check prints a line; the last line is 'N passed, M failed', and the exit status is 1 if one failed. It needs
+dpkg-deb, help2man and python3-shtab, Debian's packages; a check that can't run here is skipped with a line.
 """
 
 from __future__ import annotations
@@ -17,12 +17,14 @@ import shutil
 import subprocess
 import sys
 import tempfile
+import tomllib
 from functools import partial
 from pathlib import Path
 from types import ModuleType
 
 import firmd_kit
 import launcher
+from front_kit import api_of
 from harness import sessions
 from harness.checks import Check, Skipped, Suite, require, run_script, run_suites
 from harness.program import ROOT, built
@@ -49,12 +51,12 @@ done
 """
 NAME = "0.1.0+git20260102.0123456789"
 DIST = "usr/lib/python3/dist-packages"
-UNITS = ["firm-agent@.service", "firm-queue-agent@.service", "firm-queue@.service", "firm.service"]
+UNITS = ["firm-agent@.service", "firm.service"]
 PROOFS = "firm_rules\tsum\tlogic=proved\n"
 
 
 def tool() -> ModuleType:
-    """The script as a module."""
+    """Return the script as a module."""
     loader = importlib.machinery.SourceFileLoader("release_tool", str(TOOL))
     spec = importlib.util.spec_from_loader("release_tool", loader)
     assert spec
@@ -63,8 +65,8 @@ def tool() -> ModuleType:
     return found
 
 
-def said(words: list[str | Path], stdin: bytes = b"", **environment: str) -> bytes:
-    """What a command writes, in an empty environment but for its path."""
+def output_of(words: list[str | Path], stdin: bytes = b"", **environment: str) -> bytes:
+    """Return a command's output, in an environment that has only its path."""
     done = subprocess.run(words, input=stdin, capture_output=True, cwd="/", env=environment, timeout=SECONDS)
     require(done.returncode == 0, f"{words}: status {done.returncode}: {done.stderr.decode()}")
     return done.stdout
@@ -94,7 +96,7 @@ def installed() -> None:
         files_are_there(release, root)
         programs_answer(release, root)
         serves(root)
-        if os.geteuid() == 0:  # as which the tutorial is written
+        if os.geteuid() == 0:  # the tutorial is written for root
             plays_tutorial(root)
 
 
@@ -104,22 +106,24 @@ def packs_alike(release: ModuleType, folder: Path, version: object) -> None:
         for file in (folder / name, folder / f"again-{name}"):
             make(folder / "usr", version, file)
         require((folder / name).read_bytes() == (folder / f"again-{name}").read_bytes(), name)
-    packed = said(["tar", "-tzf", folder / "firm.tar.gz"], PATH=os.environ["PATH"]).decode()
+    packed = output_of(["tar", "-tzf", folder / "firm.tar.gz"], PATH=os.environ["PATH"]).decode()
     require(f"firm-{NAME}/bin/firmd\n" in packed, packed)
 
 
 def unpack(package: Path, folder: Path) -> Path:
-    """Installs the package into a root of its own."""
+    """Install the package into a separate root."""
     root = folder / "root"
     (root / "var/lib/dpkg").mkdir(parents=True)
     (root / "var/lib/dpkg/status").touch()
     flags = ["--force-depends", "--force-not-root", f"--root={root}", "--log=/dev/null"]
-    said(["dpkg", *flags, "--install", package], PATH=os.environ["PATH"])
+    output_of(["dpkg", *flags, "--install", package], PATH=f"{os.environ['PATH']}:/usr/sbin:/sbin")  # with ldconfig
     return root
 
 
 def files_are_there(release: ModuleType, root: Path) -> None:
-    """Each program has its page and its completions, and systemd takes the units."""
+    """Each program has its page and its completions, systemd takes the units, and tasks have their supervisor."""
+    supervisor = root / "usr" / release.SERVICE / "firm/agent/firm-supervisor"
+    require(os.access(supervisor, os.X_OK) and supervisor.stat().st_size < 100_000, "the supervisor")
     share = root / "usr/share"
     for program in release.PROGRAMS | release.SERVICES:
         page = gzip.decompress((share / f"man/man1/{program}.1.gz").read_bytes()).decode()
@@ -136,8 +140,8 @@ def files_are_there(release: ModuleType, root: Path) -> None:
     require([unit.name for unit in units] == UNITS, units)
     for folder in ("sysusers.d", "tmpfiles.d"):
         require((root / f"usr/lib/{folder}/firm.conf").exists(), folder)
-    unit = (root / "usr/lib/systemd/system/firm.service").read_text()
-    require("\nRuntimeDirectoryPreserve=yes\n" in unit, "an end of firmd takes away the sockets of others")
+    settings = (share / "doc/firm/firm.toml").read_text()
+    require(tomllib.loads(settings) == {} and "#state = " in settings, settings)
     if shutil.which("systemd-analyze"):
         takes_units(root, [unit.name.replace("@.", "@alpha.") for unit in units])
 
@@ -185,7 +189,9 @@ def completions() -> None:
             file.write_text(parsers.bash(parser_of(release, program)))
             completes(release, program, file)
         file = Path(name) / "firmctl"
-        words = "firmctl\t--queue\tq\tcancel\t--j\nfirmctl\tsubmit\t--job\tweb\t--\tbas\nfirmctl\tsubmit\t--\tls\t--j\n"
+        words = (
+            "firmctl\t--server\ts\tcancel\t--j\nfirmctl\tsubmit\t--job\tweb\t--\tbas\nfirmctl\tsubmit\t--\tls\t--j\n"
+        )
         found = subprocess.run(
             ["bash", "-c", COMPLETE, "-", file, "firmctl"], input=words, capture_output=True, text=True
         )
@@ -194,8 +200,7 @@ def completions() -> None:
 
 
 def takes_units(root: Path, units: list[str]) -> None:
-    """Whether systemd would start these; of what it lacks in an empty root only its own targets may be missing."""
-    shutil.copy2("/usr/bin/install", root / "usr/bin")  # which a unit calls
+    """Require that systemd would start these; in an empty root only its own targets may be missing."""
     words = ["systemd-analyze", "verify", f"--root={root}", "--man=no", *units]
     done = subprocess.run(words, stdin=subprocess.DEVNULL, capture_output=True, text=True, timeout=SECONDS)
     lines = [line for line in done.stderr.splitlines() if ".target" not in line and ".slice" not in line]
@@ -203,58 +208,62 @@ def takes_units(root: Path, units: list[str]) -> None:
 
 
 def programs_answer(release: ModuleType, root: Path) -> None:
-    """firm answers the examples, firm_explain and firm_state too, where nothing but the root is on the path."""
+    """firm answers the examples, firm_explain and firm_state too, with only the root on the path."""
     path = f"{root}/usr/bin"
     opened = ["--roster", str(EXAMPLES / "roster.csv")]
     commands = (EXAMPLES / "commands.txt").read_bytes()
     system = f"{path}:/usr/bin:/bin"
     told = f"firm {NAME}, commit {'0' * 40}, proved\n".encode()
-    require(said([f"{path}/firm", "--version"], PATH=system) == told, "its release")
+    require(output_of([f"{path}/firm", "--version"], PATH=system) == told, "its release")
     for program in release.PROGRAMS:
         require(
-            said([f"{path}/{program}", "--version"], PATH=system) == told.replace(b"firm", program.encode(), 1), program
+            output_of([f"{path}/{program}", "--version"], PATH=system) == told.replace(b"firm", program.encode(), 1),
+            program,
         )
     for program in release.SERVICES:
-        require(said([f"{path}/{program}", "--version"], PATH=system) == f"{program} {NAME}\n".encode(), program)
-    imported = "from firm_service.queue.client import Queue; import firm_service; print(firm_service.__file__)"
-    place = said(
+        require(output_of([f"{path}/{program}", "--version"], PATH=system) == f"{program} {NAME}\n".encode(), program)
+    imported = "from firm.client import ApiClient; import firm; print(firm.__file__)"
+    place = output_of(
         [release.PYTHON, "-E", "-c", f"import sys; sys.path.append(sys.argv[1]); {imported}", root / DIST], PATH=system
     )
     require(place.decode().startswith(f"{root}/usr/lib/"), place)
-    require(said(["firm", "--help", "--version"], PATH=system).startswith(b"Decides where"), "the program's own words")
-    output = said([f"{path}/firm", *opened], commands, PATH=system)
+    require(
+        output_of(["firm", "--help", "--version"], PATH=system).startswith(b"Decides where"), "the program's own words"
+    )
+    output = output_of([f"{path}/firm", *opened], commands, PATH=system)
     require(output == (EXAMPLES / "expected.txt").read_bytes(), output)
-    require(b"# least" in said([f"{path}/firm_explain", *opened], commands, PATH=path), "the reasons")
-    require(said([f"{path}/firm_state", *opened], commands, PATH=path).startswith(b"firm state"), "the state")
+    require(b"# least" in output_of([f"{path}/firm_explain", *opened], commands, PATH=path), "the reasons")
+    require(output_of([f"{path}/firm_state", *opened], commands, PATH=path).startswith(b"firm state"), "the state")
 
 
 def path_of(root: Path) -> str:
-    """The programs of a root, then the system's."""
+    """Return the path of a root's programs, then the system's."""
     return f"{root}/usr/bin:{Path(sys.executable).parent}:/usr/bin:/bin"
 
 
 def plays_tutorial(root: Path) -> None:
-    """The tutorial is played by the installed programs, but for its first console, which installs others."""
+    """The installed programs play the tutorial, except its first console, which installs others."""
     installing, *consoles = sessions.consoles_of(TUTORIAL)
     text = "$ mkdir out\n" + "".join(console.text for console in consoles)
     sessions.play_console(installing._replace(text=text), path_of(root))
 
 
 def serves(root: Path) -> None:
-    """The installed firmd finds the installed firm, and the installed firmctl that firmd."""
+    """The installed firmd finds the installed firm, and the installed firmctl reaches it by firm-api."""
     path = path_of(root)
     with firmd_kit.Setup(f"{root}/usr/bin/firm", True, 1).daemon() as daemon:
         daemon.words = [f"{root}/usr/bin/firmd"]
         daemon.start()
         with daemon.client() as client:
             require(client.ask(b"alpha job web 10") == b"alpha 1 ok", "a reply")
-        jobs = said([f"{root}/usr/bin/firmctl", "--state", daemon.state, "jobs"], PATH=path)
+        with api_of(daemon.state, "alpha") as server:
+            jobs = output_of([f"{root}/usr/bin/firmctl", "--server", server, "jobs"], PATH=path)
         require(b"web" in jobs, jobs)
         daemon.stop()
 
 
 def refused(place: launcher.Place) -> None:
-    """Without a commit, after a change, and before a proof there is nothing to release: it says which."""
+    """Without a commit, after a change, and before a proof the release is refused with the reason."""
     (place.top / "tools").mkdir()
     for name in ("tools/release", "tools/release.py", "tools/run", "pyproject.toml"):
         shutil.copy2(ROOT / name, place.top / name)
@@ -285,7 +294,7 @@ def refused(place: launcher.Place) -> None:
 
 def main() -> int:
     argparse.ArgumentParser(description=(__doc__ or "").splitlines()[0]).parse_args()
-    os.environ.pop("PYTHONPATH", None)  # what is installed must find its own package
+    os.environ.pop("PYTHONPATH", None)  # the installed programs must find their own package
     checks: dict[str, Check] = {
         "refused": partial(launcher.run_in_place, refused),
         "completions": completions,

@@ -1,4 +1,4 @@
-"""Clients of replicas while leaders, followers and members are killed or asleep, and a judge of what they saw."""
+"""Clients of replicas while leaders, followers and members are killed or suspended, and a judge of their replies."""
 
 from __future__ import annotations
 
@@ -21,9 +21,9 @@ CLIENTS, TENANTS = 16, 8
 ROSTER = b"tenant,nodes,arcs,life,spread,churn\n" + b"".join(
     b"t%d,4096,65536,1099511627776,1,500\n" % number for number in range(TENANTS)
 )
-SLEEP_SECONDS, QUORUM_SECONDS = 6.0, 4.0  # two leases; and for how long most members are away
+SLEEP_SECONDS, QUORUM_SECONDS = 6.0, 4.0  # two leases; and the time for which most members are away
 LEADER_SECONDS = 20.0
-AROUND_SECONDS = 8.0  # behind an event, in which a silence is its own
+AROUND_SECONDS = 8.0  # after an event; a silence within it belongs to the event
 PATIENCE = (2.0, 2 * SLEEP_SECONDS)  # of clients: some leave a leader that sleeps, some wait for its answer
 KINDS = ["leader"] * 4 + ["sleep"] * 2 + ["follower", "member", "both", "quorum"]
 KILLED, STOPPED = "leader killed", "leader stopped"
@@ -80,7 +80,7 @@ class Client(threading.Thread):
             if not reply.endswith(b"\n") or reply.startswith(b"?"):
                 raise OSError("no reply")
             self.answers.append(Answer(line, reply, asked, time.monotonic()))
-        except OSError:  # whether it was taken is not known: go on with the next
+        except OSError:  # the line may have been taken or not: go on with the next
             self._stream = None
             self.unknown += 1
 
@@ -100,13 +100,13 @@ class Client(threading.Thread):
 class Event:
     at: float
     what: str
-    silence: float = 0.0  # the longest without any answer behind it
+    silence: float = 0.0  # the longest without any answer after it
 
 
 @dataclass
 class Verdict:
     answered: int
-    lost: list[Answer]  # that the journal has not, or otherwise
+    lost: list[Answer]  # missing or different in the journal
     twice: int
     unknown: int
     are_equal: bool  # the replicas' journals
@@ -130,7 +130,7 @@ class Chaos:
         self.events: list[Event] = []
 
     def run(self, seconds: float, kinds: list[str]) -> Verdict:
-        """Has each kind of event in a random order, again and again for so long; then what came of it."""
+        """Cause each kind of event in a random order, again and again for this time; return the verdict."""
         self.replicas.start(*NAMES)
         for client in self.clients:
             client.start()
@@ -152,7 +152,7 @@ class Chaos:
         return self.judge()
 
     def cause(self, kind: str) -> None:
-        """An event, and all back as it was; it waits until one leads and answers."""
+        """Cause an event, and undo it; wait until a replica leads and answers."""
         until(self._serves, "one leads", LEADER_SECONDS)
         leader = self.replicas.leader()
         if leader is None:
@@ -183,7 +183,7 @@ class Chaos:
         self.replicas.revive()
 
     def judge(self) -> Verdict:
-        """Asks firm alone what it replies to the longest journal: each answer must be there, with its line, once."""
+        """Compare with firm's own replies to the longest journal: each answer must be there, with its line, once."""
         journals = [self.replicas.journal(name) for name in NAMES]
         longest = max(journals, key=len)
         with program.Roster(ROSTER) as path:
@@ -203,7 +203,7 @@ class Chaos:
         return self.replicas.leader() is not None
 
     def _settle(self) -> None:
-        """Waits until all replicas have the same lines, or for a while where they never will."""
+        """Wait until all replicas have the same lines, or for a while if they never will."""
         ends = time.monotonic() + 15
         while time.monotonic() < ends:
             self.replicas.revive()
@@ -222,7 +222,7 @@ class Chaos:
             self.members.start(number)
 
     def _measure(self, answered: list[float]) -> None:
-        """Finds the longest silence of each event, until the next one."""
+        """Find the longest silence of each event, until the next one."""
         bounds = [*[event.at for event in self.events[1:]], answered[-1] if answered else 0.0]
         for event, bound in zip(self.events, bounds):
             ends = min(bound, event.at + AROUND_SECONDS)
@@ -231,11 +231,11 @@ class Chaos:
 
 
 def number_of(reply: bytes) -> tuple[bytes, ...]:
-    """The tenant and the number of a reply, which no other one has."""
+    """Return the tenant and the number of a reply, which no other one has."""
     return tuple(reply.split(b" ", 2)[:2])
 
 
 def latencies(clients: list[Client]) -> tuple[float, float]:
-    """The median and the 99th percentile of all answers, in milliseconds."""
+    """Return the median and the 99th percentile of all answers, in milliseconds."""
     spent = sorted(answer.answered - answer.asked for client in clients for answer in client.answers)
     return spent[len(spent) // 2] * 1e3, spent[len(spent) * 99 // 100] * 1e3

@@ -1,4 +1,4 @@
-"""Checks of replicas without engines: what stands in etcd, what is done with its answers, and who may append."""
+"""Check the rules of replicas without engines: the contents and answers of etcd, and the right to append."""
 
 from __future__ import annotations
 
@@ -21,33 +21,33 @@ from etcd_kit import memory, until
 from harness.checks import require
 from stand_in_etcd import Connection, Memory
 
-from firm_service import logs
-from firm_service.faults import Exit, Fault
-from firm_service.journal import Journal, Room
-from firm_service.records import Base, Batch
-from firm_service.replicated import journal as replicated_journal
-from firm_service.replicated.beginning import Length, agree, compare_lengths
-from firm_service.replicated.digests import EVERY_LINES, Chain, Digest, Digests
-from firm_service.replicated.entries import Agreed, Entry, Keys, cut_off, parts_of
-from firm_service.replicated.etcd import Access, Change, Denied, Etcd, Full, Member, Put, Size, Unfit, Unsure
-from firm_service.replicated.faults import Anew
-from firm_service.replicated.housekeeper import Housekeeper, Kept
-from firm_service.replicated.housekeeper import Journal as KeptJournal
-from firm_service.replicated.journal import Link, ReplicatedJournal, position_of
-from firm_service.replicated.offers import Offer
-from firm_service.replicated.point import Point, Position, point_of
-from firm_service.replicated.replica import warnings_of
-from firm_service.snapshots import Snapshot
-from firm_service.state import State
+from firm.common import logs
+from firm.common.faults import Exit, Fault
+from firm.server.journal import Journal, SegmentLimit
+from firm.server.records import Base, JournalBatch
+from firm.server.replicated import journal as replicated_journal
+from firm.server.replicated.beginning import Length, agree, compare_lengths
+from firm.server.replicated.digests import EVERY_LINES, Chain, Digest, Digests
+from firm.server.replicated.entries import Agreed, LogEntry, Keys, cut_off, parts_of
+from firm.server.replicated.etcd import Access, KeyChange, Denied, Etcd, Full, Member, Put, DatabaseSize, Unfit, Unsure
+from firm.server.replicated.faults import Anew
+from firm.server.replicated.housekeeper import Housekeeper, DurablePosition
+from firm.server.replicated.housekeeper import SyncedJournal as KeptJournal
+from firm.server.replicated.journal import EtcdLink, ReplicatedJournal, position_of
+from firm.server.replicated.offers import Offer
+from firm.server.replicated.point import Point, Position, point_of
+from firm.server.replicated.replica import warnings_of
+from firm.server.snapshots import Snapshot
+from firm.server.state import ServiceState
 
-replicated_journal.PAUSE = 0.001  # so that a request is asked again at once
+replicated_journal.PAUSE = 0.001  # so that a request is repeated at once
 ROSTER = b"tenant,nodes,arcs,life,spread,churn\nalpha,30,300,1000,1,2\n"
 KEYS = Keys("/firm")
 ID = "0123456789abcdefabcd"
 
 
 def refused(call: Callable[[], object], kind: type[Exception], *texts: str) -> Exception:
-    """What it raises."""
+    """Return the exception that a call raises."""
     try:
         found = call()
     except kind as error:
@@ -57,26 +57,26 @@ def refused(call: Callable[[], object], kind: type[Exception], *texts: str) -> E
     raise AssertionError
 
 
-def batch(*lines: bytes, sender: bytes = b"alpha") -> Batch:
-    return Batch(sender, b"".join(line + b"\n" for line in lines), len(lines))
+def batch(*lines: bytes, sender: bytes = b"alpha") -> JournalBatch:
+    return JournalBatch(sender, b"".join(line + b"\n" for line in lines), len(lines))
 
 
-# What stands in etcd.
+# The contents of etcd.
 
 
 def entries() -> None:
-    """An entry is read as it was written; one that isn't whole is told by its byte."""
-    written = Entry(7, 1234, 99, 1_700_000_000_000, [batch(b"alpha show"), batch(b"alpha round", sender=b"firmd")])
+    """An entry is read as it was written; an incomplete entry is reported with its byte."""
+    written = LogEntry(7, 1234, 99, 1_700_000_000_000, [batch(b"alpha show"), batch(b"alpha round", sender=b"firmd")])
     text = written.text(41)
-    require(Entry.read(1234, text) == written, text)
+    require(LogEntry.read(1234, text) == written, text)
     require(written.end == 1234 + len(b"alpha show\nalpha round\n"), written.end)
     for broken in (text[:-1], text.replace(b"show", b"shot"), b"7\n" + text, text.split(b"\n")[0], b""):
-        fault = refused(lambda: Entry.read(1234, broken), Fault, "the entry of byte 1,234", "damaged")
+        fault = refused(lambda: LogEntry.read(1234, broken), Fault, "the entry of byte 1,234", "damaged")
         require(isinstance(fault, Fault) and fault.status == Exit.JOURNAL, fault)
 
 
 def cuts() -> None:
-    """Lines are cut into entries between lines, in their order, with their senders; long batches too."""
+    """Lines are cut into entries at line ends, in their order, with their senders; long batches too."""
     draw = random.Random(1)
     for _ in range(50):
         batches = [
@@ -93,9 +93,9 @@ def cuts() -> None:
 
 
 def histories() -> None:
-    """What a journal lacks of an entry; one that is late, ahead or of another history is told so."""
+    """A journal appends the part of an entry that it lacks; a late, early or foreign entry is refused by name."""
     begin = Position().behind(b"alpha job j 10\n")
-    entry = Entry(3, begin.size, begin.chain, 5, [batch(b"alpha show"), batch(b"beta show", b"beta round")])
+    entry = LogEntry(3, begin.size, begin.chain, 5, [batch(b"alpha show"), batch(b"beta show", b"beta round")])
     text = b"alpha show\nbeta show\nbeta round\n"
     for size in (0, len(b"alpha show\n"), len(b"alpha show\nbeta show\n"), len(text)):
         left = entry.left(begin.behind(text[:size]))
@@ -104,15 +104,15 @@ def histories() -> None:
     for position, words in (
         (Position(), "late: bytes 0 to 15"),
         (begin.behind(text + b"alpha round\n"), "another history: its lines end at byte 47 in etcd, and at 59 here"),
-        (Position().behind(b"alpha job j 20\n"), "another history: the lines before byte 15 are others"),
-        (begin.behind(b"alpha shot\n"), "another history: the lines before byte 26 are others"),
+        (Position().behind(b"alpha job j 20\n"), "another history: the lines before byte 15 differ"),
+        (begin.behind(b"alpha shot\n"), "another history: the lines before byte 26 differ"),
     ):
         fault = refused(lambda: entry.left(position), Fault, words)
         require(isinstance(fault, Fault) and fault.status == Exit.JOURNAL, fault)
 
 
 def agreements() -> None:
-    """Of two states that begin at a time, the first is that of both."""
+    """Of two states that begin at the same time, both replicas take the first."""
     memory = Memory()
     mine, other = Agreed(ID, ROSTER, Position()), Agreed(ID[::-1], b"other", Position(2, 30, 77))
     require(agree(Connection(memory), KEYS, mine) == mine, "the first")
@@ -124,7 +124,7 @@ def agreements() -> None:
         refused(lambda: agree(Connection(memory), KEYS, mine), Fault, "no state of firmd")
 
 
-# Who may append.
+# The right to append.
 
 
 class Case:
@@ -134,11 +134,11 @@ class Case:
         self.folder, self.memory = folder, Memory()
         self.agreed = agree(Connection(self.memory), KEYS, Agreed(ID, ROSTER, Position()))
         self.opened: list[ReplicatedJournal] = []
-        self.states: list[State] = []
+        self.states: list[ServiceState] = []
 
     def open(self, name: str) -> tuple[ReplicatedJournal, list[Connection]]:
-        """A replica, and its connections: of the appends first."""
-        state = State(self.folder / name)
+        """Return a replica and its connections, the one for appends first."""
+        state = ServiceState(self.folder / name)
         state.id_to_take = ID
         (self.folder / name / "roster.csv").write_bytes(ROSTER)
         connections: list[Connection] = []
@@ -147,26 +147,26 @@ class Case:
             connections.append(Connection(self.memory))
             return connections[-1]
 
-        journal = ReplicatedJournal(Journal(state, Room(4096)), Link(connect, KEYS, name, 60), self.agreed)
+        journal = ReplicatedJournal(Journal(state, SegmentLimit(4096)), EtcdLink(connect, KEYS, name, 60), self.agreed)
         self.opened.append(journal)
         self.states.append(state)
         return journal, connections
 
     def leads(self, journal: ReplicatedJournal) -> bytes:
-        """Has nobody lead but this one; the lines that its replay gives until then."""
+        """Make this replica the only leader; return the lines that its replay gives until then."""
         row = self.memory.rows.get(KEYS.leader)
         if row is not None:
             self.memory.end_lease(row[1])
         return b"".join(piece.text for piece in journal.pieces())
 
     def lines(self) -> bytes:
-        """All lines of etcd."""
+        """Return all lines in etcd."""
         rows = sorted(key for key in self.memory.rows if key.startswith(KEYS.lines))
         found = b""
         for key in rows:
             require(KEYS.offset(key) == len(found), f"{key!r} begins not at byte {len(found)}")
             value = self.memory.value(key) or b""
-            found += b"".join(one.text for one in Entry.read(len(found), value).batches)
+            found += b"".join(one.text for one in LogEntry.read(len(found), value).batches)
         return found
 
 
@@ -200,7 +200,8 @@ def one_leader() -> None:
 
 
 def lost_answers() -> None:
-    """A request without an answer is asked again: it is done once, and known to be, also where another leads then."""
+    """A request without an answer is repeated. It takes effect once, and the sender learns that, even under another
+    leader."""
     with case() as here:
         first, connections = here.open("a")
         here.leads(first)
@@ -210,7 +211,7 @@ def lost_answers() -> None:
             first.append([batch(b"alpha " + faults[0].encode())])
         lines = b"alpha done\nalpha lost\nalpha lost\nalpha done\nalpha again\nalpha lost\n"
         require(here.lines() == lines, here.lines())
-        # The request is done, its answer is lost, and before it is asked again another one leads.
+        # etcd does the request, its answer is lost, and before the repetition another replica leads.
         second, _ = here.open("b")
         appends.faults = ["done"]
 
@@ -226,7 +227,7 @@ def lost_answers() -> None:
 
 
 def random_leaders() -> None:
-    """Replicas lead in turn, asleep or not, with requests and answers that are lost: what was acknowledged stands in
+    """Replicas lead in turn, asleep or not, while requests and answers are lost. Each acknowledged line stands in
     etcd once, in order, and in each replica's files."""
     for seed in range(6):
         draw = random.Random(seed)
@@ -256,7 +257,8 @@ def random_leaders() -> None:
 
 
 def full_and_away() -> None:
-    """An etcd that is full, or doesn't answer, is named; a late replica is, and one with lines that etcd has lost."""
+    """Each of these is reported by name: an etcd that is full or doesn't answer, a late replica, and one with lines
+    that etcd has lost."""
     with case() as here:
         first, connections = here.open("a")
         here.leads(first)
@@ -270,19 +272,19 @@ def full_and_away() -> None:
         refused(lambda: here.leads(late), Fault, "late: bytes 0 to 11", "copy the state's folder")
         here.memory.set(Put(KEYS.snapshot, Offer(23, "none").text()))
         late, _ = here.open("c")
-        refused(lambda: here.leads(late), Anew, "the lines behind byte 0 are gone from etcd")
+        refused(lambda: here.leads(late), Anew, "the lines after byte 0 are no longer in etcd")
         here.memory.remove(KEYS.snapshot)
         here.memory.remove(KEYS.entry(11))
         first.close()
-        own = Journal(first._own.state, Room(4096))
-        again = ReplicatedJournal(own, Link(lambda: Connection(here.memory), KEYS, "a", 60), here.agreed)
+        own = Journal(first._own.state, SegmentLimit(4096))
+        again = ReplicatedJournal(own, EtcdLink(lambda: Connection(here.memory), KEYS, "a", 60), here.agreed)
         refused(lambda: here.leads(again), Fault, "another history: its lines end at byte 0 in etcd, and at 23 here")
         require(position_of(own).size == 23, "its files are as they were")
 
 
 def old_changes() -> None:
-    """A follower takes lines once, also where a watch tells of them again: a member of etcd does so that was behind,
-    and was given the store of another one."""
+    """A follower appends lines once, even if a watch repeats them: a member of etcd does so if it fell behind and
+    got the store of another member."""
     with case() as here:
         first, _ = here.open("a")
         here.leads(first)
@@ -291,7 +293,7 @@ def old_changes() -> None:
         second, connections = here.open("b")
         watch, pieces = connections[0].watch, second.pieces()
 
-        def watch_from_the_first(key: bytes, end: bytes, revision: int, seconds: float) -> Iterator[list[Change]]:
+        def watch_from_the_first(key: bytes, end: bytes, revision: int, seconds: float) -> Iterator[list[KeyChange]]:
             first.append([batch(b"alpha round")])
             return watch(key, end, 0, seconds)
 
@@ -300,11 +302,12 @@ def old_changes() -> None:
         require(found == [b"alpha show\n", b"alpha costs\n", b"alpha round\n"], found)
 
 
-# Digests, and what is kept in order.
+# Digests, and the clean-up of etcd.
 
 
 def digests() -> None:
-    """Whatever pieces replies come in, all replicas have the same digests; another one is told, early or late."""
+    """However the replies are cut, all replicas have the same digests; a different digest is reported, early or
+    late."""
     draw = random.Random(3)
     replies = [b"alpha %d ok" % number for number in range(3 * EVERY_LINES + 10)]
     faults: list[Fault] = []
@@ -338,7 +341,7 @@ def digests() -> None:
 
 
 def points() -> None:
-    """What a snapshot keeps of lines and replies is where a replica goes on from, whatever pieces these come in."""
+    """A replica continues from the byte positions of lines and replies in a snapshot, however both are cut."""
     draw = random.Random(5)
     replies = [b"alpha %d ok" % number for number in range(5 * EVERY_LINES)]
     whole = Chain()
@@ -362,12 +365,13 @@ def housekeeper_of(memory: Memory, name: str, size: int, epoch: int) -> Housekee
     found = Housekeeper(
         Connection(memory), KEYS, name, KeptJournal(lambda: size, lambda: None, lambda: epoch), Digests(print)
     )
-    found._began = time.monotonic() - 60  # its name may be taken
+    found._began = time.monotonic() - 60  # so that its name is free
     return found
 
 
 def order() -> None:
-    """The leader removes what all replicas have, but the last lines, and what is of replicas that are away too long."""
+    """The leader removes the lines that all replicas have, except the last ones, and the keys of replicas that are
+    away too long."""
     memory = Memory()
     memory.set(Put(KEYS.leader, b"a"))
     epoch = memory.rows[KEYS.leader][0].made
@@ -386,12 +390,12 @@ def order() -> None:
     leader.keep()
     require(offsets() == list(range(400, 1000, 100)), offsets())
     require(leader.told.kept == {"a": 1000, "b": 450}, leader.told)
-    memory.set(Put(KEYS.kept + b"b", Kept("x", 450, time.time() - 100).text()))
+    memory.set(Put(KEYS.kept + b"b", DurablePosition("x", 450, time.time() - 100).text()))
     leader.keep()
     require(offsets()[0] == 400, "one that is away for a while is waited for")
-    memory.size = Size(6, 10)
-    for count in range(3):  # it lives: its host's clock is slow
-        memory.set(Put(KEYS.kept + b"b", Kept("x", 450, time.time() - 100 + count).text()))
+    memory.size = DatabaseSize(6, 10)
+    for count in range(3):  # the replica is alive: its host's clock is slow
+        memory.set(Put(KEYS.kept + b"b", DurablePosition("x", 450, time.time() - 100 + count).text()))
         leader.keep()
         require(offsets()[0] == 400, "one that lives is waited for, whatever its clock says")
     leader.quiet = 0.0
@@ -400,27 +404,27 @@ def order() -> None:
 
 
 def early_names() -> None:
-    """A replica that has much to replay tells etcd at once how far its disk reaches."""
+    """A replica with much to replay reports the extent of its disk to etcd at once."""
     with case() as here:
         first, _ = here.open("a")
         here.leads(first)
         for number in range(3):
             first.append([batch(b"alpha where x%d" % number)])
         first.close()
-        own = Journal(first._own.state, Room(4096))
-        again = ReplicatedJournal(own, Link(lambda: Connection(here.memory), KEYS, "a", 60), here.agreed)
+        own = Journal(first._own.state, SegmentLimit(4096))
+        again = ReplicatedJournal(own, EtcdLink(lambda: Connection(here.memory), KEYS, "a", 60), here.agreed)
         here.opened.append(again)
         pieces = again.pieces()
         next(pieces)
         again.housekeeper._began -= 60
         again.housekeeper.keep()
         found = here.memory.value(KEYS.kept + b"a")
-        require(found is not None and Kept.read(found).size == len(b"alpha where x0\n") * 3, found)
-        require(again.housekeeper._thread.is_alive(), "and goes on to tell it")
+        require(found is not None and DurablePosition.read(found).size == len(b"alpha where x0\n") * 3, found)
+        require(again.housekeeper._thread.is_alive(), "it stops reporting its extent")
 
 
 def secrets() -> None:
-    """Files of secrets that all users may read are told, and a password that goes over the network as it is."""
+    """Secret files that all users can read are reported, and so is a password that crosses the network in the clear."""
     with tempfile.TemporaryDirectory(prefix="firm-") as name:
         password, key = Path(name) / "password", Path(name) / "key"
         for path in (password, key):
@@ -434,7 +438,7 @@ def secrets() -> None:
         require(not list(warnings_of(options)), "files of an owner and a group")
         options.etcd += (Member(False, "b", 1),)
         told = list(warnings_of(options))
-        require(len(told) == 1 and "goes over the network as it is" in told[0], told)
+        require(len(told) == 1 and "is sent unencrypted" in told[0], told)
         options.etcd_password = None
         require(not list(warnings_of(options)), "no password")
         password.write_bytes(b"firm:\xff\n")
@@ -442,7 +446,8 @@ def secrets() -> None:
 
 
 def names() -> None:
-    """A replica whose name another one has that is alive is told so; after a restart it has its own."""
+    """A replica whose name belongs to a live replica is refused with the reason; after a restart it has its own
+    name."""
     memory = Memory()
     first = housekeeper_of(memory, "a", 10, 1)
     first.keep()
@@ -460,19 +465,19 @@ def names() -> None:
 
 def warnings() -> None:
     """The use of etcd's quota is reported, with a warning past half of it once a minute at most."""
-    memory = Memory(size=Size(400, 1000))
+    memory = Memory(size=DatabaseSize(400, 1000))
     housekeeper = housekeeper_of(memory, "a", 10, 1)
-    with said() as found:
+    with messages() as found:
         for used in (400, 600, 601, 400, 602):
-            memory.size = Size(used, 1000)
-            housekeeper._look_at_quota()
+            memory.size = DatabaseSize(used, 1000)
+            housekeeper._check_quota()
             require(housekeeper.told.etcd_bytes == used and housekeeper.told.quota_bytes == 1000, housekeeper.told)
     require(found == ["warning: etcd uses 600 of the 1,000 bytes of its quota; at the end firmd can't append"], found)
 
 
 def troubles() -> None:
-    """A follower that can't lead, as where etcd is full, tells each trouble once a minute at most."""
-    with case() as here, said() as found:
+    """A follower that can't lead, for example because etcd is full, reports each trouble once a minute at most."""
+    with case() as here, messages() as found:
         journal, _ = here.open("a")
         pieces = journal.pieces()
         here.memory.is_full = True
@@ -490,7 +495,7 @@ def troubles() -> None:
 
 
 @contextmanager
-def said() -> Iterator[list[str]]:
+def messages() -> Iterator[list[str]]:
     """Collect the messages to the operator."""
     found: list[str] = []
     with patch.object(logs, "tell", lambda level, text, *_, **__: found.append(text)):
@@ -504,7 +509,7 @@ def filled_store() -> None:
     leader = housekeeper_of(memory, "a", 1000, memory.rows[KEYS.leader][0].made)
 
     def kept(used: int) -> list[int]:
-        memory.size = Size(used, 1000)
+        memory.size = DatabaseSize(used, 1000)
         leader.keep()
         return [KEYS.offset(key) for key in sorted(memory.rows) if key.startswith(KEYS.lines)]
 
@@ -519,15 +524,15 @@ def filled_store() -> None:
 
 
 def full_store() -> None:
-    """Each replica removes from a full etcd the lines that all have: so there is room once it is defragmented."""
+    """Each replica removes from a full etcd the lines that all replicas have: a defragmentation then frees room."""
     memory = Memory()
     for offset in range(0, 1000, 100):
         memory.set(Put(KEYS.entry(offset), b""))
     replicas = [housekeeper_of(memory, name, size, 0) for name, size in (("a", 1000), ("b", 450), ("c", 100))]
     for replica in replicas:
         replica.keep()
-    memory.set(Put(KEYS.kept + b"c", Kept("x", 100, time.time() - 100).text()))
-    memory.size, memory.is_full = Size(1000, 1000), True
+    memory.set(Put(KEYS.kept + b"c", DurablePosition("x", 100, time.time() - 100).text()))
+    memory.size, memory.is_full = DatabaseSize(1000, 1000), True
     for replica in replicas[:2]:
         replica._put, replica.quiet = 0.0, 0.0  # its own key is old
         for _ in range(5):
@@ -539,7 +544,7 @@ def full_store() -> None:
 
 
 def longest() -> None:
-    """Each replica that finds no state in etcd has its length there, until one is set."""
+    """Each replica that finds no state in etcd records its length there, until one is set."""
     memory = Memory()
     lengths = {"a": Length(9, 99), "b": Length(10, 110), "c": Length(2, 30)}
     for name, length in lengths.items():
@@ -550,7 +555,7 @@ def longest() -> None:
     require(list(compare_lengths(Connection(memory), KEYS, "a", lengths["a"])) == ["a"], "nor set again")
 
 
-# What a test leaves behind.
+# Processes that a test leaves.
 
 GUARDED = """\
 import subprocess
@@ -563,7 +568,7 @@ daemon.wait()
 
 
 def killed_test() -> None:
-    """Where a test is killed, all that it has started is too, in whatever session that is."""
+    """If a test is killed, all its processes are killed too, in whatever session they are."""
     with subprocess.Popen([sys.executable, "-c", GUARDED], stdout=subprocess.PIPE) as test:
         try:
             daemon = int((test.stdout or sys.stdin.buffer).readline())
@@ -578,7 +583,7 @@ def children_of(process: int) -> list[int]:
     return list(map(int, Path(f"/proc/{process}/task/{process}/children").read_text().split()))
 
 
-# What an etcd may say.
+# Answers of etcd.
 
 
 class Answers(http.server.BaseHTTPRequestHandler):
@@ -586,7 +591,7 @@ class Answers(http.server.BaseHTTPRequestHandler):
 
     protocol_version = "HTTP/1.1"
     given: dict[str, tuple[int, object]] = {}
-    tokens: list[str] = []  # with which it was asked
+    tokens: list[str] = []  # of the requests
 
     def do_GET(self) -> None:
         self._give()
@@ -627,7 +632,7 @@ def answering(given: dict[str, tuple[int, object]]) -> Iterator[Etcd]:
 
 
 def versions() -> None:
-    """An etcd of another version, and what is no etcd, are named; one that isn't there is."""
+    """An etcd of another version, a server that is no etcd, and a missing one are reported by name."""
     for answer, words in (
         ((200, {"etcdcluster": "3.3.0"}), "is etcd 3.3.0: 3.4, or a later one"),
         ((200, {"etcdcluster": "4.0.0"}), "is etcd 4.0.0"),
@@ -643,7 +648,7 @@ def versions() -> None:
 
 
 def refusals() -> None:
-    """What etcd refuses is named; a token that it has forgotten is asked for anew."""
+    """Each refusal of etcd is reported by name; a forgotten token is requested anew."""
     rows = {"header": {"revision": "5"}, "kvs": [{"key": "aw==", "value": "dg==", "create_revision": "3"}]}
     given: dict[str, tuple[int, object]] = {
         "/v3/auth/authenticate": (200, {"token": "new"}),
@@ -665,7 +670,7 @@ def refusals() -> None:
 
 
 def cut_answers() -> None:
-    """An answer that is cut off anywhere is none: the next member is asked, and nothing is taken for what it is not."""
+    """A truncated answer counts as none, wherever it is cut: the next member is asked, and no answer is misread."""
     body = b'{"header": {"revision": "5"}, "succeeded": true}'
     answer = b"HTTP/1.1 200 OK\r\nContent-Type: application/json\r\nContent-Length: %d\r\n\r\n" % len(body) + body
     with socket.create_server(("127.0.0.1", 0)) as listening:
@@ -674,8 +679,10 @@ def cut_answers() -> None:
         def serve() -> None:
             for cut in cuts:
                 near, _ = listening.accept()
-                with near:
-                    near.recv(65536)
+                with near, near.makefile("rb") as request:
+                    headings = iter(request.readline, b"\r\n")
+                    sizes = [line.split()[1] for line in headings if line.lower().startswith(b"content-length:")]
+                    request.read(int(sizes[0]))  # all of it: the connection could be reset else
                     near.sendall(answer[:cut])
 
         threading.Thread(target=serve, daemon=True).start()

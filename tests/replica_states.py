@@ -1,4 +1,4 @@
-"""Checks of states in etcd, without engines: the one that all replicas began with, and that of a late one."""
+"""Checks of states in etcd, without engines: the common first state, and that of a late replica."""
 
 from __future__ import annotations
 
@@ -13,35 +13,35 @@ from harness.checks import require
 from replica_rules import ID, KEYS, ROSTER, Case, batch, case, refused
 from stand_in_etcd import Connection, Memory
 
-from firm_service.faults import Fault
-from firm_service.journal import Journal, Room
-from firm_service.records import Base
-from firm_service.replicated import renewal
-from firm_service.replicated.beginning import agree, beginning_of
-from firm_service.replicated.chunks import CHUNK_BYTES, chunk_key, put_chunks
-from firm_service.replicated.entries import Agreed
-from firm_service.replicated.etcd import Condition, Put, Size, Unsure
-from firm_service.replicated.faults import NotLeading
-from firm_service.replicated.journal import ReplicatedJournal
-from firm_service.replicated.offers import Offer, fetch, offer_of, packed
-from firm_service.replicated.point import Point, Position
-from firm_service.replicated.renewed import Renewed
-from firm_service.replicated.shared import Shared
-from firm_service.state import State
-from firm_service.states import digest
+from firm.common.faults import Fault
+from firm.server.journal import Journal, SegmentLimit
+from firm.server.records import Base
+from firm.server.replicated import renewal
+from firm.server.replicated.beginning import agree, beginning_of
+from firm.server.replicated.chunks import CHUNK_BYTES, chunk_key, put_chunks
+from firm.server.replicated.entries import Agreed
+from firm.server.replicated.etcd import Condition, Put, DatabaseSize, Unsure
+from firm.server.replicated.faults import NotLeading
+from firm.server.replicated.journal import ReplicatedJournal
+from firm.server.replicated.offers import Offer, fetch, offer_of, packed
+from firm.server.replicated.point import Point, Position
+from firm.server.replicated.renewed import Renewed
+from firm.server.replicated.shared import Shared
+from firm.server.state import ServiceState
+from firm.server.firm_state import digest
 
 
 def long_state(seed: int) -> bytes:
-    """A text that takes several chunks."""
+    """Return a text that takes several chunks."""
     return random.Random(seed).randbytes(2 * CHUNK_BYTES + 77).hex().encode()
 
 
-# What all begin with.
+# The common first state.
 
 
 def restored() -> None:
-    """All replicas begin with the state of the first one, wherever its try is cut off, or with another's roster; a
-    state that isn't whole is reported."""
+    """All replicas begin with the state of the first one, wherever its try is cut off, or with another's roster; an
+    incomplete state is reported."""
     texts, ids = [long_state(1), long_state(2)], [ID[::-1], ID]
     begun: list[str] = []
     for cut in range(6):
@@ -60,11 +60,11 @@ def restored() -> None:
             begun.append(found.id)
     require(set(begun) == set(ids) and begun == sorted(begun, key=ids[::-1].index), begun)
     memory.remove(chunk_key(KEYS.restored, names.pop().decode(), 1))
-    refused(beginning.text, Fault, "the state in etcd that all began with can't be used", "not whole")
+    refused(beginning.text, Fault, "the state in etcd that all began with can't be used", "incomplete")
 
 
 def only(memory: Memory, count: int) -> Connection:
-    """A connection that does no more than this number of transactions."""
+    """Return a connection that fails after this number of transactions."""
     found, left = Connection(memory), iter(range(count))
 
     def step() -> None:
@@ -79,7 +79,7 @@ def only(memory: Memory, count: int) -> Connection:
 
 
 def renewed_at(base: Base, state: bytes) -> Renewed:
-    """What a replica goes on from behind these lines, which are `alpha show` alone."""
+    """Return a renewed state after these lines, which are all `alpha show`."""
     point = Point()
     point.add(b"alpha show\n" * base.lines, [b"alpha %d ok" % number for number in range(base.lines)])
     books: dict[str, Any] = {"refusals": {}, "tenants": {}, **point.kept()}
@@ -87,14 +87,15 @@ def renewed_at(base: Base, state: bytes) -> Renewed:
 
 
 def shared_of(journal: ReplicatedJournal) -> Shared:
-    """Of one whose housekeeper does what it is called for: on a slow host its thread would remove lines before that."""
+    """Return the shared state of a replica whose housekeeper does only requested work: on a slow host its thread
+    would remove lines first."""
     journal.housekeeper.end()
     journal.housekeeper.retained = 0
     return journal.shared
 
 
 def offers() -> None:
-    """What is offered is read as it was written, in place of what was offered before; by a leader alone."""
+    """An offer is read as it was written, and replaces the former one; only a leader makes offers."""
     with case() as here:
         first, _ = here.open("a")
         here.leads(first)
@@ -120,14 +121,14 @@ def offers() -> None:
 
 
 def kept_beginnings() -> None:
-    """etcd keeps all lines from the last offer on, and while one is prepared, but where it is half full."""
+    """etcd keeps all lines from the last offer on, also while one is prepared, until it is half full."""
     with case() as here:
         journal, _ = here.open("a")
         here.leads(journal)
         shared, state = shared_of(journal), b"state"
 
         def first_entry() -> int:
-            for _ in range(2):  # the first has the own key say how far the lines are
+            for _ in range(2):  # the first puts the replica's extent into its own key
                 journal.housekeeper._has_name = True
                 journal.housekeeper.keep()
             return min(KEYS.offset(key) for key in here.memory.rows if key.startswith(KEYS.lines))
@@ -135,20 +136,20 @@ def kept_beginnings() -> None:
         for _ in range(3):
             journal.append([batch(b"alpha show")])
         require(first_entry() == 22, "lines that all have are gone")
-        refused(lambda: shared.offer(renewed_at(Base(1, 1, 11, 0), state), state), Fault, "are gone from etcd")
+        refused(lambda: shared.offer(renewed_at(Base(1, 1, 11, 0), state), state), Fault, "are no longer in etcd")
         with shared.keeping(33):
             journal.append([batch(b"alpha show")])
             journal.append([batch(b"alpha show")])
             require(first_entry() == 33, "lines that one needs who is to begin")
             shared.offer(renewed_at(Base(3, 3, 33, 0), state), state)
         journal.append([batch(b"alpha show")])
-        require(first_entry() == 33, "lines behind the offer")
-        here.memory.size = Size(6, 10)
+        require(first_entry() == 33, "lines after the offer")
+        here.memory.size = DatabaseSize(6, 10)
         require(first_entry() == 55, "where there is no room")
 
 
 def begun_anew() -> None:
-    """A replica that is late begins anew whatever step is cut off, and keeps what it had."""
+    """A late replica begins anew, whatever step is cut off, and keeps its former files."""
     state, base, cut = b"firm state 1\nplace admissions 1\nrows 1\n", Base(4, 3, 33, 99), 0
     while True:
         with case() as here:
@@ -165,7 +166,7 @@ def begun_anew() -> None:
             here.memory.set(Put(KEYS.snapshot, Offer.of(renewed, text).text()))
             is_cut = renewed_but_for(here, store, cut)
             again = restarted(here)
-            found = Journal(again, Room(4096), again.base).found
+            found = Journal(again, SegmentLimit(4096), again.base).found
             require((again.renewed, found.base, found.lines, again.id) == (renewed, base, 3, ID), f"{cut}: {found}")
             former = (here.folder / "a" / "journal.former").glob("*.lines")
             kept = b"".join(path.read_bytes() for path in former)
@@ -178,20 +179,20 @@ def begun_anew() -> None:
     require(cut > 8, f"it has {cut} steps")
 
 
-def restarted(here: Case) -> State:
-    """The state of the first replica, as a start finds it."""
+def restarted(here: Case) -> ServiceState:
+    """Return the state of the first replica, as a start finds it."""
     here.states[-1]._lock.close()
-    here.states.append(State(here.folder / "a"))
+    here.states.append(ServiceState(here.folder / "a"))
     here.states[-1].read_opening()
     return here.states[-1]
 
 
 def renewed_but_for(here: Case, store: Connection, cut: int) -> bool:
-    """Renews the state of a replica; before that, a try ends at a step, if there are as many."""
+    """Renew the state of a replica; before that, one try ends at a step, if the renewal has that many steps."""
     steps = 0
 
     def step(work: Callable[..., None], *words: object, **more: object) -> None:
-        """What is cut off comes before it, or behind it."""
+        """End the try before this step, or after it."""
         nonlocal steps
         for is_before in (True, False):
             steps += 1

@@ -1,4 +1,4 @@
-"""Checks of what replicas leave in etcd, of an etcd that is full or lost, and of an upgrade; over real members."""
+"""Checks of replicas' lines in etcd, of a full or lost etcd, and of an upgrade; over real members."""
 
 from __future__ import annotations
 
@@ -17,25 +17,25 @@ from harness.checks import require
 from harness.deployed import SERVICE
 from replica_chaos import ROSTER, STOPPED, Chaos
 
-from firm_service.replicated.etcd import Access, Etcd, Member
+from firm.server.replicated.etcd import Access, Etcd, Member
 
 QUOTA = 8 << 20
 LINE = b"t0 where " + b"x" * 200
 AT_ONCE = 500  # lines
 ALL_RETAINED = ("--etcd-retain", str(2**32))
-# firmd as it was: whatever etcd has used, all lines stay there that the option names.
+# firmd as it was: whatever etcd has used, the lines that the option names stay there.
 UNBOUND = """\
 import sys
 sys.path.insert(0, {service!r})
-from firm_service.replicated import housekeeper
-from firm_service import daemon
+from firm.server.replicated import housekeeper
+from firm.server import daemon
 housekeeper.Housekeeper._room = lambda self, size: self.retained
 sys.exit(daemon.main())
 """
 
 
 def fill_until(replicas: Replicas, most: int) -> int:
-    """Have the leader take lines until it ends, or has this number; return the number of replies."""
+    """Send lines to the leader until it ends, or has this number; return the number of replies."""
     leader, answered = replicas.leads(), 0
     with suppress(Gone), Client(replicas.socket(leader)) as client:
         while answered < most and not replicas.has_ended(leader):
@@ -46,7 +46,7 @@ def fill_until(replicas: Replicas, most: int) -> int:
 
 
 def sizes(members: Members) -> tuple[int, int]:
-    """Bytes that the first member uses, and its quota."""
+    """Return the bytes that the first member uses, and its quota."""
     etcd = Etcd(Access((Member.read(members.url(0)),)))
     try:
         return etcd.size()
@@ -76,7 +76,7 @@ def bounded_store(program: str) -> None:
 
 
 def full_store(program: str) -> None:
-    """An etcd that an older firmd has filled has room again by the steps that firmd names; nothing is lost."""
+    """An etcd that an older firmd has filled has room again after the steps that firmd names; nothing is lost."""
     require_programs("etcdctl")
     with cluster(program, ROSTER, *ALL_RETAINED, members=("--quota-backend-bytes", str(QUOTA))) as (members, replicas):
         script, now = replicas.folder / "unbound.py", replicas.firmd
@@ -109,7 +109,7 @@ def full_store(program: str) -> None:
 
 
 def lost_store(program: str) -> None:
-    """Once etcd is lost, each replica says how many lines it has, and etcd goes on from the longest alone."""
+    """Once etcd is lost, each replica reports its number of lines, and etcd continues only from the longest."""
     with cluster(program, ROSTER) as (members, replicas):
         replicas.start("a")
         fill_until(replicas, AT_ONCE)
@@ -142,7 +142,7 @@ class Hosts(Replicas):
         return self.folder / f"host-{name}"
 
     def install(self, name: str) -> None:
-        """Puts the service and the program there, in the place of what runs."""
+        """Install the service and the program there, over the running ones."""
         host = self.host(name)
         shutil.rmtree(host, ignore_errors=True)
         shutil.copytree(SERVICE, host / "service", ignore=shutil.ignore_patterns("__pycache__"))
@@ -176,7 +176,7 @@ class Upgrade(Chaos):
 
 
 def upgraded(program: str) -> None:
-    """Each host's programs are replaced while they run, followers first: no answer is lost or twice."""
+    """Each host's programs are replaced while they run, followers first: no answer is lost or repeated."""
     with cluster(program, ROSTER) as (members, replicas):
         hosts = Hosts(replicas.folder, replicas.urls, program, processes=replicas.processes)
         for name in NAMES:

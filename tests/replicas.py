@@ -1,9 +1,9 @@
-"""Asks firmd replicas of a journal in etcd, and kills, stops and cuts off what there is, over three real members.
+"""Check firmd replicas of a journal in etcd over three real members, while processes are killed, stopped and cut off.
 
 usage: tools/run tests/replicas.py [--quick] [--program FILE] [--only WORDS] [--seconds N] [--seed N]
---quick looks at the rules alone, without engines. The rest needs Debian's etcd-server, and openssl for certificates; a
-check that can't be done here says so and is skipped. Each check has a line; the last line is 'N passed, M failed', and
-the exit status is 1 where one failed.
+--quick checks only the rules, without engines. The rest needs Debian's etcd-server, and openssl for certificates; a
+check that can't run here is skipped with a line. Each check prints a line; the last line is 'N passed, M failed', and
+the exit status is 1 if one failed.
 """
 
 from __future__ import annotations
@@ -26,40 +26,31 @@ from dataclasses import dataclass
 from functools import partial
 from pathlib import Path
 
-import replica_chaos
+import replica_apis
 import replica_rules
 import replica_states
 import replica_stores
-from etcd_kit import (
-    NAMES,
-    Authority,
-    Members,
-    Replicas,
-    cluster,
-    free_ports,
-    memory,
-    require_programs,
-    until,
-)
-from front_kit import missing_of, samples_of
+from front_kit import api_of
+from etcd_kit import NAMES, Authority, Members, Replicas, cluster, memory, require_programs, until
+from front_kit import samples_of
 from firmd_disks import PATCHED
 from firmd_kit import Client, Gone, stand_in
 from slurm_kit import slowness
-from harness.checks import Check, Skipped, Suite, print_skipped, require, run_script, run_suites
+from harness.checks import Check, Skipped, Suite, require, run_script, run_suites
 from harness.guard import guard
 from harness.program import ROOT, Roster, add_program, run_words
-from firm_service.programs import program_of
-from firm_service.replicated.entries import MOST_BYTES, Keys
-from firm_service.replicated.etcd import Access, Etcd, Member, Put, after
-from firm_service.replicated.offers import offer_of
-from firm_service.states import Opening, fold
+from firm.common.programs import program_of
+from firm.server.replicated.entries import MAX_BYTES, Keys
+from firm.server.replicated.etcd import Access, Etcd, Member, Put, after
+from firm.server.replicated.offers import offer_of
+from firm.server.firm_state import Opening, fold
 from replica_chaos import KILLED, KINDS, ROSTER, STOPPED, Chaos, latencies
 
 CHECKS_AT_A_TIME = 3
 CHAOS_SNAPSHOT_LINES, SNAPSHOT_LINES = 1_000, 300  # between snapshots
 HUNG_SECONDS = 30.0  # of a client whose leader's disk hangs, on a busy host
-KILL_SECONDS, STOP_SECONDS = 5.0, 0.5  # the longest silences behind a kill of the leader, and a stop
-# What has the loopback of a network's namespace drop packets, each way; the first that the host has is taken.
+KILL_SECONDS, STOP_SECONDS = 5.0, 0.5  # the longest silences after a kill of the leader, and after a stop
+# Makes the loopback of a network namespace drop packets, each way; the first command that the host has is used.
 LOSSES = {
     "2% of packets, 1 ms late": "tc qdisc add dev lo root netem loss 2% delay 1ms 1ms",
     "2% of packets, by nft": "nft add table ip firm"
@@ -67,16 +58,16 @@ LOSSES = {
     " && nft add rule ip firm lost numgen random mod 100 '<' 2 drop",
     "2% of packets, by iptables": "iptables -A INPUT -m statistic --mode random --probability 0.02 -j DROP",
 }
-# firmd without the fence: it appends whoever leads, and over what stands there.
+# firmd without the fence: it appends whoever leads, and overwrites.
 UNFENCED = """\
 import sys
-from firm_service.replicated import entries
-from firm_service import daemon
+from firm.server.replicated import entries
+from firm.server import daemon
 fenced = entries.Append.of
 entries.Append.of = lambda *words: entries.Append((), fenced(*words).put)
 sys.exit(daemon.main())
 """
-# A firm that replies otherwise than the others, from its 300th line on.
+# A firm whose replies differ from the others', from its 300th line on.
 OTHER_FIRM = """\
 #!{python}
 import subprocess, sys
@@ -102,18 +93,18 @@ class Setup:
 
 
 def ask(replicas: Replicas, *lines: bytes) -> list[bytes]:
-    """The replies of the leader."""
+    """Return the leader's replies."""
     with Client(replicas.socket(replicas.leads())) as client:
         return [client.ask(line) for line in lines]
 
 
 def fill(replicas: Replicas, count: int) -> None:
-    """Has the leader take so many lines."""
+    """Send this number of lines to the leader."""
     ask(replicas, *[b"t0 where nobody-%d" % number for number in range(count)])
 
 
 def insist(replicas: Replicas, lines: Sequence[bytes]) -> Counter[bytes]:
-    """Has the replica that leads take each line, and again where its answer was lost; how often each was sent."""
+    """Send each line to the leader, and again if its answer is lost; return how often each was sent."""
     left, sent = deque(lines), Counter[bytes]()
     while left:
         replicas.revive()
@@ -126,11 +117,12 @@ def insist(replicas: Replicas, lines: Sequence[bytes]) -> Counter[bytes]:
     return sent
 
 
-# What is lost.
+# Lost replies.
 
 
 def chaos(setup: Setup) -> None:
-    """Leaders, followers and members of etcd are killed, stopped or asleep at random: no answer is lost or twice."""
+    """Leaders, followers and members of etcd are killed, stopped or suspended at random: no answer is lost or
+    repeated."""
     with setup.cluster("--snapshot-lines", str(CHAOS_SNAPSHOT_LINES)) as (members, replicas):
         run = Chaos(members, replicas, setup.seed)
         verdict = run.run(setup.seconds, [*KINDS, "stop"])
@@ -140,7 +132,7 @@ def chaos(setup: Setup) -> None:
 
 
 def control(setup: Setup) -> None:
-    """Without the fence, a leader that wakes up loses answers: so the judge of the other checks would see it."""
+    """Without the fence, a leader that wakes up loses answers: so the judge of the other checks would notice."""
     with setup.cluster() as (members, replicas):
         script = replicas.folder / "unfenced.py"
         script.write_text(UNFENCED)
@@ -154,20 +146,20 @@ def control(setup: Setup) -> None:
 
 
 def silence(setup: Setup) -> None:
-    """Behind a kill of the leader clients are answered within 5 s, behind SIGTERM within half a second."""
+    """After a kill of the leader clients are answered within 5 s, after SIGTERM within half a second."""
     with setup.cluster() as (members, replicas):
         verdict = Chaos(members, replicas, setup.seed).run(30, ["leader", "stop"])
         for what, most in ((KILLED, KILL_SECONDS), (STOPPED, STOP_SECONDS)):
             found = sorted(event.silence for event in verdict.events if event.what == what)
             print(f"  {what}: silent for {', '.join(f'{seconds:.2f}' for seconds in found)} s")
-            # One of them may have met a host that was busy with something else.
+            # One of the tries may have met a busy host.
             require(found and found[(len(found) - 1) // 2] <= most, f"{what}: {found}")
             require(found[-1] <= most * slowness(), f"{what}, on a host {slowness():.1f} times too busy: {found}")
         require(not verdict.lost and not verdict.twice, verdict)
 
 
 class Cutter:
-    """A way to a member of etcd on which bytes get lost: connections stand still, and are cut at any byte."""
+    """A lossy way to a member of etcd: connections stall, and are cut at any byte."""
 
     def __init__(self, port: int, seed: int) -> None:
         self._to, self._draw = port, random.Random(seed)
@@ -212,7 +204,7 @@ def begin_cutting(cutters: list[Cutter]) -> None:
 
 
 def cut_connections(setup: Setup) -> None:
-    """Connections to etcd are cut in the middle of requests and answers: no answer is lost or twice."""
+    """Connections to etcd are cut in the middle of requests and answers: no answer is lost or repeated."""
     with setup.cluster() as (members, replicas):
         cutters = [Cutter(int(members.url(number).rpartition(":")[2]), setup.seed + number) for number in range(3)]
         replicas.urls = ",".join(cutter.url for cutter in cutters)
@@ -231,7 +223,7 @@ def cut_connections(setup: Setup) -> None:
 
 
 def dropped_packets(setup: Setup) -> None:
-    """The same chaos where the network drops packets, in a namespace of its own."""
+    """The same chaos in a network namespace that drops packets."""
     for what, command in LOSSES.items():
         script = f"ip link set lo up && {command}"
         if (
@@ -254,11 +246,11 @@ def dropped_packets(setup: Setup) -> None:
     print(f"  without {what}:", next((line for line in said.splitlines() if "seed" in line), "").strip())
 
 
-# Who may come, and go on.
+# Joining and continuing.
 
 
 def late_replica(setup: Setup) -> None:
-    """A replica that comes late is refused until it has a copied journal; then it goes on where all others are gone."""
+    """A late replica is refused until it has a copied journal; then it goes on alone when all others have left."""
     with setup.cluster("--etcd-retain", "0") as (_, replicas):
         replicas.start("a", "b")
         fill(replicas, 600)
@@ -283,7 +275,7 @@ def late_replica(setup: Setup) -> None:
 
 
 def other_firm(setup: Setup) -> None:
-    """A follower whose firm replies otherwise than the leader's ends with 5, and the others go on."""
+    """A follower whose firm replies differently from the leader's ends with 5, and the others go on."""
     with setup.cluster() as (_, replicas):
         replicas.start("a")
         firm, replicas.firm = replicas.firm, stand_in(
@@ -301,7 +293,7 @@ def other_firm(setup: Setup) -> None:
 
 
 def work(replicas: Replicas, first: int, count: int) -> list[bytes]:
-    """Has tasks come and go, and rounds; the replies."""
+    """Submit and end tasks, with rounds; return the replies."""
     lines = [b"t0 machine m%d 2" % first, b"t0 job j%d 10" % first]
     for number in range(first, first + count):
         lines += [b"t0 task j%d x%d" % (first, number), b"t0 round", b"t0 where x%d" % number]
@@ -310,7 +302,7 @@ def work(replicas: Replicas, first: int, count: int) -> list[bytes]:
 
 
 def goes_on_from_snapshot(replicas: Replicas, name: str) -> bool:
-    """Whether the firm of a replica began with a snapshot's state."""
+    """Return whether the firm of a replica began with a snapshot's state."""
     process = replicas.processes[name].pid
     children = Path(f"/proc/{process}/task/{process}/children").read_text().split()
     return any(f"--state\0{replicas.folder / name}/snapshots/".encode() in cmdline_of(child) for child in children)
@@ -327,8 +319,8 @@ def has_snapshots(replicas: Replicas, name: str, count: int = 1) -> bool:
 
 
 def snapshots(setup: Setup) -> None:
-    """A replica goes on from its own snapshot, a late one from that of another whose folder it was given; they reply
-    as firm alone does to the whole journal, and one with another firm is told still."""
+    """A replica continues from its own snapshot, and a late one from the copied folder of another. They reply as
+    firm alone does to the whole journal, and a replica with another firm is still reported."""
     require_state_program()
     with setup.cluster("--snapshot-lines", str(SNAPSHOT_LINES), "--etcd-retain", "0") as (_, replicas):
         replicas.start("a", "b")
@@ -355,7 +347,7 @@ def snapshots(setup: Setup) -> None:
         )
         replicas.spawn("a", "--firm-timeout", "600")
         replicas.firm = firm
-        until(lambda: "follows" in replicas.said("a"), "it follows")
+        until(lambda: "following" in replicas.said("a"), "it follows")
         fill(replicas, 1_200)
         require(replicas.processes["a"].wait(60) == 5, replicas.said("a"))
         require("are others than the leader's" in replicas.said("a"), replicas.said("a"))
@@ -367,7 +359,7 @@ def require_state_program() -> None:
 
 
 def sleeping_leader(setup: Setup) -> None:
-    """A leader that sleeps past its lease ends when it wakes up, and says that another leads; its appends change
+    """A leader that sleeps past its lease ends when it wakes up, and reports that another leads; its appends change
     nothing."""
     with setup.cluster() as (_, replicas):
         replicas.start(*NAMES)
@@ -389,10 +381,10 @@ def sleeping_leader(setup: Setup) -> None:
 
 
 def hung_disk(setup: Setup) -> None:
-    """Where the leader's disk hangs, it ends, and another replica leads, with what stood in etcd."""
+    """If the leader's disk hangs, the leader ends, and another replica leads with the lines in etcd."""
     with setup.cluster() as (_, replicas):
         plain, script, sign = replicas.firmd, replicas.folder / "patched.py", replicas.folder / "hangs"
-        is_late = "sys.modules['firm_service.stream'].LATE_SECONDS = 0.5"
+        is_late = "sys.modules['firm.server.stream'].LATE_SECONDS = 0.5"
         hangs = f"{is_late}\n            while os.path.exists({str(sign)!r}): time.sleep(0.05)"
         script.write_text(PATCHED.format(log=str(replicas.folder / "syncs"), action=hangs))
         replicas.firmd = [sys.executable, str(script)]
@@ -404,7 +396,7 @@ def hung_disk(setup: Setup) -> None:
             sign.touch()
             client.socket.settimeout(HUNG_SECONDS)
             with suppress(Gone):
-                while client.ask(b"t0 where nobody"):  # they are answered until the disk is to have them
+                while client.ask(b"t0 where nobody"):  # they are answered until one needs the disk
                     time.sleep(0.05)
         until(lambda: replicas.leader() in ("b", "c"), "another leads")
         require(replicas.processes["a"].wait(20) == 4, replicas.said("a"))
@@ -416,7 +408,7 @@ def hung_disk(setup: Setup) -> None:
 
 
 def unread_replies(setup: Setup) -> None:
-    """A leader that ends by a fault lets another one lead before its clients have read what they were told."""
+    """A leader that ends by a fault lets another one lead before its clients have read their replies."""
     with setup.cluster() as (_, replicas):
         replicas.start(*NAMES)
         first, count = replicas.leads(), 12_000
@@ -433,7 +425,7 @@ def unread_replies(setup: Setup) -> None:
 
 
 def state_at(path: Path, count: int) -> Path:
-    """A file with the state of a service of this number of tasks."""
+    """Write the state of a service of this number of tasks; return its file."""
     lines = [b"t0 machine y 2", b"t0 job y 10", *[b"t0 task y y%d" % number for number in range(count)], b"t0 round"]
     with Roster(ROSTER) as roster:
         path.write_bytes(fold(Opening(Path(roster)), [b"".join(line + b"\n" for line in lines)]))
@@ -441,8 +433,8 @@ def state_at(path: Path, count: int) -> Path:
 
 
 def restored(setup: Setup) -> None:
-    """Replicas begin with the state of another service, which all but the first take from etcd, late ones too. They
-    reply as firm alone does that goes on from it; another state, and a roster, is refused."""
+    """Replicas begin with the state of another service; all but the first take it from etcd, late ones too. They
+    reply as firm alone does that continues from it; another state, and a roster, is refused."""
     require_state_program()
     with setup.cluster() as (_, replicas):
         taken, other = [state_at(replicas.folder / name, count) for name, count in (("taken", 5), ("other", 6))]
@@ -451,7 +443,7 @@ def restored(setup: Setup) -> None:
         replicas.opening = []
         replicas.start("b")
         kept = replicas.folder / "b" / "restored"
-        require(kept.read_bytes() == taken.read_bytes() and kept.stat().st_mode & 0o777 == 0o600, "what b has kept")
+        require(kept.read_bytes() == taken.read_bytes() and kept.stat().st_mode & 0o777 == 0o600, "b's copy")
         refuses_others(replicas, other)
         replies = work(replicas, 0, 100)
         replicas.kill(replicas.leads())
@@ -475,7 +467,7 @@ def restored(setup: Setup) -> None:
 
 
 def refuses_others(replicas: Replicas, other: Path) -> None:
-    """Asks that what replicas began with is known from anything else."""
+    """Require that replicas tell their first state from any other."""
     state, roster = ["--restore", str(other)], ["--roster", str(replicas.folder / "roster.csv")]
     broken = other.with_name("broken")
     broken.write_bytes(other.read_bytes().replace(b" at ", b" on "))
@@ -494,11 +486,11 @@ def refuses_others(replicas: Replicas, other: Path) -> None:
     replicas.refuses("c", 3, "changed-roster", "is not the state that etcd has")
     shutil.rmtree(replicas.folder / "c")
     replicas.log("c").unlink()
-    del replicas.processes["c"]  # it is not revived with the others
+    del replicas.processes["c"]  # so that it is not revived with the others
 
 
 def lacks_lines(replicas: Replicas) -> bool:
-    """Whether etcd has a snapshot in the place of the first lines."""
+    """Return whether etcd has a snapshot in the place of the first lines."""
     keys, etcd = Keys("/firm"), Etcd(Access(tuple(map(Member.read, replicas.urls.split(",")))))
     try:
         first = etcd.range(keys.lines, after(keys.lines), limit=1).found
@@ -508,15 +500,15 @@ def lacks_lines(replicas: Replicas) -> bool:
 
 
 def require_alone(command: list[str], journal: bytes, replies: list[bytes]) -> None:
-    """Asks that replies are those of firm alone to the whole journal."""
+    """Require the replies of firm alone to the whole journal."""
     alone = run_words(command, journal).output.splitlines()
-    others = [reply for reply in alone if b" ok machines " not in reply]  # asked to know who leads
+    others = [reply for reply in alone if b" ok machines " not in reply]  # those requests found the leader
     wanted = [reply for reply in replies if b" ok machines " not in reply]
     require(others == wanted, [pair for pair in zip(others, wanted) if pair[0] != pair[1]][:3])
 
 
 def from_one_host(setup: Setup) -> None:
-    """A firmd that was alone goes on with replicas, which begin from copies of its state, whatever it began with."""
+    """A firmd that was alone continues as replicas, which begin from copies of its state, however it began."""
     go_on_from_one(setup, "--roster")
     require_state_program()
     go_on_from_one(setup, "--restore")
@@ -554,7 +546,7 @@ def go_on_from_one(setup: Setup, begins: str) -> None:
 
 
 def histories(setup: Setup) -> None:
-    """A state of another journal is refused, also where etcd was emptied or the roster is another one."""
+    """A state of another journal is refused, also after etcd was emptied or under another roster."""
     with setup.cluster() as (members, replicas):
         replicas.start("a", "b")
         fill(replicas, 5)
@@ -580,11 +572,11 @@ def histories(setup: Setup) -> None:
 
 
 def one_name(setup: Setup) -> None:
-    """Of two replicas of one name the later one ends, and says why."""
+    """Of two replicas with one name, the later one ends with the reason."""
     with setup.cluster() as (_, replicas):
         replicas.start("a")
         fill(replicas, 5)
-        time.sleep(6)  # until the first has told its name
+        time.sleep(6)  # until the first has registered its name
         second = Replicas(replicas.folder / "other", replicas.urls, setup.program)
         second.folder.mkdir()
         (second.folder / "roster.csv").write_bytes(ROSTER)
@@ -592,11 +584,11 @@ def one_name(setup: Setup) -> None:
         fill(replicas, 5)
 
 
-# What etcd asks and lacks.
+# etcd's credentials and failures.
 
 
 def certificates(setup: Setup) -> None:
-    """etcd is reached by TLS with a certificate, and with a password; without these firmd says what is refused."""
+    """etcd is reached by TLS with a certificate, and with a password; without these firmd reports the refusal."""
     require_programs("openssl", "etcdctl")
     with tempfile.TemporaryDirectory(prefix="firm-", dir=memory()) as name:
         ours, others = Authority(Path(name) / "ours"), Authority(Path(name) / "others")
@@ -614,7 +606,7 @@ def certificates(setup: Setup) -> None:
             replicas.options = ["--etcd-ca", str(others.path), *shown]
             replicas.refuses("a", 4, "certificate")
             replicas.options = ["--etcd-ca", str(ours.path), *shown]
-            replicas.refuses("a", 4, "etcd: etcdserver: ")  # which says so in one of two ways
+            replicas.refuses("a", 4, "etcd: etcdserver: ")  # it words this in one of two ways
             replicas.options += ["--etcd-password", str(password)]
             replicas.refuses("a", 4, "a client certificate without a CN", options=("--etcd-cert", str(client)))
             password.write_text("firm:wrong\n")
@@ -622,7 +614,7 @@ def certificates(setup: Setup) -> None:
             password.write_text("firm:secret\n")
             replicas.start("a", "b")
             fill(replicas, 100)
-            members.kill(1)  # which forgets who has logged in
+            members.kill(1)  # so that it forgets who has logged in
             members.start(1)
             replicas.kill(replicas.leads())
             fill(replicas, 100)
@@ -634,7 +626,7 @@ def certificates(setup: Setup) -> None:
 
 
 def add_user(members: Members, authority: Authority, client: Path) -> None:
-    """Has etcd ask for a user, `firm`, that may use the keys below /firm/ alone."""
+    """Make etcd require a user, `firm`, who may use only the keys below /firm/."""
     etcdctl = ["etcdctl", "--endpoints", members.urls, "--cacert", str(authority.path), "--cert", str(client)]
     etcdctl += ["--key", str(client), "--dial-timeout=20s", "--command-timeout=20s"]
     for words in (
@@ -652,21 +644,17 @@ def add_user(members: Members, authority: Authority, client: Path) -> None:
 
 
 def fill_with_others(members: Members, size: int) -> None:
-    """Has another service use this many bytes of etcd."""
+    """Store this many bytes of another service in etcd."""
     etcd = Etcd(Access((Member.read(members.url(0)),)))
-    for number in range(size // MOST_BYTES + 1):
-        etcd.transact([], [Put(b"/others/%d" % number, bytes(MOST_BYTES))])
+    for number in range(size // MAX_BYTES + 1):
+        etcd.transact([], [Put(b"/others/%d" % number, bytes(MAX_BYTES))])
     etcd.close()
 
 
 def half_full(setup: Setup) -> None:
-    """Once etcd uses half of its quota, firmd warns; firmctl and the metrics show how much it is, and who is behind."""
+    """Once etcd has used half of its quota, firmd warns; firmctl and the metrics show the use and the late replicas."""
     quota = 24 << 20
-    options, (port,) = list[str](), free_ports(1)
-    has_http = not missing_of(["aiohttp", "prometheus_client"])
-    if has_http:
-        options += ["--http", str(port)]
-    with setup.cluster(*options, members=("--quota-backend-bytes", str(quota))) as (members, replicas):
+    with setup.cluster(members=("--quota-backend-bytes", str(quota))) as (members, replicas):
         replicas.start("a")
         with Client(replicas.socket("a")) as client:
             for _ in range(10):
@@ -675,19 +663,18 @@ def half_full(setup: Setup) -> None:
                     client.reply()
         fill_with_others(members, quota // 2)
         until(lambda: "of its quota; at the end firmd can't append" in replicas.said("a"), "it warns")
-        words = [sys.executable, str(ROOT / "service" / "firmctl"), "--state", str(replicas.folder / "a"), "status"]
-        shown = subprocess.run(words, capture_output=True, text=True).stdout
+        with api_of(replicas.folder / "a", "t0") as server:
+            words = [sys.executable, str(ROOT / "service" / "firmctl"), "--server", server, "status"]
+            shown = subprocess.run(words, capture_output=True, text=True).stdout
         require(f" of {quota:,} bytes" in shown and "bytes behind: a " in shown, shown)
-        if not has_http:
-            return print_skipped("metrics of etcd", "aiohttp or prometheus_client is not there")
-        samples = samples_of(port)
+        samples = samples_of(replicas.folder / "a")
         require(samples["firm_etcd_quota_bytes", ""] == quota, samples)
         require(samples["firm_etcd_bytes", ""] > quota / 2, samples)
         require(samples["firm_replica_bytes", "replica=a"] > 1_000_000, samples)
 
 
 def wiped_member(setup: Setup) -> None:
-    """A member that has lost its disk is refused by etcd; another takes its place, and has all, with nothing lost."""
+    """etcd refuses a member that has lost its disk; another takes its place and gets all data, and nothing is lost."""
     require_programs("etcdctl")
     with setup.cluster() as (members, replicas):
         replicas.start("a", "b")
@@ -708,11 +695,11 @@ def wiped_member(setup: Setup) -> None:
 
 
 def replace_member(members: Members) -> None:
-    """Has an empty member take the place of the second one, as an operator does."""
+    """Replace the second member by an empty one, as an operator does."""
     environment = {**os.environ, "ETCDCTL_API": "3"}
 
     def etcdctl(*words: str) -> str:
-        """What it prints; nothing where it fails, as while etcd is not sure that its other members are well."""
+        """Return etcdctl's output; empty if it fails, as it does while etcd is not sure of its other members."""
         command = ["etcdctl", "--endpoints", members.url(0), "--command-timeout=30s", *words]
         done = subprocess.run(command, capture_output=True, text=True, env=environment)
         return done.stdout if done.returncode == 0 else ""
@@ -725,7 +712,7 @@ def replace_member(members: Members) -> None:
 
 
 def unreachable(setup: Setup) -> None:
-    """A firmd that reaches no member ends at its start and says so; one that follows waits for etcd."""
+    """A firmd that reaches no member ends at its start with the reason; a follower waits for etcd."""
     with setup.cluster() as (members, replicas):
         replicas.start("a", "b")
         for number in range(3):
@@ -751,9 +738,11 @@ CHECKS += [hung_disk, unread_replies, certificates, half_full, wiped_member, unr
 def main() -> int:
     parser = argparse.ArgumentParser(description=(__doc__ or "").splitlines()[0])
     add_program(parser)
-    parser.add_argument("--quick", action="store_true", help="the rules alone, without engines")
+    parser.add_argument("--quick", action="store_true", help="check only the rules, without engines")
     parser.add_argument("--only", default="", metavar="WORDS", help="only checks whose names have these words")
-    parser.add_argument("--seconds", type=float, default=60, metavar="N", help="of chaos (default: %(default)g)")
+    parser.add_argument(
+        "--seconds", type=float, default=60, metavar="N", help="seconds of chaos (default: %(default)g)"
+    )
     parser.add_argument("--seed", type=int, default=random.randrange(10**6), metavar="N")
     options = parser.parse_args()
     guard()
@@ -763,7 +752,8 @@ def main() -> int:
     if not options.quick:
         alone[name_of(silence)] = partial(silence, setup)
         beside = {name_of(check): partial(check, setup) for check in CHECKS}
-        beside |= {name_of(check): partial(check, setup.program) for check in replica_stores.CHECKS}
+        others = [*replica_stores.CHECKS, *replica_apis.CHECKS]
+        beside |= {name_of(check): partial(check, setup.program) for check in others}
     alone = {name: check for name, check in alone.items() if options.only in name}
     chosen = {name: check for name, check in beside.items() if options.only in name}
     return run_suites(Suite(alone), Suite(chosen, CHECKS_AT_A_TIME))

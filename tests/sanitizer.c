@@ -1,4 +1,4 @@
-// What LLVM's newer sanitizer calls, for a run time that does not have it: the three of the C library, which it watches.
+// Functions that LLVM's newer sanitizer calls, for a run time without them: the three of the C library that it watches.
 #include <string.h>
 
 void *__tsan_memset(void *to, int byte, size_t count) { return memset(to, byte, count); }

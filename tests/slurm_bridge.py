@@ -1,11 +1,11 @@
-"""Asks firm-slurm over Debian's Slurm on this host whether Slurm does what firm decides, whatever is killed meanwhile.
+"""Check firm-slurm over Debian's Slurm on this host: Slurm does what firm decides, whatever is killed meanwhile.
 
 usage: tools/run tests/slurm_bridge.py [--program FILE] [--only WORDS] [--chaos RUNS] [--seed N]
 It needs root, the built program, and Debian's packages slurmctld, slurmd, slurm-client, slurm-wlm-basic-plugins and
-munge; where they are missing its checks are skipped, and the one of accounts also without slurmdbd, mariadb-server and
-slurm-wlm-mysql-plugin. Each check has a line; the last line is 'N passed, M failed', and the exit status is 1 where one
-failed. --chaos adds RUNS runs of random events, with seeds from N on. KEEP_LOGS names a folder for the logs of
-all daemons.
+munge; without them its checks are skipped. The check of accounts also needs slurmdbd, mariadb-server and
+slurm-wlm-mysql-plugin. Each check prints a line; the last line is 'N passed, M failed', and the exit status is 1 if one
+failed. --chaos adds RUNS runs of random events, with seeds from N on. KEEP_LOGS names a folder for the logs of all
+daemons.
 """
 
 from __future__ import annotations
@@ -13,58 +13,66 @@ from __future__ import annotations
 import argparse
 import random
 import signal
+import socket
 import subprocess
 import tempfile
 import time
 import urllib.request
 from collections import Counter
 from collections.abc import Callable
-from contextlib import suppress
+from contextlib import ExitStack, suppress
 from functools import partial
 from pathlib import Path
 
 from harness import program, sessions
-from harness.checks import Check, Missed, Suite, require, run_script, run_suites
+from harness.checks import Check, Missed, Skipped, Suite, require, run_script, run_suites
 from harness.deployed import SERVICE
 from harness.guard import guard
 from slurmdbd_kit import OTHERS, Slurmdbd
 from slurm_kit import (
     BRIDGE,
     LIMITS,
+    USER,
     Cluster,
     Events,
     Judge,
     Site,
+    count_of_prologs,
+    count_running,
     free_ports,
+    groups_of,
+    is_in_firm,
     require_packages,
+    running,
     set_node,
     site,
     slowness,
+    state_of,
+    tell,
 )
 from slurm_kit import wait
+from slurm_users import bounded, changes, earlier, refusals
 
 EQUAL_SECONDS, START_SECONDS = 2.0, 5.0  # in which squeue has what firm decided, and 160 jobs run, on an idle host
 RETRY_SECONDS = 2.0  # at most, until firmd is found again
+FIRST_SECONDS = 2.0  # for jobs of a kind to preempt others and start, on an idle host; twice as many follow
 PLACED_SECONDS = 30.0  # until a job is put off whose slot is not free
 AT_A_TIME = 4  # checks
-USER = "nobody"
 PAGE = program.ROOT / "docs" / "CLUSTER.md"
 MOVING = "4096,65536,1099511627776,10,5,0"  # a third task on a machine costs more than a move
-LIGHT, ROUNDS = 32, 6  # jobs that are preempted again and again, and how often
-LAUNCHED, PAUSE_SECONDS = 16, 160.0  # jobs that are requeued as they start, and until all run again
-STEADY_SECONDS = 4.0  # for which they ran before their owner requeues some, so that no launch is disturbed
-REQUEUE_SECONDS = 25.0  # in which these run again on an idle host; Slurm by itself takes 121
-PREPARED_SECONDS = 12  # that PrologSlurmctld takes: longer than a preemption
+LIGHT, ROUNDS = 32, 6  # jobs that are preempted repeatedly, and the number of times
+LAUNCHED, PAUSE_SECONDS = 16, 160.0  # jobs that are requeued as they start, and the time until all run again
+STEADY_SECONDS = 4.0  # of running before their owner requeues some, so that no launch is disturbed
+REQUEUE_SECONDS = 25.0  # within which these run again on an idle host; Slurm by itself takes 121
+PREPARED_SECONDS = 12  # of PrologSlurmctld: longer than a preemption
+CROWD = 80  # jobs that need a feature of one node
 DOWN_SECONDS = 120.0  # for Slurm to give a node up
+DESCRIPTORS = 64  # that firm-slurm may have open
 PAGE_SECONDS = 900.0  # from the first command of the page to the end of a job, once the packages are there
 
 
-def tell(text: str) -> None:
-    print(f"         {text}", flush=True)
-
-
 def settle(place: Site, what: str, most: float = EQUAL_SECONDS) -> None:
-    """Asks that squeue soon equals what firm says, in two seconds on an idle host."""
+    """Require that squeue soon equals firm's decisions, in two seconds on an idle host."""
     seconds = place.settle(what)
     tell(f"{what}: squeue equals where after {seconds:.1f} s")
     require(seconds <= most * slowness() + 1, f"{what}: equal only after {seconds:.1f} s")
@@ -90,7 +98,7 @@ def decided(firm: str) -> None:
         wait(lambda: drained(place, "node2"), "the drain of node2")
         place.submit(6, 6, "heavy")
         wait(lambda: place.count_said("preempt"), "a preemption")
-        settle(place, "heavy jobs preempt light ones")
+        settle(place, "heavy jobs preempt light ones", EQUAL_SECONDS + 2 * FIRST_SECONDS)  # one, then three, then two
         set_node(place, "node2", "RESUME")
         wait(lambda: "node2" in places_of(place), "node2 again")
         settle(place, "node2 is there again")
@@ -118,7 +126,8 @@ def decided(firm: str) -> None:
 
 
 def judge(place: Site, count: int, slots: int) -> dict[str, int]:
-    """Asks of the logs that all jobs ended once, none ran twice at a time, and all changes were carried out; which."""
+    """Require from the logs that all jobs ended once, none ran twice at a time, and all changes took effect; return
+    the counts."""
     found = Judge(place)
     found.require_single()
     cancelled = found.require_ended_once(count)
@@ -128,10 +137,6 @@ def judge(place: Site, count: int, slots: int) -> dict[str, int]:
     carried_out = found.require_carried_out()
     tell(f"{told}; carried out: {carried_out}")
     return carried_out
-
-
-def count_running(place: Site) -> int:
-    return len(running(place))
 
 
 def large(firm: str) -> None:
@@ -150,19 +155,12 @@ def large(firm: str) -> None:
         settle(place, "400 jobs on 40 nodes")
 
 
-# What users may do
-
-
-def state_of(place: Site, job: str) -> str:
-    return place.cluster.squeue().get(job, ("ended", ""))[0]
-
-
-def is_in_firm(place: Site, *jobs: str) -> bool:
-    return set(jobs) <= place.places().keys()
+# Users' rights
 
 
 def holds(firm: str) -> None:
-    """A hold is its user's own until he releases the job, or an administrator's; nobody releases what firm holds."""
+    """A user's hold is the user's own until the user releases the job, or an administrator's; nobody releases firm's
+    holds."""
     with site(firm, 1, 2) as place:
         run = partial(place.cluster.run, user=USER)
         first = place.submit(1, 60, "light", "--hold", user=USER)
@@ -184,12 +182,54 @@ def holds(firm: str) -> None:
         wait(lambda: not is_in_firm(place, waiting), "a hold of an administrator")
         place.cluster.run("scontrol", "uhold", waiting)
         wait(lambda: is_in_firm(place, waiting), "it is firm's again")
-        run("scancel", array, first)
+        require_kept_hold(place)
+        run("scancel", array, first, waiting)
+        require_kept_runs(place)
         wait(lambda: place.is_empty(), "the end of all jobs")
 
 
+def require_kept_hold(place: Site) -> None:
+    """Asks that a user ends no hold of an administrator, as by a dependency that fails, for which Slurm has it too."""
+    run = partial(place.cluster.run, user=USER)
+    held = place.submit(1, 60, "light", "--begin=now+1hour", user=USER)
+    place.cluster.run("scontrol", "hold", held)
+    fails = place.folder / "fails"
+    fails.write_text("#!/bin/sh\nexit 1\n")
+    needed = run("sbatch", "--parsable", "-o", "/dev/null", "-A", "heavy", str(fails)).strip()
+    ask = partial(place.cluster.run, "squeue", "-h", "-j", held, "-O")
+    run("scontrol", "update", f"JobId={held}", f"Dependency=afterok:{needed}", "StartTime=now")
+    wait(lambda: "failed" in ask("Dependency:80") and "Admin" in ask("Reason"), "a dependency that has failed")
+    run("scontrol", "update", f"JobId={held}", "Dependency=", "Comment=mine")
+    time.sleep(START_SECONDS)
+    require(ask("Reason").strip() == "JobHeldAdmin" and not is_in_firm(place, held), f"a hold is lost: {ask('Reason')}")
+    place.cluster.run("scontrol", "uhold", held)
+    wait(lambda: is_in_firm(place, held), "it is firm's again")
+    run("scancel", held)
+
+
+def require_kept_runs(place: Site) -> None:
+    """Asks the same where root holds an array that runs in part, and a job with a long comment."""
+    run, ask = partial(place.cluster.run, user=USER), partial(place.cluster.run, "squeue", "-h", "--array-unique", "-O")
+    long = place.submit(1, 60, "light", "--begin=now+1hour", f"--comment={'x' * 1_020}", user=USER)
+    place.cluster.run("scontrol", "hold", long)
+    require("firm:admin" in ask("Comment:1100", "-j", long), "a hold of a job with a long comment is not marked")
+    array = place.submit(3, 3_600, "light", user=USER)
+    wait(lambda: count_running(place) == 2, "two elements that run")
+    place.cluster.run("scontrol", "hold", array)
+    wait(lambda: ask("Comment:100", "-j", array).split() == ["firm:admin"] * 3, "marks of root's holds")
+    time.sleep(STEADY_SECONDS)
+    run("scontrol", "requeuehold", f"{array}_1")
+    run("scontrol", "requeue", f"{array}_2")
+    wait(lambda: not count_running(place), "the end of both runs")
+    time.sleep(START_SECONDS)
+    require(ask("State,PriorityLong", "-j", array).split() == ["PENDING", "0"] * 3, f"lost: {ask('Reason:40,Comment')}")
+    place.cluster.run("scontrol", "uhold", array)
+    wait(lambda: count_running(place) == 2, "two of the elements that root has given back")
+    run("scancel", array, long)
+
+
 def orders(firm: str) -> None:
-    """Dependencies, a time to begin, elements of an array at a time, preferred nodes and weights are kept."""
+    """Dependencies, a time to begin, an array's limit of running elements, preferred nodes and weights are obeyed."""
     with site(firm, 2, 2) as place:
         place.start_bridge()
         near = place.submit(1, 8, "light", "--comment=near=node2")
@@ -210,121 +250,11 @@ def orders(firm: str) -> None:
         judge(place, 9, 2)
 
 
-def refusals(firm: str) -> None:
-    """What is more than one slot, or chooses its node, is refused with Slurm's own words."""
-    with site(firm, 2, 2, more="SelectTypeParameters=CR_CPU_Memory\nDefMemPerCPU=500") as place:
-        script = place.folder / "job"
-        script.write_text("#!/bin/sh\n")
-        reserve = ["ReservationName=r", "StartTime=now", "Duration=60", f"Users={USER}", "Nodes=node2"]
-        place.cluster.run("scontrol", "create", "reservation", *reserve)
-        for words, said in (
-            (["-N2"], "one slot"),
-            (["-N1-2"], "one slot"),
-            (["-n2"], "one slot"),
-            (["-c2"], "one slot"),
-            (["--exclusive"], "one slot"),
-            (["--exclusive=user"], "one slot"),
-            (["--mem=501"], "MB of memory 500 at most"),
-            (["--mem=0"], "MB of memory 500 at most"),
-            (["--mem-per-cpu=501"], "MB of memory 500 at most"),
-            (["-n1", ":", "-n1"], "one component"),
-            (["-w", "node1"], "firm chooses the node"),
-            (["-x", "node1"], "firm chooses the node"),
-            (["--reservation=r"], "reserved nodes"),
-            (["--comment=a\nb"], "control characters"),
-            (["-A", "a|b"], "control characters"),
-            (["--licenses=a|b"], "control characters"),
-        ):
-            done = place.cluster.try_run("sbatch", *words, str(script), user=USER)
-            require(done.returncode != 0 and said in done.stderr, f"{words}: {done}")
-        done = place.cluster.try_run("srun", "true", user=USER)
-        require(done.returncode != 0 and "use sbatch" in done.stderr, f"srun: {done}")
-        require(not place.cluster.squeue(), "a refused job is there")
-
-
-def bounded(firm: str) -> None:
-    """Jobs of several CPUs have one slot too: whole cores of one node, and no CPUs for more memory."""
-    more = "SelectTypeParameters=CR_Core\nMaxMemPerCPU=500\nDefMemPerCPU=400"
-    hardware = "CoresPerSocket=4 ThreadsPerCore=2"
-    with site(firm, 2, 8, more=more, hardware=hardware, partition_options="cpus = 2") as place:
-        for words in (
-            ["-n2", "--ntasks-per-node=1"],
-            ["-c2", "--hint=nomultithread"],
-            ["-n2", "--hint=memory_bound"],
-            ["-n2", "--ntasks-per-core=1"],
-            ["--mem=1001"],
-            ["--mem-per-cpu=501"],
-        ):
-            done = place.cluster.try_run("sbatch", *words, "--wrap=true", user=USER)
-            require(done.returncode != 0 and "one slot" in done.stderr, f"{words}: {done}")
-        wholes: list[list[str]] = [
-            [],
-            ["-n2"],
-            ["-c2"],
-            ["--hint=nomultithread"],
-            ["--mem=1000"],
-            ["-n2", "--ntasks-per-node=2"],
-        ]
-        for words in wholes:
-            place.submit(1, 60, "light", *words, user=USER)
-        place.start_bridge()
-        wait(lambda: count_running(place) == len(wholes), "jobs of one slot")
-        rows = place.cluster.run("squeue", "-h", "-O", "NumNodes:9,NumCPUs:9").splitlines()
-        require([row.split() for row in rows] == [["1", "2"]] * len(wholes), f"nodes and CPUs: {rows}")
-
-
-# Changes of a job that its user may not make: of its size, its node, when it runs, and whether firm may preempt it.
-CHANGES = ["NumCPUs=4", "NumNodes=2", "NumTasks=3", "CPUsPerTask=3", "MinCPUsNode=2", "Requeue=0"]
-CHANGES += ["MinMemoryNode=501", "MinMemoryNode=0", "MinMemoryCPU=501", "ReqThreads=1", "Nice=1"]
-CHANGES += [
-    "ReqNodeList=node1",
-    "ExcNodeList=node1",
-    "ReservationName=r",
-    "Comment=a|b",
-    "Comment=a\nb",
-    "Account=a|b",
-    "QOS=a\nb",
-]
-
-
-def changes(firm: str) -> None:
-    """Whatever its user changes of a job, it has one slot, firm may preempt it, and his own hold stays."""
-    with site(firm, 1, 2, more="SelectTypeParameters=CR_CPU_Memory\nDefMemPerCPU=500") as place:
-        held = place.submit(1, 60, "light", "--hold", user=USER)
-        array = place.submit(4, 60, "light", "--array=1-4%1", user=USER)
-        update = partial(place.cluster.try_run, "scontrol", "update", user=USER)
-        for job in (held, array):
-            for change in CHANGES:
-                done = update(f"JobId={job}", change)
-                require(done.returncode != 0, f"a user changes {change} of {job}: {done}")
-        require(update(f"JobId={array}", "Priority=77").returncode != 0, "a user releases an array")
-        for job in (held, array):
-            for words in ("firm:most=9", "mine", "near=node1 \u2028 \x85"):
-                require(update(f"JobId={job}", f"Comment={words}").returncode == 0, f"a comment: {words!r}")
-        place.start_bridge()
-        wait(lambda: count_running(place) == 1, "an element of the array")
-        place.submit(2, 6, "heavy")  # longer than the first seconds of a job, in which none is requeued
-        wait(lambda: place.count_said("preempt"), "a preemption of a job that its user has changed")
-        wait(lambda: place.count_said("requeuehold"), "it is carried out")
-        require(set(place.places()) & {held} == set(), "a held job whose comment has changed is firm's")
-        require(sum(name.startswith(array) for name in place.places()) == 1, f"elements at a time: {place.places()}")
-        for verb, is_there in (("hold", False), ("release", True)):
-            place.cluster.run("scontrol", verb, array, user=USER)
-            wait(lambda: is_there == any(name.startswith(array) for name in place.places()), f"{verb} of an array")
-        for most, count in ((2, 2), (0, 4)):
-            require(update(f"JobId={array}", f"ArrayTaskThrottle={most}").returncode == 0, "elements at a time")
-            wait(lambda: sum(name.startswith(array) for name in place.places()) == count, f"{count} elements")
-        place.cluster.run("scontrol", "release", held, user=USER)
-        wait(lambda: is_in_firm(place, held), "it is released")
-        place.cluster.run("scancel", array, held, user=USER)
-        wait(place.is_empty, "the end of all jobs")
-
-
-# What else there is
+# Other behaviour
 
 
 def moved(firm: str) -> None:
-    """A job that firm moves is requeued, and runs to its end where firm has it then; a killed bridge is no matter."""
+    """A job that firm moves is requeued, and runs to its end on its new node; a kill of the bridge does no harm."""
     with site(firm, 3, 4, limits=MOVING) as place:
         place.start_bridge()
         wait(lambda: len(place.rows()["machines"]) == 3, "three machines")
@@ -336,7 +266,7 @@ def moved(firm: str) -> None:
         for node in ("node2", "node3"):
             set_node(place, node, "RESUME")
         wait(lambda: place.count_said(" move "), "a move")
-        place.kill_bridge()  # whatever it has begun, the next one carries it out
+        place.kill_bridge()  # the next bridge carries out its unfinished orders
         place.start_bridge()
         wait(lambda: places_of(place) == {"node1", "node2", "node3"}, "a job on each node")
         settle(place, "firm moved two jobs", EQUAL_SECONDS + RETRY_SECONDS)
@@ -393,24 +323,29 @@ def launched(firm: str) -> None:
 
 
 def prepared(firm: str) -> None:
-    """A job is not requeued while PrologSlurmctld runs: Slurm would hold it as an administrator does."""
+    """A job is not requeued while a prolog runs: Slurm would hold it as an administrator does."""
     with tempfile.TemporaryDirectory(prefix="firm-slurm-") as name:
         prolog = Path(name) / "prolog"
         prolog.write_text(f"#!/bin/sh\nsleep {PREPARED_SECONDS}\n")
         for path in (prolog.parent, prolog):
             path.chmod(0o755)
-        with site(firm, 1, 2, more=f"PrologSlurmctld={prolog}") as place:
-            place.start_bridge()
-            light = place.submit(2, 5, "light", user=USER)
-            wait(lambda: "CONFIGURING" in state_of(place, f"{light}-2"), "two jobs whose prolog runs")
-            place.submit(2, 1, "heavy")
-            wait(lambda: place.count_said("preempt"), "a preemption")
-            wait(place.is_empty, "the end of all jobs")
-            judge(place, 4, 2)
+        for more in (f"PrologSlurmctld={prolog}", f"Prolog={prolog}\nPrologFlags=Alloc"):
+            with site(firm, 1, 4, more=more) as place:
+                place.start_bridge()
+                look = partial(place.cluster.run, "squeue", "-h", "-A", "light", "-O", "State:20,Reason")
+                place.submit(4, 5, "light", user=USER)
+                wait(lambda: count_of_prologs(look()) == 4, "four jobs whose prolog runs")
+                place.submit(4, 1, "heavy")
+                wait(lambda: place.count_said("preempt"), "a preemption")
+                while count_of_prologs(look()):
+                    require(not place.count_said("requeuehold"), "a job is requeued while its prolog runs")
+                    time.sleep(0.3)
+                wait(place.is_empty, "the end of all jobs")
+                judge(place, 8, 4)
 
 
 def all_run(place: Site, array: str, count: int = LIGHT) -> bool:
-    """Whether all elements of an array run; asks that none is lost."""
+    """Return whether all elements of an array run; require that none is lost."""
     try:
         jobs = place.cluster.squeue()
     except Missed:  # slurmctld may be busy
@@ -420,12 +355,9 @@ def all_run(place: Site, array: str, count: int = LIGHT) -> bool:
     return states.count("RUNNING") == count
 
 
-def running(place: Site) -> list[str]:
-    return [name for name, (state, _) in place.cluster.squeue().items() if state == "RUNNING"]
-
-
 def put_off(firm: str) -> None:
-    """A job that Slurm doesn't start gives its slot back, and is put off; also where another partition's has it."""
+    """A job that Slurm doesn't start releases its slot, and is put off; also if another partition's job has the
+    slot."""
     others = "PartitionName=firm Nodes=node1 Default=YES State=UP\nPartitionName=other Nodes=node1 State=UP"
     with site(firm, 1, 2, partitions=others, limits=LIMITS.removesuffix("5") + "0") as place:
         place.start_bridge()
@@ -468,10 +400,25 @@ def blocked(firm: str) -> None:
         run("scancel", first)
         wait(place.is_empty, "the end of the jobs with a feature", 150)
         require(Judge(place).works()[f"{big}_1"] == 1, "a job with a feature has not run")
+        crowded(place)
+
+
+def crowded(place: Site) -> None:
+    """Jobs that need the same busy node, each by itself, leave the other nodes to others."""
+    before = place.count_said("StartTime=now+")
+    for _ in range(CROWD):
+        place.submit(1, 300, "light", "-C", "big", user=USER)
+    other = place.submit(44, 1, "light", user=USER)
+    seconds = wait(lambda: not count_of(place, other), "jobs without a feature")
+    tries = place.count_said("StartTime=now+") - before
+    tell(f"44 jobs of 1 s behind {CROWD} for a node of 4 slots: {seconds:.1f} s, {tries} times put off")
+    require(tries < CROWD // 2, f"{tries} times a job was put off that needs a busy node")
+    place.cluster.run("scancel", "-u", USER)
+    wait(place.is_empty, "the end of all jobs")
 
 
 def booked(place: Site) -> None:
-    """A node with a reservation ahead takes only jobs that end before; others don't wait for it."""
+    """A node with a future reservation takes only jobs that end before; others don't wait for it."""
     reserve = ["ReservationName=later", "StartTime=now+1hour", "Duration=60", "Users=root", "Nodes=node3"]
     place.cluster.run("scontrol", "create", "reservation", *reserve)
     place.submit(24, 1, "light", user=USER)
@@ -507,7 +454,7 @@ def count_of(place: Site, array: str) -> int:
 
 
 def taken_over(firm: str) -> None:
-    """Jobs that run before the bridge's first start go on, as tasks of the nodes on which they are."""
+    """Jobs that run before the bridge's first start go on, as tasks of their nodes."""
     with site(firm, 3, 2) as place:
         job = place.submit(3, 25, "light")
         for index, node in ((1, "node1"), (2, "node2"), (3, "node2")):
@@ -523,8 +470,29 @@ def taken_over(firm: str) -> None:
         judge(place, 7, 2)
 
 
+def resized(firm: str) -> None:
+    """A node has no more slots than a later table says; its running jobs go on."""
+    with site(firm, 1, 4) as place:
+        place.start_bridge()
+        first = place.submit(3, 3600, "light")
+        wait(lambda: count_running(place) == 3, "three jobs that run")
+        place.kill_bridge(number=signal.SIGTERM)
+        place.partition_options = "slots = 2"
+        place.write_table()
+        place.start_bridge()
+        second = place.submit(3, 3600, "light")
+        wait(lambda: not place.rows()["machines"], "the machine of four slots leaves")
+        require(count_running(place) == 3, f"of three jobs that ran: {running(place)}")
+        place.cluster.run("scancel", first)
+        wait(lambda: count_running(place) == 2, "two of the other jobs run")
+        require([row["slots"] for row in place.rows()["machines"]] == [2], f"slots: {place.rows()['machines']}")
+        require(not place.count_said("requeuehold"), "a job was requeued")
+        place.cluster.run("scancel", second)
+        wait(place.is_empty, "the end of all jobs")
+
+
 def rivals(firm: str) -> None:
-    """A second bridge waits for the first one's end; one by another table does no harm, and says that there is one."""
+    """A second bridge waits for the first one's end; one by another table does no harm, and reports the first."""
     with site(firm, 2, 4) as place:
         place.start_bridge("first")
         wait(lambda: place.count_said("machine node", "first") == 2, "two machines")
@@ -561,7 +529,7 @@ def several(firm: str) -> None:
 
 
 def accounts(firm: str) -> None:
-    """Over slurmdbd a job weighs what the table says of its QOS, or its account; its user has his own alone."""
+    """Over slurmdbd a job has the weight of its QOS, or its account, in the table; a user has only the user's own."""
     with site(firm, 1, 2, accounts=Slurmdbd(), partition_options='weigh = "qos"') as place:
         script = place.folder / "job"
         script.write_text("#!/bin/sh\n")
@@ -585,7 +553,7 @@ def accounts(firm: str) -> None:
 
 
 def preempts(place: Site, weights: dict[str, int], account: str, *words: str) -> str:
-    """Has a heavy job preempt one of two light ones; the number of a further light one, that waits."""
+    """Preempt one of two light jobs by a heavy one; return the number of a further light one, which waits."""
     before = place.count_said("preempt")
     place.start_bridge()
     wait(lambda: place.rows()["machines"], "a machine")
@@ -600,12 +568,8 @@ def preempts(place: Site, weights: dict[str, int], account: str, *words: str) ->
     return waiting
 
 
-def groups_of(place: Site) -> dict[str, str]:
-    return {row["task"]: row["job"] for row in place.rows()["tasks"]}
-
-
 def shown(firm: str) -> None:
-    """`status` tells what differs and since when, `check` what to write, /metrics the same as numbers."""
+    """`status` shows differences with their times, `check` the lines to write, and /metrics the same as numbers."""
     with site(firm, 1, 2) as place:
         looked = place.tool("check")
         require("nothing is to be changed" in looked and "a user may name any account" in looked, f"check: {looked}")
@@ -625,10 +589,12 @@ def shown(firm: str) -> None:
         text = conf.read_text().replace("=lua", "=")
         for good, bad in (("default_queue_depth=10000,", ""), ("batch_sched_delay=0,", ""), ("50000", "2000000")):
             text = text.replace(good, bad)
-        (place.folder / "slurm.conf").write_text(text.replace("NodeName=node[1-1]", "NodeName=Node_[1-1]"))
+        text = text.replace("NodeName=node[1-1]", "NodeName=Node_[1-1]")
+        (place.folder / "slurm.conf").write_text(f"{text}PartitionName=spare Nodes=none Alternate=firm\n")
         done = place.try_tool("check", "--conf", str(place.folder / "slurm.conf"))
         names = ["default_queue_depth=10000", "batch_sched_delay=0", "sched_min_interval=50000"]
-        for advice in [*names, "no job has a QOS", "JobSubmitPlugins=lua", "firm-slurm hook", "node Node_1"]:
+        names += ["no job has a QOS", "JobSubmitPlugins=lua", "firm-slurm hook", "node Node_1", "without Alternate"]
+        for advice in names:
             require(done.returncode == 1 and advice in done.stdout, f"{advice}: {done}")
 
 
@@ -644,6 +610,29 @@ def metrics(place: Site) -> None:
             require('firm_slurm_lines_total{partition="firm",verb="done"} 1.0' in scraped(port), scraped(port))
         finally:
             bridge.terminate()
+
+
+def flooded(firm: str) -> None:
+    """Idle connections to /metrics leave firm-slurm the descriptors that it needs for Slurm's commands."""
+    python, port = "/usr/bin/python3", free_ports(1)
+    if subprocess.run([python, "-c", "import prometheus_client"], capture_output=True).returncode:
+        raise Skipped("there is no python3-prometheus-client")
+    with site(firm, 1, 2) as place, ExitStack() as stack:
+        command = ["prlimit", f"--nofile={DESCRIPTORS}", python, *BRIDGE[1:], "run", "--table", str(place.table)]
+        bridge = subprocess.Popen(
+            [*command, "--http", str(port)], env=place.cluster.environment, stderr=subprocess.DEVNULL
+        )
+        stack.callback(bridge.wait)
+        stack.callback(bridge.terminate)
+        wait(lambda: 'firm_slurm_nodes{partition="firm",use="open"} 1.0' in scraped(port), "the metrics")
+        with suppress(TimeoutError):  # it can take no more
+            for _ in range(DESCRIPTORS):
+                stack.enter_context(socket.create_connection(("127.0.0.1", port), START_SECONDS))
+        for _ in range(3):
+            place.submit(2, 0.1, "light", user=USER)
+            wait(place.is_empty, "the end of jobs", 3 * START_SECONDS)
+        stack.pop_all().close()
+        require(bridge.returncode == 0, f"firm-slurm ended with {bridge.returncode}")
 
 
 def scraped(port: int) -> str:
@@ -713,7 +702,7 @@ def page(firm: str) -> None:
 
 
 def follow(line: str, folder: Path, cluster: Cluster, served: list[subprocess.Popen[bytes]], firm: str) -> None:
-    """Does what a line of the page says."""
+    """Do what a line of the page says."""
     words, environment = ["/bin/sh", "-euc", line], cluster.environment
     if line.startswith("apt-get"):
         return
@@ -743,12 +732,15 @@ CHECKS: dict[str, Callable[[str], None]] = {
     "orders": orders,
     "taken over": taken_over,
     "holds": holds,
+    "resized": resized,
     "rivals": rivals,
     "several": several,
     "shown": shown,
+    "flooded": flooded,
     "refusals": refusals,
     "bounded": bounded,
     "changes": changes,
+    "earlier": earlier,
     "page": page,
 }
 

@@ -1,4 +1,4 @@
-"""A Slurm cluster of this host, firmd and firm-slurm over it, and a judge that asks the logs of slurmd alone."""
+"""A Slurm cluster on this host, firmd and firm-slurm over it, and a judge that reads only slurmd's logs."""
 
 from __future__ import annotations
 
@@ -31,9 +31,10 @@ PLUGIN = "slurm-wlm/job_submit_lua.so"
 BRIDGE = [sys.executable, str(SERVICE / "firm-slurm")]
 HEADING = "tenant,nodes,arcs,life,spread,churn,remote\n"
 LIMITS = "4096,65536,1099511627776,0,100000,5"  # as `firmctl make-roster` writes them by its recipe `pack`
-LIMIT_SECONDS = 90.0  # for anything that is waited for
+USER = "nobody"
+LIMIT_SECONDS = 90.0  # for any wait
 LOOK_SECONDS, MOST_SLOWNESS = 0.1, 8.0
-SLACK_SECONDS = 3.0  # by which slurmd may write the end of a job later than its end
+SLACK_SECONDS = 3.0  # slurmd may write the end of a job this much later than its end
 FIRST_PORT, LAST_PORT = 20_000, 32_000
 CONF = """\
 ClusterName=loopback
@@ -87,12 +88,12 @@ sleep {seconds} & wait $! && say end
 
 
 def slowness() -> float:
-    """How much longer things take on this host now than where a processor is free."""
+    """Return this host's present slowness, as a factor over a host with a free processor."""
     return min(max(1.0, os.getloadavg()[0] / (os.cpu_count() or 1)), MOST_SLOWNESS)
 
 
 def wait(holds: Callable[[], object], what: str, seconds: float = LIMIT_SECONDS) -> float:
-    """Waits until something holds; the seconds that this took."""
+    """Wait until a condition holds; return the seconds."""
     began = time.monotonic()
     while not holds():
         require(time.monotonic() - began < seconds * slowness(), f"{what}: not within {seconds:g} s")
@@ -101,7 +102,7 @@ def wait(holds: Callable[[], object], what: str, seconds: float = LIMIT_SECONDS)
 
 
 def require_packages() -> None:
-    """Skips the check where Debian's packages are not there."""
+    """Skip the check without Debian's packages."""
     missing = [name for name in PROGRAMS if shutil.which(name, path=f"{os.environ['PATH']}:/usr/sbin") is None]
     if missing:
         raise Skipped(f"there is no {', '.join(missing)}: apt-get install slurmctld slurmd slurm-client munge")
@@ -112,7 +113,7 @@ def require_packages() -> None:
 
 
 def free_ports(count: int) -> int:
-    """The first of so many ports that nothing on this host has."""
+    """Return the first of this number of consecutive ports that are free on this host."""
     for _ in range(100):
         first = random.randrange(FIRST_PORT, LAST_PORT - count)
         with ExitStack() as stack, suppress(OSError):
@@ -123,7 +124,7 @@ def free_ports(count: int) -> int:
 
 
 class Accounts(Protocol):
-    """Where Slurm has accounts, users and QOS."""
+    """Accounts, users and QOS for Slurm, if any."""
 
     def conf(self, folder: Path) -> str:
         ...
@@ -219,7 +220,7 @@ class Cluster:
         self.run("slurmd", "-N", name)
 
     def kill(self, name: str, number: int = signal.SIGTERM) -> None:
-        """Ends slurmctld or slurmd.NODE by its own pid file."""
+        """Kill slurmctld or slurmd.NODE by its own pid file."""
         path = self.folder / f"{name}.pid"
         with suppress(FileNotFoundError, ProcessLookupError, ValueError):
             process = int(path.read_text())
@@ -228,7 +229,7 @@ class Cluster:
             path.unlink(missing_ok=True)
 
     def processes_of(self, name: str) -> set[int]:
-        """The jobs' processes of a node with what supervises them, as a power cut ends them together."""
+        """Return a node's processes of jobs, with their supervisors: a power cut ends them together."""
         mark, found = f"SLURMD_NODENAME={name}\0".encode(), set()
         for path in Path("/proc").glob("[0-9]*"):
             with suppress(OSError):
@@ -241,7 +242,7 @@ class Cluster:
         return found
 
     def cut_power(self, name: str) -> None:
-        """Kills a slurmd, and all that ran there; the judge is told, as no log is."""
+        """Kill a slurmd and all processes on its node; tell the judge, as no log records it."""
         self.kill(f"slurmd.{name}", signal.SIGKILL)
         while victims := self.processes_of(name):
             for victim in sorted(victims):
@@ -263,13 +264,13 @@ class Cluster:
             self.accounts.stop(self)
         with suppress(FileNotFoundError, ProcessLookupError):
             munged, number = int((self.folder / "munge/pid").read_text()), int(signal.SIGTERM)
-            for _ in range(500):  # until it has removed what its folder has of it
+            for _ in range(500):  # until it has removed its files of the job
                 os.kill(munged, number)
                 number = 0
                 time.sleep(0.01)
 
     def squeue(self) -> dict[str, tuple[str, str]]:
-        """The state and the node of each job that has not ended."""
+        """Return the state and the node of each job that has not ended."""
         found: dict[str, tuple[str, str]] = {}
         for row in self.run("squeue", "-h", "--array-unique", "-o", "%i|%T|%N").splitlines():
             name, state, node = row.split("|")
@@ -280,7 +281,7 @@ class Cluster:
 
 @dataclass
 class Site:
-    """A cluster whose jobs firm decides."""
+    """A cluster whose jobs firm places."""
 
     folder: Path
     firm: str
@@ -313,7 +314,7 @@ class Site:
         self.table.write_text(text)
 
     def tool(self, *words: str) -> str:
-        """What firm-slurm prints, which must end well."""
+        """Return firm-slurm's output; require status 0."""
         done = self.try_tool(*words)
         require(done.returncode == 0, f"{words}: {done.returncode}: {done.stderr}")
         return done.stdout
@@ -349,27 +350,27 @@ class Site:
         return sum(text in line["message"] for line in self.said(name))
 
     def submit(self, count: int, seconds: float, account: str, *words: str, user: str | None = None) -> str:
-        """An array of jobs that sleep; its number."""
+        """Submit an array of jobs that sleep; return its number."""
         script = self.folder / f"sleep-{seconds:g}"
         script.write_text(SCRIPT.format(ledger=self.ledger, seconds=f"{seconds:g}"))
         array = [f"--array=1-{count}"] if count > 1 else []
         command = ["sbatch", "--parsable", "-o", "/dev/null", *array, "-A", account, *words, str(script)]
         return self.cluster.run(*command, user=user).strip()
 
-    # What firm has
+    # firm's rows
 
     def rows(self) -> dict[str, Any]:
-        """All rows of the first tenant, by the view."""
+        """Return all rows of the first tenant, by the view."""
         with socket.socket(socket.AF_UNIX) as view:
             view.settimeout(LIMIT_SECONDS)
             view.connect(str(self.daemon.state / "view"))
-            view.sendall(json.dumps({"ask": "book", "tenant": self.tenants[0]}).encode() + b"\n")
+            view.sendall(json.dumps({"ask": "watch", "tenant": self.tenants[0]}).encode() + b"\n")
             with view.makefile("rb") as answers:
                 found: dict[str, Any] = json.loads(answers.readline())["book"]
                 return found
 
     def places(self) -> dict[str, str | None]:
-        """Where each task is, by `where`."""
+        """Return each task's machine, by `where`."""
         tasks = [row["task"] for row in self.rows()["tasks"]]
         with self.daemon.client() as client:
             client.send(b"".join(b"%b where %b\n" % (self.tenants[0].encode(), task.encode()) for task in tasks))
@@ -377,7 +378,7 @@ class Site:
         return {task: reply[4] if reply[2:4] == ["ok", "at"] else None for task, reply in zip(tasks, replies)}
 
     def differences(self) -> dict[str, tuple[str | None, tuple[str, str]]]:
-        """Tasks that are elsewhere in Slurm than `where` says, and jobs that neither run nor are firm's."""
+        """Return tasks that are elsewhere in Slurm than `where` says, and jobs that neither run nor are firm's."""
         places, jobs = self.places(), self.cluster.squeue()
         found = {}
         for task in {*places, *jobs}:
@@ -389,7 +390,7 @@ class Site:
         return found
 
     def settle(self, what: str, seconds: float = LIMIT_SECONDS) -> float:
-        """Waits until squeue has what `where` says of each task; the seconds that this took."""
+        """Wait until squeue agrees with `where` about each task; return the seconds."""
         began = time.monotonic()
         while True:
             last: object = None
@@ -416,9 +417,57 @@ class Site:
             self.daemon.kill()
 
 
+def tell(text: str) -> None:
+    print(f"         {text}", flush=True)
+
+
+def running(place: Site) -> list[str]:
+    return [name for name, (state, _) in place.cluster.squeue().items() if state == "RUNNING"]
+
+
+def count_running(place: Site) -> int:
+    return len(running(place))
+
+
+def is_in_firm(place: Site, *jobs: str) -> bool:
+    return set(jobs) <= place.places().keys()
+
+
+def count_of_prologs(rows: str) -> int:
+    return sum(row.split()[0] == "CONFIGURING" or row.split() == ["RUNNING", "Prolog"] for row in rows.splitlines())
+
+
+def delayed(place: Site, user: str, most: float = 20.0) -> float:
+    """Return the seconds for two jobs of 1 s after two that their user keeps deferring, once a slot is free."""
+    first = place.submit(2, 60, "light", user=user)
+    wait(lambda: all(state_of(place, f"{first}-{index}") == "RUNNING" for index in (1, 2)), "all slots in use")
+    array = place.submit(2, 60, "light", user=user)
+    wait(lambda: f"{array}-2" in place.places(), "tasks that wait")
+    other = place.submit(2, 1, "light")
+
+    def has_ended() -> bool:
+        place.cluster.try_run("scontrol", "update", f"JobId={array}", "StartTime=now+4", user=user)
+        return not any(name.startswith(f"{other}-") for name in place.cluster.squeue())
+
+    has_ended()
+    place.cluster.run("scancel", first, user=user)
+    seconds = wait(has_ended, "jobs behind some that begin later", most)
+    place.cluster.run("scancel", array, user=user)
+    wait(place.is_empty, "the end of all jobs")
+    return seconds
+
+
+def state_of(place: Site, job: str) -> str:
+    return place.cluster.squeue().get(job, ("ended", ""))[0]
+
+
+def groups_of(place: Site) -> dict[str, str]:
+    return {row["task"]: row["job"] for row in place.rows()["tasks"]}
+
+
 @contextmanager
 def site(firm: str, nodes: int, cpus: int, **words: Any) -> Iterator[Site]:
-    """A site that runs, without a bridge."""
+    """Start a site without a bridge."""
     require_packages()
     of_cluster = {name: words.pop(name) for name in ("partitions", "accounts", "more", "hardware") if name in words}
     with tempfile.TemporaryDirectory(prefix="firm-slurm-") as name:
@@ -440,7 +489,7 @@ def site(firm: str, nodes: int, cpus: int, **words: Any) -> Iterator[Site]:
 
 
 def keep(folder: Path) -> None:
-    """Copies the logs to where they are wanted."""
+    """Copy the logs to the folder that keeps them."""
     kept = os.environ.get("KEEP_LOGS")
     if kept is not None:
         ignored = shutil.ignore_patterns("socket*", "any", "view", "operator", "spool", "database", "*.new")
@@ -521,16 +570,16 @@ class Events:
 
 
 class Stay(NamedTuple):
-    """A job on a node."""
+    """A job's stay on a node."""
 
     node: str
     began: float
     ended: float
-    is_whole: bool  # nothing but itself ended it
+    is_whole: bool  # it ended by itself
 
 
 class Change(NamedTuple):
-    """A change of a round's reply, or a line that ends what was asked before."""
+    """A change in a round's reply, or a line that ends an earlier request."""
 
     at: float
     kind: str
@@ -555,14 +604,14 @@ def stamped(path: Path) -> Iterator[tuple[float, str]]:
 
 
 class Judge:
-    """Reads the logs once all is over."""
+    """Reads the logs after the run."""
 
     def __init__(self, place: Site) -> None:
         self.site, self.log = place, place.cluster.folder / "log"
         self.stays = self._read_stays()
 
     def _read_stays(self) -> dict[str, list[Stay]]:
-        """By Slurm's own number of each job."""
+        """Return the stays by Slurm's own number of each job."""
         cuts: dict[str, list[float]] = defaultdict(list)
         if (self.log / "cuts").exists():
             for line in (self.log / "cuts").read_text().splitlines():
@@ -576,14 +625,14 @@ class Judge:
         return found
 
     def require_single(self) -> None:
-        """Asks that no job was on two nodes, or twice on one, at a time."""
+        """Require that no job was on two nodes, or twice on one, at a time."""
         for job, stays in self.stays.items():
             stays.sort(key=lambda stay: stay.began)
             for first, second in zip(stays, stays[1:]):
                 require(second.began >= first.ended - SLACK_SECONDS, f"job {job} ran twice: {first}, {second}")
 
     def most_at_a_time(self) -> int:
-        """Jobs on a node at a time; what slurmd wrote an end of late counts as ended."""
+        """Return the most jobs on a node at a time; a job whose end slurmd wrote late counts as ended."""
         most = 0
         events: dict[str, list[tuple[float, int]]] = defaultdict(list)
         for stay in (stay for stays in self.stays.values() for stay in stays):
@@ -597,21 +646,22 @@ class Judge:
         return most
 
     def completed(self) -> Counter[str]:
-        """How often each job came to its own end."""
+        """Return how often each job ended by itself."""
         return Counter(job for job, stays in self.stays.items() for stay in stays if stay.is_whole)
 
     def works(self) -> Counter[str]:
-        """How often each job wrote that its work is done."""
+        """Return how often each job wrote that its work is done."""
         rows = (line.split() for line in self.site.ledger.read_text().splitlines())
         return Counter("_".join(row[1:-1]) for row in rows)
 
     def cancelled(self) -> set[str]:
-        """Jobs that slurmctld was asked to end, and that did not do their work."""
+        """Return the jobs that slurmctld was asked to end, and that did not do their work."""
         text = (self.log / "slurmctld.log").read_text()
         return set(re.findall(r"REQUEST_KILL_JOB JobId=(\S+) ", text)) - self.works().keys()
 
     def require_ended_once(self, count: int) -> int:
-        """Asks that so many jobs ended, each once and with its work, or were cancelled; how many were."""
+        """Require that this many jobs ended, each once and with its work, or were cancelled; return the number
+        cancelled."""
         completed, works, cancelled = self.completed(), self.works(), self.cancelled()
         require(len(works) + len(cancelled) == count, f"{len(works)} and {len(cancelled)} of {count} jobs have ended")
         for told, ends in (("ended", completed), ("did their work", works)):
@@ -620,10 +670,10 @@ class Judge:
         require(len(completed) == len(works), f"{len(completed)} ended by slurmd's logs, {len(works)} did their work")
         return len(cancelled)
 
-    # Whether each change of a reply was carried out
+    # The effect of each change of a reply
 
     def changes(self) -> list[Change]:
-        """The changes of all rounds, by a replay of the journal through firm."""
+        """Return the changes of all rounds, by a replay of the journal through firm."""
         state = self.site.daemon.state
         printed = subprocess.run([*JOURNAL_TOOL, "print", "--senders", str(state)], capture_output=True, check=True)
         lines = [line.split(b" ", 3) for line in printed.stdout.splitlines() if not line.startswith(b"#")]
@@ -644,7 +694,7 @@ class Judge:
         return found
 
     def require_carried_out(self) -> dict[str, int]:
-        """Asks that each change was carried out, unless firm took it back or the job ended first; how many were."""
+        """Require that each change took effect, unless firm withdrew it or the job ended first; return the counts."""
         done = self._done_by_slurm()
         follows = following(self.changes())
         counts: Counter[str] = Counter()
@@ -673,7 +723,7 @@ class Judge:
 
 
 def stays_of(node: str, events: list[tuple[float, str]]) -> Iterator[tuple[str, Stay]]:
-    """Each job with its stay, by a node's log and the cuts of its power."""
+    """Return each job with its stay, by a node's log and the cuts of its power."""
     began: dict[str, float] = {}
     killed: set[str] = set()
     for when, text in events:
@@ -691,7 +741,7 @@ def stays_of(node: str, events: list[tuple[float, str]]) -> Iterator[tuple[str, 
 
 
 def changes_of(at: float, words: Sequence[str]) -> Iterator[Change]:
-    """The changes of a round's reply."""
+    """Return the changes of a round's reply."""
     place = 0
     while place < len(words):
         kind, task = words[place : place + 2]
@@ -701,7 +751,7 @@ def changes_of(at: float, words: Sequence[str]) -> Iterator[Change]:
 
 
 def following(changes: list[Change]) -> Iterator[tuple[Change, float, str | None]]:
-    """Each change of a round, with when and by what firm took it back."""
+    """Return each change of a round, with the time and the cause of its withdrawal by firm."""
     for place, change in enumerate(changes):
         if change.kind in ("done", "drain"):
             continue

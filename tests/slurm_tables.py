@@ -1,27 +1,37 @@
-"""Tables of firm-slurm's pure rules: what Slurm's words mean, what firm is said, what Slurm is to do, what differs.
+"""Tables of firm-slurm's pure rules: Slurm's words, the lines for firm, the orders for Slurm, and differences.
 
 usage: tools/run tests/slurm_tables.py
-No Slurm, no firm and no clock is asked. Each check has a line; the last line is 'N passed, M failed', and the exit
-status is 1 where one failed.
+The tables need no Slurm, no firm and no clock. Each check prints a line; the last line is 'N passed, M failed', and the
+exit status is 1 if one failed.
 """
 
 from __future__ import annotations
 
 import argparse
-import tempfile
 from math import inf
-from pathlib import Path
 from typing import Any
 
 from harness.checks import Check, Suite, require, run_script, run_suites
-from harness.deployed import Book, TableError, books, roster, slurm
-
-reading = slurm.reading
-NOW = 1_000_000.0
-Use, State, Hold = reading.Use, reading.State, reading.Hold
-OPEN, UNCLEAR, CLOSED, BOOKED, GONE = Use.OPEN, Use.UNCLEAR, Use.CLOSED, Use.BOOKED, Use.GONE
-PENDING, STARTING, RUNNING, LEAVING = State.PENDING, State.STARTING, State.RUNNING, State.LEAVING
-RELEASED, HELD, OTHER, MISSED = Hold.NONE, Hold.FIRM, Hold.OTHER, Hold.MISSED
+from harness.deployed import Book, Observed, firm_lines, slurm
+from slurm_checks import awaited, bounded, checked, sized, tables
+from slurm_rows import (
+    BOOKED,
+    CLOSED,
+    FAILED,
+    GONE,
+    HELD,
+    JOB,
+    KIND,
+    LEAVING,
+    MISSED,
+    NOW,
+    OPEN,
+    OTHER,
+    RELEASED,
+    RUNNING,
+)
+from slurm_rows import STARTING, UNCLEAR, book_of, by_name, few_slots, job, node, partition, pinned, reading, running
+from slurm_rows import waits
 
 # The state of a node, as sinfo prints it, and its use.
 USES = {
@@ -42,134 +52,70 @@ USES = {
     "down+drain": GONE,
     "down+not_responding": GONE,
 }
-REQUEUED = "job requeued in held state"
-# A line of squeue behind its partition and name, and what differs from a job that the hook holds.
-HELD_ROW = "7|PENDING|0|JobHeldUser|light|(null)|(null)|(null)|||N/A|N/A|N/A|0|400|UNLIMITED|(null)"
+REQUEUED, LAUNCH_FAILED = "job requeued in held state", "launch failed requeued held"
+NOT_PERMITTED = "Job's account not permitted to use this partition (firm allows a not light)"
+# A line of squeue after its partition and name, and its differences from a job that the hook holds.
+HELD_ROW = f"7|PENDING|0|JobHeldUser|light|(null)|(null)|(null)|||N/A|N/A|N/A|0|400|UNLIMITED|{KIND}|1|(null)"
 WAITING = {"priority": 42, "reason": "Resources"}
+SEVERAL = (*JOB.kind[:5], "2", *JOB.kind[6:])  # of a job of two nodes
 JOBS: list[tuple[str, dict[str, Any]]] = [
     (HELD_ROW, {}),
     (HELD_ROW.replace("light|(null)", "(null)|high"), {"account": "", "qos": "high"}),
     (HELD_ROW.replace("JobHeldUser", "JobHeldAdmin"), {"hold": OTHER, "reason": "JobHeldAdmin"}),
     (HELD_ROW.replace("JobHeldUser", "BadConstraints"), {"hold": OTHER, "reason": "BadConstraints"}),
-    (
-        HELD_ROW.replace("JobHeldUser", "BadConstraints").replace("|||N/A", "|m1||N/A"),
-        {"reason": "BadConstraints", "pinned": "m1"},
-    ),
+    (HELD_ROW.replace("JobHeldUser", "BadConstraints").replace("|||N/A", "|m1||N/A"),
+     {"reason": "BadConstraints", "pinned": "m1"}),
     (HELD_ROW.replace("JobHeldUser", REQUEUED), {"reason": REQUEUED}),
-    (HELD_ROW[:-6] + "near=a firm:held", {"hold": OTHER, "near": ("a",)}),
+    (HELD_ROW.replace("JobHeldUser", NOT_PERMITTED), {"reason": NOT_PERMITTED}),
+    (HELD_ROW.replace("JobHeldUser", LAUNCH_FAILED), {"reason": LAUNCH_FAILED, "hold": FAILED}),
+    (HELD_ROW.replace("JobHeldUser", LAUNCH_FAILED)[:-6] + "firm:held",
+     {"reason": LAUNCH_FAILED, "hold": OTHER, "is_users": True}),
+    (HELD_ROW[:-6] + "near=a firm:held", {"hold": OTHER, "near": ("a",), "is_users": True}),
     (HELD_ROW[:-6] + "firm:held-not near=a,b,a,c,d,e", {"near": ("a", "b", "c", "d")}),
     (HELD_ROW[:-6] + "firm:most=3", {"most": 3}),
+    (HELD_ROW.replace("|1|(null)", "|0|(null)"), {"may_requeue": False}),
+    (HELD_ROW[:-6] + "firm:admin", {"is_roots": True}),
+    (HELD_ROW.replace("JobHeldUser", REQUEUED)[:-6] + "firm:admin",
+     {"reason": REQUEUED, "hold": OTHER, "is_roots": True}),
+    (HELD_ROW.replace("JobHeldUser", NOT_PERMITTED)[:-6] + "a firm:admin",
+     {"reason": NOT_PERMITTED, "hold": OTHER, "is_roots": True}),
     (HELD_ROW[:-6] + "firm:most=0", {}),
+    (HELD_ROW[:-6] + "a\u2003firm:most=9\u2003firm:held firm:most=3", {"most": 3}),
     (HELD_ROW[:-6] + "bear=a", {}),
     (HELD_ROW[:-6] + "a\u2028b\x85c\x0bd\re near=m1", {"near": ("m1",)}),
     (HELD_ROW[:-6] + "a|b| near=m1", {"near": ("m1",)}),
     (HELD_ROW.replace("|(null)|(null)|||", "|afterok:2(unfulfilled)|(null)|||"), {"has_needs": True}),
+    (HELD_ROW.replace("JobHeldUser", "JobHeldAdmin").replace("|(null)|(null)|||", "|afterok:2(failed)|(null)|||"),
+     {"has_needs": True, "hold": OTHER, "reason": "JobHeldAdmin", "has_failed": True}),
     (HELD_ROW.replace("|(null)|||", "|a:2,b|||"), {"licences": (("a", 2), ("b", 1))}),
     (HELD_ROW.replace("PENDING", "SPECIAL_EXIT"), {"hold": OTHER}),
     (HELD_ROW.replace("PENDING", "RESV_DEL_HOLD"), {"hold": OTHER}),
     (HELD_ROW.replace("PENDING", "REQUEUE_HOLD"), {"hold": OTHER}),
-    (
-        "7|PENDING|42|Resources|light|(null)|(null)|(null)|m1||500|560|N/A|0|400|UNLIMITED|(null)",
-        {**WAITING, "hold": RELEASED, "pinned": "m1", "eligible": 500.0, "evaluated": 560.0},
-    ),
-    (
-        "7|PENDING|42|Resources|light|(null)|(null)|(null)|m1||500|560|N/A|0|400|UNLIMITED|firm:held",
-        {**WAITING, "hold": MISSED, "pinned": "m1", "eligible": 500.0, "evaluated": 560.0},
-    ),
-    (
-        "7|RUNNING|42|None|light|(null)|(null)|(null)|m1|m1|500|501|501|0|400|UNLIMITED|(null)",
-        {
-            **{"priority": 42, "reason": "None", "hold": RELEASED, "state": RUNNING, "node": "m1", "pinned": "m1"},
-            **{"eligible": 500.0, "evaluated": 501.0, "started": 501.0},
-        },
-    ),
-    (
-        "7|CONFIGURING|42|None|light|(null)|(null)|(null)|m1|m1|500|501|501|0|400|UNLIMITED|(null)",
-        {
-            **{"priority": 42, "reason": "None", "hold": RELEASED, "state": STARTING, "node": "m1", "pinned": "m1"},
-            **{"eligible": 500.0, "evaluated": 501.0, "started": 501.0},
-        },
-    ),
+    (f"7|PENDING|42|Resources|light|(null)|(null)|(null)|m1||500|560|N/A|0|400|UNLIMITED|{KIND}|1|(null)",
+     {**WAITING, "hold": RELEASED, "pinned": "m1", "eligible": 500.0, "evaluated": 560.0}),
+    (f"7|PENDING|42|Resources|light|(null)|(null)|(null)|m1||500|560|N/A|0|400|UNLIMITED|{KIND}|1|firm:held",
+     {**WAITING, "hold": MISSED, "is_users": True, "pinned": "m1", "eligible": 500.0, "evaluated": 560.0}),
+    (f"7|RUNNING|42|None|light|(null)|(null)|(null)|m1|m1|500|501|501|0|400|UNLIMITED|{KIND}|1|(null)",
+     {**{"priority": 42, "reason": "None", "hold": RELEASED, "state": RUNNING, "node": "m1", "pinned": "m1"},
+      **{"eligible": 500.0, "evaluated": 501.0, "started": 501.0}}),
+    (f"7|CONFIGURING|42|None|light|(null)|(null)|(null)|m1|m1|500|501|501|0|400|UNLIMITED|{KIND}|1|(null)",
+     {**{"priority": 42, "reason": "None", "hold": RELEASED, "state": STARTING, "node": "m1", "pinned": "m1"},
+      **{"eligible": 500.0, "evaluated": 501.0, "started": 501.0}}),
+    (f"7|RUNNING|42|Prolog|light|(null)|(null)|(null)|m1|m1|500|501|501|0|400|UNLIMITED|{KIND}|1|(null)",
+     {**{"priority": 42, "reason": "Prolog", "hold": RELEASED, "state": STARTING, "node": "m1", "pinned": "m1"},
+      **{"eligible": 500.0, "evaluated": 501.0, "started": 501.0}}),
     (HELD_ROW.replace("|0|400|", "|2|500|"), {"requeued": 500.0}),
+    (HELD_ROW.replace("big|1|", "big|2|"), {"hold": OTHER, "kind": SEVERAL, "is_users": True}),
+    (HELD_ROW.replace("big|1|", "big|2|").replace("|0|JobHeldUser|", "|42|Resources|"),
+     {**WAITING, "hold": MISSED, "kind": SEVERAL, "is_users": True}),
     (HELD_ROW.replace("UNLIMITED", "30:01"), {"limit": 1801.0}),
     (HELD_ROW.replace("UNLIMITED", "1:00:00"), {"limit": 3600.0}),
     (HELD_ROW.replace("UNLIMITED", "2-12:00:00"), {"limit": 216_000.0}),
-    (
-        "7|COMPLETING|0|JobHeldUser|light|(null)|(null)|(null)||m1|N/A|N/A|501|0|400|UNLIMITED|(null)",
-        {"hold": RELEASED, "state": LEAVING, "node": "m1", "started": 501.0},
-    ),
-]
-JOB = reading.Job(
-    *(
-        "1",
-        7,
-        0,
-        "JobHeldUser",
-        "light",
-        "",
-        (),
-        None,
-        PENDING,
-        HELD,
-        False,
-        (),
-        None,
-        None,
-        None,
-        None,
-        None,
-        None,
-        inf,
-    )
-)
-
-
-def job(name: str = "1", **fields: Any) -> reading.Job:
-    return JOB._replace(name=name, **fields)
-
-
-def running(name: str, node: str, **fields: Any) -> reading.Job:
-    return job(name, state=RUNNING, hold=RELEASED, node=node, pinned=node, started=NOW - 9, **fields)
-
-
-def pinned(name: str, node: str, seconds: float = 1.0, **fields: Any) -> reading.Job:
-    """A job that was released for a node so many seconds before Slurm last looked at it."""
-    fields = {"hold": RELEASED, "eligible": NOW - 100, "evaluated": NOW - 100 + seconds, **fields}
-    return job(name, pinned=node, **fields)
-
-
-def node(name: str, use: Any = OPEN, allocated: int = 0, reserved: float = inf) -> reading.Node:
-    return reading.Node(name, 4, allocated, use, reserved)
-
-
-def book_of(machines: str = "", tasks: str = "", limits: str = "") -> Book:
-    """Rows like `m1 m2` and `1:m1 2:- light/3:m2`: a task with its machine, of the job j where no other is named."""
-    numbers = [int(word) for word in (limits or "30,300,1000,0,9,5").split(",")]
-    book = Book(roster.Limits("alpha", *numbers))
-    book.machines = dict.fromkeys(machines.split(), 4)
-    for word in tasks.split():
-        name, _, machine = word.partition(":")
-        group, _, name = name.rpartition("/")
-        book.jobs[group or "light"] = 10
-        place = None if machine == "-" else machine
-        book.tasks[name] = books.Task(group or "light", len(book.tasks), (), 0, NOW - 5, place)
-        book.waiting += place is None
-    return book
-
-
-def few_slots(slots: int, tasks: str = "") -> Book:
-    book = book_of("m1", tasks)
-    book.machines["m1"] = slots
-    return book
-
-
-def partition(**fields: Any) -> slurm.table.Partition:
-    row: dict[str, Any] = {"socket": "lines", "weights": {"heavy": 1_000}, **fields}
-    return slurm.table.partition_of("batch", row)
-
-
-# What firm has, nodes, jobs, fields of the partition, and what firm is said.
-NEWS: list[tuple[str, Book, list[reading.Node], list[reading.Job], dict[str, Any], list[str]]] = [
+    (f"7|COMPLETING|0|JobHeldUser|light|(null)|(null)|(null)||m1|N/A|N/A|501|0|400|UNLIMITED|{KIND}|1|(null)",
+     {"hold": RELEASED, "state": LEAVING, "node": "m1", "started": 501.0}),
+]  # fmt: skip
+# Firm's rows, nodes, jobs, fields of the partition, and the lines for firm.
+NEWS: list[tuple[str, Book, list[reading.Node], list[reading.SlurmJob], dict[str, Any], list[str]]] = [
     ("a node", book_of(), [node("m1")], [], {}, ["machine m1 4"]),
     ("slots of a table", book_of(), [node("m1")], [], {"slots": 2}, ["machine m1 2"]),
     ("a slot of two processors", book_of(), [node("m1")], [], {"cpus": 2}, ["machine m1 2"]),
@@ -177,10 +123,16 @@ NEWS: list[tuple[str, Book, list[reading.Node], list[reading.Job], dict[str, Any
     ("a node that is unclear", book_of(), [node("m1", UNCLEAR)], [], {}, []),
     ("a machine that is unclear", book_of("m1", "1:m1"), [node("m1", UNCLEAR)], [running("1", "m1")], {}, []),
     ("a node with others' jobs", book_of(), [node("m1", OPEN, 2)], [], {}, ["machine m1 2"]),
+    ("a job with --no-requeue", book_of(), [node("m1", OPEN, 1)], [running("1", "m1", may_requeue=False)], {},
+     ["machine m1 3"]),
     ("a node that others have", book_of(), [node("m1", OPEN, 4)], [], {}, []),
     ("others' jobs have ended", few_slots(2), [node("m1", OPEN, 1)], [], {}, ["drain m1", "machine m1 3"]),
     ("the same beside a task", few_slots(2, "1:m1"), [node("m1", OPEN, 1)], [running("1", "m1")], {}, []),
     ("not yet", few_slots(2), [node("m1", OPEN, 2)], [], {}, []),
+    ("fewer slots, as of another table", book_of("m1"), [node("m1")], [], {"slots": 2}, ["drain m1"]),
+    ("the same beside tasks", book_of("m1", "1:m1 2:m1"), [node("m1", OPEN, 1)], [running("1", "m1"), job("2")],
+     {"slots": 2, "drain": "move"}, ["done 1", "drain m1"]),
+    ("the same on an unclear node", book_of("m1"), [node("m1", UNCLEAR)], [], {"slots": 2}, []),
     ("a drain, finish", book_of("m1", "1:m1 2:m1"), [node("m1", CLOSED)], [running("1", "m1"), pinned("2", "m1")],
      {}, ["done 1", "drain m1"]),
     ("a drain, move", book_of("m1", "1:m1"), [node("m1", CLOSED)], [running("1", "m1")], {"drain": "move"},
@@ -227,7 +179,9 @@ NEWS: list[tuple[str, Book, list[reading.Node], list[reading.Job], dict[str, Any
     ("a hold while it runs", book_of("m1", "1:m1"), [node("m1")], [running("1", "m1")], {}, []),
     ("a task that needs others now", book_of("m1", "1:-"), [node("m1")], [job("1", has_needs=True)], {}, ["done 1"]),
     ("a task that begins later now", book_of("m1", "1:-"), [node("m1")], [job("1", eligible=NOW + 6)], {}, ["done 1"]),
-    ("a task that begins soon", book_of("m1", "1:-"), [node("m1")], [job("1", eligible=NOW + 4)], {}, []),
+    ("a task that begins soon", book_of("m1", "1:m1 2:-"), [node("m1")], [job("1", eligible=NOW + 4), job("2")], {},
+     ["done 1"]),
+    ("the same, released", book_of("m1", "1:m1"), [node("m1")], [pinned("1", "m1", eligible=NOW + 4)], {}, []),
     ("a requeued task that begins later now", book_of("m1", "1:-"), [node("m1")],
      [job("1", requeued=NOW - 1, eligible=NOW + 60)], {}, ["done 1"]),
     ("a task that was just requeued", book_of("m1", "1:-"), [node("m1")],
@@ -256,9 +210,9 @@ NEWS: list[tuple[str, Book, list[reading.Node], list[reading.Job], dict[str, Any
      [running("1", "m1"), running("2", "m1")], {}, ["machine m1 2"]),
     ("a stranger leaves", book_of(), [node("m1", OPEN, 1)], [job("1", state=LEAVING, node="m1")], {}, []),
 ]  # fmt: skip
-# What firm has, a job, and what Slurm is to do, phase by phase.
+# Firm's rows, a job, and the orders for Slurm, phase by phase.
 PIN = "update JobId=1 ReqNodeList=m1 StartTime=now"
-DEEDS: list[tuple[str, str, list[reading.Job], list[list[str]]]] = [
+DEEDS: list[tuple[str, str, list[reading.SlurmJob], list[list[str]]]] = [
     ("runs in firm, held", "1:m1", [job()], [[PIN], ["release 1"]]),
     ("runs in firm, pinned elsewhere", "1:m1", [pinned("1", "m2")], [["uhold 1"]]),
     ("runs in firm, will start", "1:m1", [pinned("1", "m1")], []),
@@ -274,6 +228,9 @@ DEEDS: list[tuple[str, str, list[reading.Job], list[list[str]]]] = [
     ("the same, two minutes later", "1:m1", [job(requeued=NOW - 121, evaluated=NOW - 123)], [[PIN], ["release 1"]]),
     ("requeued, and looked at since", "1:m1", [job(requeued=NOW - 9, evaluated=NOW - 8)], [[PIN], ["release 1"]]),
     ("waits in firm, was just launched", "1:-", [running("1", "m1")._replace(started=NOW - 2)], []),
+    ("the same, while squeue was slow", "1:-", [running("1", "m1")._replace(started=NOW + 60)], []),
+    ("started before the clock was set back", "1:-", [running("1", "m1")._replace(started=NOW + 3600)],
+     [["requeuehold Incomplete 1"]]),
     ("runs in both", "1:m1", [running("1", "m1")], []),
     ("runs elsewhere", "1:m1", [running("1", "m2")], [["requeuehold Incomplete 1"]]),
     ("starts elsewhere", "1:m1", [running("1", "m2")._replace(state=STARTING)], []),
@@ -297,7 +254,7 @@ DEEDS: list[tuple[str, str, list[reading.Job], list[list[str]]]] = [
         ["requeuehold Incomplete 2", "uhold 3"], [PIN], ["release 1"],
     ]),
 ]  # fmt: skip
-DIFFERENCES: list[tuple[str, list[reading.Job], list[tuple[str, str, str, float | None]]]] = [
+DIFFERENCES: list[tuple[str, list[reading.SlurmJob], list[tuple[str, str, str, float | None]]]] = [
     ("1:m1 2:-", [running("1", "m1"), job("2")], []),
     ("1:m1", [], [("1", "m1", "ended", None)]),
     ("1:m1", [running("1", "m2")], [("1", "m1", "runs on m2", NOW - 5)]),
@@ -307,130 +264,10 @@ DIFFERENCES: list[tuple[str, list[reading.Job], list[tuple[str, str, str, float 
     ("1:-", [pinned("1", "m1")], [("1", "waits", "released", NOW - 5)]),
     ("1:-", [job("1", state=LEAVING, node="m1")], [("1", "waits", "leaves m1", NOW - 5)]),
 ]
-FAULTY_TABLES = {
-    "view": "[partitions.a]\nsocket = 's'",
-    "no partition": "view = 'v'",
-    "unknown key 'wiew'": "wiew = 'v'",
-    "socket": "view = 'v'\n[partitions.a]",
-    "tenant is 'A'": "view = 'v'\n[partitions.A]\nsocket = 's'",
-    "of two": "view = 'v'\n[partitions.a]\nsocket = 's'\n[partitions.b]\nsocket = 's'\ntenant = 'a'",
-    "drain is 'stop'": "view = 'v'\n[partitions.a]\nsocket = 's'\ndrain = 'stop'",
-    "weigh is 'user'": "view = 'v'\n[partitions.a]\nsocket = 's'\nweigh = 'user'",
-    "x is 0": "view = 'v'\n[partitions.a]\nsocket = 's'\n[partitions.a.weights]\nx = 0",
-    "slots is 65": "view = 'v'\n[partitions.a]\nsocket = 's'\nslots = 65",
-    "not valid TOML": "view",
-}
-
-
-# Lines of slurm.conf, the words of its node m1, fields of the partition, and what is to be written.
-THREADS = "Sockets=1 CoresPerSocket=4 ThreadsPerCore=2 RealMemory=8000"
-CHECKED: list[tuple[str, str, str, dict[str, Any], list[str]]] = [
-    ("a CPU is what Slurm counts", "SelectTypeParameters=CR_CPU", "CPUs=8", {}, []),
-    ("no default of memory", "SelectTypeParameters=CR_Core_Memory", "CPUs=8 RealMemory=8000", {},
-     ["DefMemPerCPU=1000"]),
-    ("the same, slots of two CPUs", "SelectTypeParameters=CR_CPU_Memory", "CPUs=8 RealMemory=8000", {"cpus": 2},
-     ["DefMemPerCPU=1000"]),
-    ("the same, slots of a table", "SelectTypeParameters=CR_CPU_Memory", "CPUs=8 RealMemory=8000", {"slots": 2},
-     ["DefMemPerCPU=4000"]),
-    ("a default of memory", "SelectTypeParameters=CR_Core_Memory\nDefMemPerCPU=1000", "CPUs=8 RealMemory=8000", {}, []),
-    ("too much", "SelectTypeParameters=CR_Core_Memory\nDefMemPerCPU=1001", "CPUs=8 RealMemory=8000", {},
-     ["DefMemPerCPU=1000"]),
-    ("too much for a node", "SelectTypeParameters=CR_Core_Memory\nDefMemPerNode=8000", "CPUs=8 RealMemory=8000", {},
-     ["DefMemPerCPU=1000"]),
-    ("memory is not counted", "SelectTypeParameters=CR_Core", "CPUs=8 RealMemory=8000", {}, []),
-    ("two threads a core", "SelectTypeParameters=CR_Core", THREADS, {},
-     ["cpus = 2 in [partitions.batch] of the table, or SelectTypeParameters=CR_CPU"]),
-    ("slots of three CPUs", "SelectTypeParameters=CR_Core", THREADS, {"cpus": 3},
-     ["cpus = 4 in [partitions.batch] of the table, or SelectTypeParameters=CR_CPU"]),
-    ("slots of whole cores", "SelectTypeParameters=CR_Core", THREADS, {"cpus": 2}, []),
-    ("a CPU for each core", "SelectTypeParameters=CR_Core", f"CPUs=4 {THREADS}", {}, []),
-    ("threads, and a CPU is what Slurm counts", "SelectTypeParameters=CR_CPU", THREADS, {}, []),
-    ("whole sockets", "SelectTypeParameters=CR_Socket", "Sockets=2 CoresPerSocket=4", {},
-     ["cpus = 4 in [partitions.batch] of the table, or SelectTypeParameters=CR_CPU"]),
-    ("a limit of memory, and no default", "SelectTypeParameters=CR_CPU\nMaxMemPerCPU=500", "CPUs=8", {},
-     ["DefMemPerCPU=500"]),
-    ("a limit of memory, and a default", "SelectTypeParameters=CR_CPU\nMaxMemPerCPU=500\nDefMemPerCPU=400", "CPUs=8",
-     {}, []),
-    ("few CPUs of a node", "SelectTypeParameters=CR_CPU\nPartitionName=DEFAULT MaxCPUsPerNode=6", "CPUs=8",
-     {"cpus": 2}, ["slots = 3 in [partitions.batch] of the table, or no MaxCPUsPerNode"]),
-    ("the same, as many slots", "SelectTypeParameters=CR_CPU\nPartitionName=DEFAULT MaxCPUsPerNode=6", "CPUs=8",
-     {"cpus": 2, "slots": 3}, []),
-    ("many slots", "SelectTypeParameters=CR_CPU", "CPUs=130", {},
-     ["cpus = 3 in [partitions.batch] of the table, or slots = 64"]),
-    ("many CPUs, slots of a table", "SelectTypeParameters=CR_CPU", "CPUs=128", {"slots": 64}, []),
-    ("many CPUs, slots of two", "SelectTypeParameters=CR_CPU", "CPUs=128", {"cpus": 2}, []),
-    ("many nodes", "SelectTypeParameters=CR_CPU\nNodeName=DEFAULT CPUs=64\n"
-     + "\n".join(f"NodeName=n{number}" for number in range(60)), "CPUs=64", {}, ["several partitions"]),
-]  # fmt: skip
-
-
-def checked() -> None:
-    """`check` names each cause of unused slots with its remedy, and nothing else."""
-    named, slurm.check.names_of = slurm.check.names_of, lambda listed: listed.split(",")
-    try:
-        with tempfile.TemporaryDirectory() as name:
-            path = Path(name) / "slurm.conf"
-            for what, lines, node, fields, wanted in CHECKED:
-                path.write_text(f"{lines}\nNodeName=m1 {node}\nPartitionName=batch Nodes=ALL\n")
-                found = list(slurm.check.of_nodes(partition(**fields), slurm.check.Conf.read(path)))
-                require([advice.write for advice in found] == wanted, f"{what}: {found} instead of {wanted}")
-    finally:
-        slurm.check.names_of = named
-
-
-# Lines of slurm.conf that hold for all partitions, and what is to be written instead.
-OPTIONS: dict[str, list[str]] = {
-    "AuthType=auth/munge": [],
-    "AuthInfo=socket=/s,cred_expire=120": [],
-    "AuthInfo=cred_expire=600": ["AuthInfo=.. without cred_expire, or with cred_expire=120"],
-    "AllowSpecResourcesUsage=NO": [],
-    "AllowSpecResourcesUsage=YES": ["AllowSpecResourcesUsage=no"],
-    "SchedulerType=sched/backfill": [],
-    "SchedulerType=sched/builtin": ["SchedulerType=sched/backfill"],
-    "CompleteWait=0": [],
-    "CompleteWait=32": ["CompleteWait=0"],
-    "SchedulerParameters=partition_job_depth=0,sched_max_job_start=10000": [],
-    "SchedulerParameters=partition_job_depth=9,sched_max_job_start=9": [
-        "SchedulerParameters=.. without partition_job_depth",
-        "SchedulerParameters=.. without sched_max_job_start",
-    ],
-}
-# Lines of slurm.conf, the words of its node m1, CPUs of a slot, its MB and the CPUs of a core; 0: the hook has none.
-SIZES: list[tuple[str, str, int, int, int]] = [
-    ("SelectTypeParameters=CR_CPU", THREADS, 2, 0, 0),
-    ("SelectTypeParameters=CR_CPU\nMaxMemPerCPU=500\nDefMemPerCPU=400", THREADS, 2, 1000, 0),
-    ("SelectTypeParameters=CR_CPU_Memory\nMaxMemPerCPU=500\nDefMemPerCPU=400", THREADS, 2, 800, 0),
-    ("SelectTypeParameters=CR_CPU_Memory\nMaxMemPerCPU=500", THREADS, 2, 1000, 0),
-    ("SelectTypeParameters=CR_Core", THREADS, 2, 0, 2),
-    ("SelectTypeParameters=CR_Core", "CPUs=8", 2, 0, 0),
-    ("SelectTypeParameters=CR_Socket", THREADS, 8, 0, 8),
-]
-
-
-def sized() -> None:
-    """The hook has the memory of a slot and the CPUs of a core, and `check` names options that void its bounds."""
-    named, slurm.check.names_of = slurm.check.names_of, lambda listed: listed.split(",")
-    try:
-        with tempfile.TemporaryDirectory() as name:
-            path, text = Path(name) / "slurm.conf", "view = 'v'\n[partitions.batch]\nsocket = 's'\ncpus = {}\n"
-            for lines, node, cpus, memory, core in SIZES:
-                path.write_text(f"{lines}\nNodeName=m1 {node}\nPartitionName=batch Nodes=ALL\n")
-                (path.parent / "table").write_text(text.format(cpus))
-                table = slurm.table.Table.read(path.parent / "table")
-                found = slurm.hook.hook(table, slurm.check.sizes_of(table, slurm.check.Conf.read(path)))
-                for key, number in (("CPUS", cpus), ("MEMORY", memory), ("CORES", core)):
-                    wanted = f'local {key} = {{ ["batch"] = {number} }}' if number else f"local {key} = {{  }}"
-                    require(wanted in found, f"{lines}, {node}: no {wanted} in {found[:900]}")
-            for line, remedies in OPTIONS.items():
-                path.write_text(f"{line}\n")
-                told = [advice.write for advice in slurm.check.of_options(slurm.check.Conf.read(path))]
-                require(told == remedies, f"{line}: {told} instead of {remedies}")
-    finally:
-        slurm.check.names_of = named
 
 
 def launched() -> None:
-    """A job is steady some seconds after it was last seen starting, however long ago Slurm allocated its node."""
+    """A job is steady some seconds after its last start was seen, however long ago Slurm allocated its node."""
     launches, job = reading.Launches(), running("1", "m1")._replace(started=NOW - 60)
     for seconds, state, is_steady in (
         (0.0, STARTING, False),
@@ -446,8 +283,55 @@ def launched() -> None:
         require(found["2"] == running("2", "m1"), f"{seconds}: {found}")
 
 
-def by_name(rows: list[Any]) -> dict[str, Any]:
-    return {row.name: row for row in rows}
+def failed() -> None:
+    """A job that Slurm holds since a dependency failed is firm's with another; an administrator's hold stays."""
+    admin = job(hold=OTHER, reason="JobHeldAdmin")
+    misheld = admin._replace(has_needs=True, has_failed=True)
+    never = misheld._replace(reason="DependencyNeverSatisfied")
+    for rows, hold in (
+        ([never], OTHER),
+        ([never, misheld], OTHER),
+        ([misheld, admin], HELD),
+        ([misheld, admin, admin], HELD),
+        ([misheld, admin, job(), admin], OTHER),
+        ([admin, misheld, admin], OTHER),
+        ([admin, never, misheld, admin], OTHER),
+        ([misheld, admin._replace(is_roots=True)], OTHER),
+        ([admin, job(), misheld, admin], HELD),
+        ([misheld._replace(is_users=True), admin._replace(is_users=True)], OTHER),
+        ([running("1", "m1", reason="JobHeldAdmin"), misheld, admin], OTHER),
+    ):
+        failures = slurm.reading.Failures()
+        found = [failures.corrected({"1": row})["1"].hold for row in rows][-1]
+        require(found is hold, f"{rows}: {found} instead of {hold}")
+    failures, marked = slurm.reading.Failures(), []
+    for row in (job(), misheld, job(), admin, admin, job(), admin._replace(is_roots=True)):
+        failures.corrected({"1": row})
+        marked.append(sorted(failures.unmarked))
+    require(marked == [[], [], [], ["1"], [], [], []], f"holds to be marked: {marked}")
+
+
+def relaunched() -> None:
+    """A job whose launch failed is held for firm once, two minutes later, and then until root releases it."""
+    relaunches, failed = reading.Relaunches(), job(hold=FAILED, reason=LAUNCH_FAILED, evaluated=NOW - 1)
+    for row, seconds, hold, is_due in (
+        (failed._replace(requeued=NOW), 1, HELD, False),
+        (failed._replace(requeued=NOW), 121, HELD, True),
+        (running("1", "m2"), 130, RELEASED, False),
+        (failed._replace(requeued=NOW + 140), 300, FAILED, False),
+        (failed._replace(requeued=NOW + 140, hold=OTHER), 300, OTHER, False),
+    ):
+        found = relaunches.corrected({"1": row})["1"]
+        wanted = found.hold is hold and found.is_due(NOW + seconds) == is_due
+        require(wanted, f"{row} after {seconds} s: {found}")
+    relaunches.corrected({})
+    found = relaunches.corrected({"1": failed._replace(requeued=NOW + 140)})["1"]
+    require(found.hold is HELD, f"another job of this name: {found}")
+
+
+def ended(text: str) -> str:
+    """Return lines of fields that end as squeue and sinfo end them."""
+    return text.replace("|", reading.END)
 
 
 def uses() -> None:
@@ -456,21 +340,30 @@ def uses() -> None:
         require(found is use, f"{state}: {found} instead of {use}")
 
 
+# Fields that squeue has by these names alone, before those of a job's needs.
+SQUEUE = "Partition JobArrayID JobID State PriorityLong Reason Account QOS Dependency Licenses ReqNodes NodeList"
+SQUEUE += " EligibleTime LastSchedEval StartTime RestartCnt SubmitTime TimeLimit"
+SINFO = "PartitionName NodeList CPUsState Available StateComplete"
+
+
 def jobs() -> None:
+    asked = " ".join(reading.JOB_FIELDS), " ".join(reading.NODE_FIELDS)
+    require(asked[0].startswith(f"{SQUEUE} UserName Feature ") and asked[1] == SINFO, f"other fields: {asked}")
     for row, fields in JOBS:
-        (found,) = reading.read_jobs(f"batch|7_3|{row}|\n")["batch"].values()
-        wanted = job("7-3", **fields)
+        (found,) = reading.read_jobs(ended(f"batch|7_3|{row}|\n"))["batch"].values()
+        account, qos, _, licences = row.split("|")[4:8]
+        wanted = job("7-3", **{"kind": (account, qos, licences, *KIND.split("|")), **fields})
         require(found == wanted, f"{row}: {found} instead of {wanted}")
     text = "".join(
         f"a|{name}|{HELD_ROW}|\n" for name in ("10", "9_10", "9_2", "8_[0,3-4,7-11:2%2]", "7+1", "6|", "5_[")
     )
     names = ["8-0", "8-3", "8-4", "8-7", "8-9", "8-11", "9-2", "9-10", "10"]
-    require(list(reading.read_jobs(text)["a"]) == names, "the order of jobs, and all elements of an array")
+    require(list(reading.read_jobs(ended(text))["a"]) == names, "the order of jobs, and all elements of an array")
 
 
 def nodes() -> None:
     found = reading.read_nodes(
-        "a|m1|1/3/0/4|up|mixed|\na|m2|0/4/0/4|up|idle+drain|\na|m3|0/4/0/4|down|idle|\nb|m1|1/3/0/4|up|mixed|\n"
+        ended("a|m1|1/3/0/4|up|mixed|\na|m2|0/4/0/4|up|idle+drain|\na|m3|0/4/0/4|down|idle|\nb|m1|1/3/0/4|up|mixed|\n")
     )
     wanted = {"a": [node("m1", OPEN, 1), node("m2", CLOSED), node("m3", UNCLEAR)], "b": [node("m1", OPEN, 1)]}
     require({name: list(rows.values()) for name, rows in found.items()} == wanted, found)
@@ -480,8 +373,8 @@ def nodes() -> None:
     require(reading.read_licences(text) == {"a": 8, "b@c": 0}, reading.read_licences(text))
 
 
-# Seconds until a node is reserved, the jobs, and how the node is used until then.
-RESERVED: list[tuple[float, list[reading.Job], Any]] = [
+# Seconds until a node is reserved, the jobs, and the node's use until then.
+RESERVED: list[tuple[float, list[reading.SlurmJob], Any]] = [
     (3600, [], OPEN),
     (3600, [job()], BOOKED),
     (3600, [job(limit=3600.0)], OPEN),
@@ -512,27 +405,24 @@ def reserved() -> None:
 
 def said() -> None:
     for name, book, nodes, rows, fields, wanted in NEWS:
-        found = slurm.said.news(
-            slurm.said.Seen(book, frozenset(book.tasks), by_name(nodes), by_name(rows), NOW), partition(**fields)
+        found = firm_lines.news(
+            Observed(book, frozenset(book.tasks), by_name(nodes), by_name(rows), NOW), partition(**fields)
         )
         require(found.lines == wanted, f"{name}: {found.lines} instead of {wanted}")
-    seen = slurm.said.Seen(book_of("", "1:- 2:-"), frozenset({"1"}), {}, {}, NOW)
-    require(slurm.said.news(seen, partition()).lines == ["done 1"], "a task that came after the look")
-    seen = slurm.said.Seen(book_of(), frozenset(), {}, {"1": job()}, NOW)
-    require(slurm.said.news(seen, partition(), has_room=False).lines == [], "no room a moment ago")
+    seen = Observed(book_of("", "1:- 2:-"), frozenset({"1"}), {}, {}, NOW)
+    require(firm_lines.news(seen, partition()).lines == ["done 1"], "a task that came after the look")
+    seen = Observed(book_of(), frozenset(), {}, {"1": job()}, NOW)
+    require(firm_lines.news(seen, partition(), has_room=False).lines == [], "no room a moment ago")
     idle = book_of("m1", "2:-")
     idle.jobs["old"] = 3
-    seen = slurm.said.Seen(idle, frozenset({"2"}), {"m1": node("m1")}, {"2": job("2")}, NOW)
-    require(slurm.said.news(seen, partition()).lines == ["close old"], "a job without tasks")
+    seen = Observed(idle, frozenset({"2"}), {"m1": node("m1")}, {"2": job("2")}, NOW)
+    require(firm_lines.news(seen, partition()).lines == ["close old"], "a job without tasks")
+    seen = Observed(idle, frozenset({"2"}), {"m1": node("m1")}, {}, NOW)
+    require(firm_lines.news(seen, partition()).lines == ["close old", "done 2"], "the same while a task ends")
 
 
-def waits(name: str, machine: str, reason: str = "Resources", **fields: Any) -> reading.Job:
-    """A job that was released for a node, with what Slurm says of it."""
-    return pinned(name, machine, reason=reason, priority=100 - int(name.rpartition("-")[2]), **fields)
-
-
-# Firm's tasks, jobs, and the tasks that give their slots back at each of some looks, half a second apart.
-REFUSED: list[tuple[str, str, list[reading.Job], list[set[str]]]] = [
+# Firm's tasks, jobs, and the tasks that release their slots at each of some looks, half a second apart.
+REFUSED: list[tuple[str, str, list[reading.SlurmJob], list[set[str]]]] = [
     ("not looked at yet", "1:m1", [waits("1", "m1", "None")], [set()]),
     ("behind another", "1:m1", [waits("1", "m1", "Priority")], [set()]),
     ("its partition is down", "1:m1", [waits("1", "m1", "PartitionDown")], [set()]),
@@ -545,8 +435,9 @@ REFUSED: list[tuple[str, str, list[reading.Job], list[set[str]]]] = [
     ("held as its node is not made for it", "1:m1", [waits("1", "m1", "BadConstraints", hold=HELD)], [{"1"}]),
     ("the same on another node", "1:m2", [waits("1", "m1", "BadConstraints", hold=HELD)], [set()]),
     ("a licence", "5-1:m1 5-2:m2", [waits("5-1", "m1", "Licenses"), waits("5-2", "m2", "Licenses")], [{"5-1", "5-2"}]),
+    ("an account of other partitions", "1:m1", [waits("1", "m1", NOT_PERMITTED)], [{"1"}]),
     ("a limit of its user", "1:m1 2:m1",
-     [waits("1", "m1", "QOSMaxJobsPerUserLimit"), waits("2", "m1", "QOSGrpCpuLimit")], [{"1", "2"}]),
+     [waits("1", "m1", "QOSMaxJobsPerUserLimit"), waits("2", "m1", "MaxCpuPerAccount")], [{"1", "2"}]),
     ("the first of an array", "5-1:m1 5-2:m2 5-3:m3", [waits("5-2", "m2"), waits("5-1", "m1"), waits("5-3", "m3")],
      [set(), {"5-1"}, {"5-1", "5-2", "5-3"}]),
     ("the first on a node", "1:m1 2:m1 3:m2", [waits("1", "m1"), waits("2", "m1"), waits("3", "m2")],
@@ -586,13 +477,13 @@ def elsewhere() -> None:
     """A job that a node refused prefers others, those with free slots and its own first."""
     rows, nodes = [job("5-2", near=("m1", "m3")), job("5-3")], [node(f"m{number}") for number in range(1, 8)]
     book = book_of("m1 m2 m3 m4 m5 m6", "9:m2 8:m2 7:m2 6:m2 4:m4")
-    seen = slurm.said.Seen(book, frozenset(), by_name(nodes), by_name(rows), NOW, avoided={"5": {"m1"}, "6": {"m2"}})
-    found = slurm.said.news(seen, partition()).lines
+    seen = Observed(book, frozenset(), by_name(nodes), by_name(rows), NOW, avoided={"5": {"m1"}, "6": {"m2"}})
+    found = firm_lines.news(seen, partition()).lines
     require(found[1:] == ["task light 5-2 m3 m5 m6 m4", "task light 5-3 m3 m5 m6 m4"], found)
 
 
 def late() -> None:
-    """A job that isn't started for half a minute gives its slot back, but for time in which Slurm was away."""
+    """A job that isn't started for half a minute releases its slot; time in which Slurm was away does not count."""
     book, nodes = book_of("m1", "1:m1 2:-"), by_name([node("m1")])
     for rows, wanted in (
         ([job("1")], 30.0),
@@ -605,9 +496,161 @@ def late() -> None:
             if found is None and refusals.find(book, nodes, by_name(rows), NOW + look / 2):
                 found = look / 2
         require(found == wanted, f"{rows}: after {found} s instead of {wanted}")
+    silent = by_name([node("m1", UNCLEAR), node("m2")])
+    stuck = by_name([waits("1", "m1", "ReqNodeNotAvail"), job("3", state=LEAVING, node="m1")])
+    for there, is_late in ((silent, True), (by_name([node("m1", UNCLEAR), node("m2", CLOSED)]), False)):
+        refusals = slurm.refusals.Refusals()
+        ends = [look / 2 for look in range(80) if refusals.find(book, there, stuck, NOW + look / 2)]
+        require(ends[:1] == ([30.0] if is_late else []), f"on a silent node: after {ends[:1]} s")
     refusals = slurm.refusals.Refusals()
     for at in (0.0, 10.0, 500.0):
         require(not refusals.find(book, nodes, {"1": job("1")}, NOW + at), "Slurm was away")
+    refusals = slurm.refusals.Refusals()
+    for look in range(11):
+        at = NOW + look / 2  # its user sets a later time again and again
+        later = refusals.find(book, nodes, {"1": waits("1", "m1", "BeginTime", eligible=at + 4)}, at)
+        require(bool(later) == (look == 10), f"a job that begins later at each look: {later} at look {look}")
+
+
+def tried() -> None:
+    """Of jobs of a kind that was refused, firm has one to start, and one more for each that starts."""
+    nodes, rows = by_name([node("m1"), node("m2")]), {str(number): job(str(number)) for number in range(1, 6)}
+    rows |= {"9": job("9", kind=("other",)), "8": running("8", "m2")}
+    refusals, book = slurm.refusals.Refusals(), book_of("m1 m2", "1:m1")
+    looks: list[tuple[list[reading.SlurmJob], dict[Any, int]]] = [
+        ([], {}),
+        ([waits("1", "m1", "BadConstraints", hold=HELD)], {JOB.kind: 1}),
+        ([waits("1", "m1", "None")], {JOB.kind: 1}),
+        ([running("1", "m1"), running("2", "m1")], {JOB.kind: 3}),
+        (
+            [running("1", "m1"), running("2", "m1"), running("9", "m2", kind=("other",))],
+            {JOB.kind: 3},
+        ),
+        ([waits("1", "m1", "Licenses"), running("2", "m1")], {JOB.kind: 1}),
+        ([running("1", "m1"), running("2", "m1")], {JOB.kind: 2}),
+        ([waits("1", "m1"), running("2", "m1")], {JOB.kind: 2}),
+        ([waits("1", "m1"), running("2", "m1")], {JOB.kind: 1}),
+        ([running(str(number), "m1") for number in range(1, 6)], {}),
+    ]
+    for changes, wanted in looks:
+        refusals.find(book, nodes, rows | by_name(changes), NOW)
+        require(refusals.tries(NOW) == wanted, f"{changes}: {refusals.tries(NOW)}")
+    for tasks, count, lines in (
+        ("", 2, ["task light 1", "task light 2", "task light 9"]),
+        ("3:-", 2, ["task light 1", "task light 9"]),
+        ("8:m2 3:m1 4:m1", 2, ["task light 9"]),
+        ("9:- 1:- 2:- 3:m1", 2, ["done 2"]),
+        ("1:- 2:m1 3:m1", 1, ["done 1", "task light 9"]),
+    ):
+        seen = Observed(book_of("m1 m2", tasks), frozenset(), nodes, rows, NOW, tries={JOB.kind: count})
+        found = [line for line in firm_lines.news(seen, partition()).lines if not line.startswith("job")]
+        require(found == lines, f"{count} to start of {tasks}: {found}")
+
+
+def paused() -> None:
+    """Jobs of a kind that was refused end no others but after ever longer pauses, until one of it starts."""
+    refusals, nodes, book = slurm.refusals.Refusals(), by_name([node("m1")]), book_of("m1", "1:m1")
+    other = running("8", "m1", kind=(*JOB.kind[:2], "seat", "user", "other"))
+    bad = waits("1", "m1", "BadConstraints", hold=HELD)
+    for seconds, rows, counts in (
+        (0, [bad, other], {0: 0, 4: 0, 5: 1}),
+        (1, [bad, other], {4: 0, 5: 1}),
+        (5, [bad, other], {5: 0, 14: 0, 15: 1}),
+        (15, [bad, other], {15: 0, 34: 0, 35: 1}),
+        (16, [job("1"), other], {16: 0, 34: 0, 35: 1}),
+        (17, [job("1")], {17: 1}),  # one of the same user has ended
+        (18, [bad], {18: 0, 57: 0, 58: 1}),
+        (19, [job("1"), running("2", "m1")], {19: 2}),
+        (20, [bad, running("2", "m1")], {20: 0, 25: 1}),
+    ):
+        refusals.find(book, nodes, by_name(rows), NOW + seconds)
+        found = {after: refusals.tries(NOW + after, {JOB.kind})[JOB.kind] for after in counts}
+        require(found == counts, f"after {seconds} s: {found} instead of {counts}")
+        alone = [refusals.tries(NOW + seconds), refusals.tries(NOW + seconds, {JOB.kind}, 9)]
+        require(all(tries[JOB.kind] >= 1 for tries in alone), f"after {seconds} s, where it preempts none: {alone}")
+
+
+def first() -> None:
+    """Beyond the free slots one job of a kind preempts another, and three once one of it has started meanwhile."""
+    kind = ("heavy", *JOB.kind[1:])
+    rows = [job(f"7-{index}", account="heavy", kind=kind) for index in range(1, 4)] + [job("9")]
+    refusals, nodes, full = slurm.refusals.Refusals(), by_name([node("m1")]), "1:m1 2:m1 3:m1 4:m1"
+    started, every = running("7-4", "m1", account="heavy", kind=kind), ["7-1", "7-2", "7-3", "9"]
+    earlier = started._replace(name="6")
+    for what, tasks, other, wanted in (
+        ("one runs at the first look", full, earlier, ["7-1", "9"]),
+        ("it goes on", full, earlier, ["7-1", "9"]),
+        ("a free slot", "1:m1 2:m1 3:m1", None, ["7-1", "7-2", "9"]),
+        ("no free slot", full, None, ["7-1", "9"]),
+        ("one has started", full, started, every),
+        ("it has ended", full, None, every),
+    ):
+        book, found = book_of("m1", tasks), by_name([*rows, *([other] if other else [])])
+        refusals.find(book, nodes, found, NOW)
+        kinds = firm_lines.preempting(book, found.values(), partition())
+        tries = refusals.tries(NOW, kinds, book.slots - len(book.tasks))
+        lines = firm_lines.news(Observed(book, frozenset(), nodes, found, NOW, tries=tries), partition()).lines
+        told = [line.split()[2] for line in lines if line.startswith("task")]
+        require(told == wanted, f"{what}: {told} instead of {wanted}")
+
+
+def blamed() -> None:
+    """If jobs are refused together, Slurm has tried only the first of an array on its node: half as many of its kind
+    may try."""
+    nodes, book = by_name([node("m1"), node("m2")]), book_of("m1 m2", "1:m1 2:m1 3:m2")
+    refusals = slurm.refusals.Refusals()
+    rows = by_name([waits(str(number), f"m{1 + number // 3}", kind=(str(number),)) for number in (1, 2, 3)])
+    for wanted in ({}, {("1",): 1, ("3",): 1}, {("1",): 1, ("3",): 1}):
+        refusals.find(book, nodes, rows, NOW)
+        require(refusals.tries(NOW) == wanted, f"{refusals.tries(NOW)} instead of {wanted}")
+    refusals, book = slurm.refusals.Refusals(), book_of("m1 m2", "1:m1 5-2:m1 5-3:m2")
+    rows = by_name([waits("1", "m1", kind=("1",)), waits("5-2", "m1"), waits("5-3", "m2")])
+    for wanted in ({}, {("1",): 1}, {("1",): 1}):
+        refusals.find(book, nodes, rows, NOW)
+        require(
+            refusals.tries(NOW) == wanted,
+            f"an array behind another job on one of its nodes: {refusals.tries(NOW)}",
+        )
+    refusals, book, given = slurm.refusals.Refusals(), book_of("m1", "1:m1 2:m1"), []
+    rows = by_name([waits("1", "m1"), waits("2", "m1")])
+    for _ in range(5):
+        pauses = refusals.find(book, by_name([node("m1")]), rows, NOW)
+        given.append((pauses.get("1"), pauses.get("2")))
+    require(given == [(None, None), (5, None), (10, 5), (20, 5), (40, 5)], f"behind another job, pauses: {given}")
+    refusals, book = slurm.refusals.Refusals(), book_of("m1 m2", "1:m1 2:m1 3:m1 4:m2 5:m2 6:m2")
+    rows = by_name([waits(str(number), f"m{1 + number // 4}") for number in range(1, 7)])
+    counts = []
+    for _ in range(4):
+        refusals.find(book, nodes, rows, NOW)
+        counts.append(refusals.tries(NOW).get(JOB.kind))
+    require(counts == [None, 3, 1, 1], f"of six jobs of a kind that are refused: {counts}")
+
+
+def merged() -> None:
+    """Once four kinds of a user's jobs were refused, firm has one job of theirs to start, whatever else these ask
+    for."""
+    numbers = range(1, 9)
+    nodes, book = by_name([node("m1")]), book_of("m1", "1:m1 2:m1 3:m1 4:m1 5:- 6:- 7:-")
+    kinds = {str(number): (*JOB.kind[:3], "other" if number == 8 else "user", str(number)) for number in numbers}
+    refusals = slurm.refusals.Refusals()
+
+    def look(count: int) -> dict[str, reading.SlurmJob]:
+        rows = [waits(name, "m1", "BadConstraints", hold=HELD, kind=kinds[name]) for name in "1234"[:count]]
+        rows += [job(name, kind=kinds[name]) for name in "12345678"[count:]]
+        found = refusals.merged(by_name(rows))
+        refusals.find(book, nodes, found, NOW)
+        return refusals.merged(by_name(rows))
+
+    require([look(3)[name].kind for name in kinds] == list(kinds.values()), "three kinds are merged")
+    found = look(4)
+    require([found[name].kind for name in kinds] == [*[("user",)] * 7, kinds["8"]], "four kinds are not merged")
+    require(refusals.tries(NOW)[("user",)] == 1, f"{refusals.tries(NOW)}")
+    seen = Observed(book, frozenset(), nodes, found, NOW, tries=refusals.tries(NOW))
+    lines = firm_lines.news(seen, partition()).lines
+    require(lines == ["done 5", "done 6", "done 7", "task light 8"], f"four to start of one that may: {lines}")
+    refusals.find(book_of("m1"), nodes, refusals.merged({}), NOW)
+    rows = by_name([job("7", kind=kinds["7"])])
+    require(refusals.merged(rows) == rows and not refusals.tries(NOW), "without pending jobs nothing is remembered")
 
 
 def licences() -> None:
@@ -615,17 +658,23 @@ def licences() -> None:
     rows = [job(str(number), licences=(("a", 2),) if number > 1 else ()) for number in range(1, 6)]
     for free, tasks, wanted in ((1, "", "1"), (4, "", "123"), (4, "2:-", "13"), (4, "2:m1", "13")):
         book = book_of("m1", tasks)
-        seen = slurm.said.Seen(book, frozenset(), by_name([node("m1")]), by_name(rows), NOW, {"a": free})
-        found = [line for line in slurm.said.news(seen, partition()).lines if line.startswith("task")]
+        seen = Observed(book, frozenset(), by_name([node("m1")]), by_name(rows), NOW, {"a": free})
+        found = [line for line in firm_lines.news(seen, partition()).lines if line.startswith("task")]
         require(found == [f"task light {name}" for name in wanted], f"{free} free, {tasks}: {found}")
+    heavy: dict[str, list[str]] = {"2:-": ["job heavy 1000", "task heavy 3"], "2:m1": []}
+    for task, told in heavy.items():
+        both = by_name([*rows[:2], job("3", account="heavy", licences=(("a", 2),))])
+        seen = Observed(book_of("m1", f"1:- {task}"), frozenset(), {}, both, NOW, {"a": 2})
+        found = firm_lines.news(seen, partition()).lines
+        require(found == ["drain m1", *told], f"a heavy job behind a light one, {task}, with licences for one: {found}")
     gone = by_name([running("2", "m1")._replace(licences=(("a", 2),)), *rows[2:]])
-    seen = slurm.said.Seen(book_of("m1", "2:m1"), frozenset(), by_name([node("m1")]), gone, NOW, {"a": 2})
-    require(slurm.said.news(seen, partition()).lines == ["task light 3"], "what runs has its licences already")
+    seen = Observed(book_of("m1", "2:m1"), frozenset(), by_name([node("m1")]), gone, NOW, {"a": 2})
+    require(firm_lines.news(seen, partition()).lines == ["task light 3"], "what runs has its licences already")
 
 
 def strays() -> None:
     book = book_of("m1 m2", "1:m1 2:m2 3:-")
-    found = slurm.said.strays(book, {"1": "m1", "2": "m1", "3": "m1", "4": "m1"})
+    found = firm_lines.strays(book, {"1": "m1", "2": "m1", "3": "m1", "4": "m1"})
     require(found == ["done 2", "done 3"], found)
 
 
@@ -642,19 +691,31 @@ def done() -> None:
     for free, nodes in (("no CPU", node("m1", allocated=4)), ("one CPU", node("m1", allocated=3))):
         found = deeds(book_of("m1", "1:m1 2:m1"), [job("1"), job("2")], nodes)
         require(found == ([] if free == "no CPU" else [[PIN], ["release 1"]]), f"{free} is free: {found}")
+    found = deeds(book_of("m1", "1:- 2:-"), [running("1", "m1", reason="JobHeldAdmin"), running("2", "m1", priority=7)])
+    require(found == [["requeuehold Incomplete 2", "requeue Incomplete 1"]], f"a job that root holds, running: {found}")
+    found = deeds(book_of("m1", "1:m1"), [job(may_requeue=False)])
+    require(found == [[f"{PIN} Requeue=1"], ["release 1"]], f"a job with --no-requeue: {found}")
+    marked = [running("1", "m1", is_roots=True), job("2-3", hold=OTHER, reason="JobHeldAdmin")]
+    found = deeds(book_of("m1", "1:-"), marked, unmarked=frozenset({"2-3"}))
+    require(found == [["requeue Incomplete 1", "update JobId=2_3 Comment=firm:admin"]], f"root's holds: {found}")
     many = [job(f"5-{index}", hold=RELEASED) for index in range(250)]
     (holds,) = deeds(book_of(), many)
     require([line.count(",") + 1 for line in holds] == [100, 100, 50], "elements of an array in a command")
+    names = [f"m{number}" for number in range(1, 101)]
+    placed = {str(number): names[number // 4] for number in range(400)}
+    book = book_of(" ".join(names), " ".join(f"{task}:{name}" for task, name in placed.items()))
+    pins, releases = deeds(book, [job(task) for task in placed], *map(node, names))
+    require(len(pins) == len(releases) == 300, f"at a look {len(pins)} pins, {len(releases)} releases")
 
 
-def deeds(book: Book, rows: list[reading.Job], *nodes: reading.Node, **fields: Any) -> list[list[str]]:
+def deeds(book: Book, rows: list[reading.SlurmJob], *nodes: reading.Node, **fields: Any) -> list[list[str]]:
     there = by_name(list(nodes) or [node("m1"), node("m2")])
-    seen = slurm.said.Seen(book, frozenset(book.tasks), there, by_name(rows), NOW, **fields)
-    return slurm.done.deeds(seen, partition()).phases()
+    seen = Observed(book, frozenset(book.tasks), there, by_name(rows), NOW, **fields)
+    return slurm.actions.deeds(seen, partition()).phases()
 
 
 def settled() -> None:
-    """What the deeds lead to needs no further deed, and firm has nothing new to hear."""
+    """The state after the orders needs no further order, and no further line for firm."""
     for name, tasks, rows, _ in DEEDS:
         book = book_of("m1 m2", tasks)
         after = [follow(row, book) for row in rows]
@@ -662,8 +723,8 @@ def settled() -> None:
         require(again == [], f"{name}: then {again}")
 
 
-def follow(row: reading.Job, book: Book) -> reading.Job:
-    """The job once Slurm has obeyed."""
+def follow(row: reading.SlurmJob, book: Book) -> reading.SlurmJob:
+    """Return the job once Slurm has obeyed."""
     task = book.tasks.get(row.name)
     machine = task.machine if task else None
     if row.state is LEAVING or row.hold is OTHER or task is None and not row.is_pending:
@@ -683,40 +744,33 @@ def differences() -> None:
     require(counts == slurm.differences.Standing(1, 1, 1, 1, 2, 1, []), counts)
 
 
-def tables() -> None:
-    with tempfile.TemporaryDirectory() as name:
-        path = Path(name) / "slurm.toml"
-        for fault, text in FAULTY_TABLES.items():
-            path.write_text(text)
-            try:
-                slurm.table.Table.read(path)
-            except TableError as error:
-                require(fault in str(error), f"{error} instead of {fault}")
-            else:
-                require(False, f"{fault}: it is taken")
-        path.write_text("view = 'v'\n[partitions.a]\nsocket = 's'\n[partitions.b]\nsocket = 't'\ntenant = 'c'\n")
-        found = slurm.table.Table.read(path)
-        require([(one.name, one.tenant) for one in found.partitions] == [("a", "a"), ("b", "c")], found)
-
-
 CHECKS: dict[str, Check] = {
     "states of nodes": uses,
     "jobs": jobs,
     "nodes": nodes,
     "reservations": reserved,
     "what is said": said,
+    "commands of a look": awaited,
     "what was not taken over": strays,
     "what Slurm refuses": refused,
     "what starts late": late,
     "what starts elsewhere": elsewhere,
+    "a few that try": tried,
+    "what preempts rarely": paused,
+    "what preempts first": first,
+    "which of several is to blame": blamed,
+    "a user of many kinds": merged,
     "licences": licences,
     "what is done": done,
     "what is done ends": settled,
     "what differs": differences,
     "faulty tables": tables,
     "what check tells": checked,
-    "what the hook bounds": sized,
+    "the sizes that the hook has": sized,
+    "what the hook bounds": bounded,
     "jobs that were launched late": launched,
+    "jobs whose dependencies failed": failed,
+    "jobs whose launch failed": relaunched,
 }
 
 

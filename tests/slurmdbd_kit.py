@@ -1,4 +1,4 @@
-"""slurmdbd over a MariaDB of its own on loopback: a user of a cluster of slurm_kit has two accounts and two QOS."""
+"""slurmdbd over a separate MariaDB on loopback: a user of a cluster of slurm_kit has two accounts and two QOS."""
 
 from __future__ import annotations
 
@@ -37,12 +37,12 @@ AccountingStorageEnforce=associations,limits,qos"""
 GRANT = "CREATE DATABASE slurm; GRANT ALL ON slurm.* TO slurm@'127.0.0.1' IDENTIFIED BY 'slurm'"
 USER = "nobody"
 ACCOUNTS, QOS = ("light", "heavy"), ("normal", "heavy")  # of the user
-OTHERS = "others"  # an account and a QOS that are not his
+OTHERS = "others"  # an account and a QOS of other users
 SMALL = ["--innodb-buffer-pool-size=16M", "--innodb-log-file-size=8M", "--innodb-flush-log-at-trx-commit=0"]
 
 
 def require_packages() -> None:
-    """Skips the check where Debian's packages are not there."""
+    """Skip the check without Debian's packages."""
     path = f"{os.environ['PATH']}:/usr/sbin"
     missing = [name for name in PROGRAMS if shutil.which(name, path=path) is None]
     if missing:
@@ -58,11 +58,11 @@ class Slurmdbd:
         self._database: subprocess.Popen[bytes] | None = None
 
     def conf(self, folder: Path) -> str:
-        """What slurm.conf has of it."""
+        """Return its lines of slurm.conf."""
         return SLURM_CONF.format(port=self._port, folder=folder)
 
     def start(self, cluster: Cluster) -> None:
-        """Starts both, and tells slurmdbd of the cluster and its user."""
+        """Start both, and register the cluster and its user with slurmdbd."""
         self._start_database(cluster)
         path = cluster.folder / "slurmdbd.conf"
         words = {"folder": cluster.folder, "host": os.uname().nodename, "port": self._port, "database": self._port + 1}

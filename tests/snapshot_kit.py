@@ -1,4 +1,4 @@
-"""A firmd that makes snapshots: what checks of it ask, wait for and look at."""
+"""The kit for checks of snapshots: requests to a firmd that makes them, waits and inspections."""
 
 from __future__ import annotations
 
@@ -14,7 +14,7 @@ from harness.deployed import Books, snapshots
 from journal_kit import QUESTIONS, ROUNDS, ask_all
 
 LINES = 20  # of a segment, and so of a snapshot
-PATIENT = 120.0  # seconds for a snapshot, on a busy host
+PATIENT = 300.0  # seconds for a snapshot, on a busy host
 MORE = [b"alpha task j b", b"alpha round", b"alpha done a", b"beta round", b"alpha fly", b"beta show"]
 
 
@@ -27,43 +27,43 @@ def named(daemon: Daemon) -> list[int]:
 
 
 def has_snapshots(daemon: Daemon, count: int) -> None:
-    """Waits until so many snapshots are there; a further one may be under way."""
+    """Wait until this many snapshots exist; a further one may be under way."""
     wait_for(lambda: len(named(daemon)) >= count, f"{count} snapshots: {daemon.said().decode()}", PATIENT)
 
 
 def last_lines(daemon: Daemon) -> int:
-    """How many lines are in the last snapshot that is there."""
+    """Return the number of lines in the last complete snapshot."""
     found = named(daemon)
     return snapshots.read(daemon.state / "snapshots", found[0]).base.lines if found else 0
 
 
 def holds(daemon: Daemon, lines: int) -> None:
-    """Waits until so many lines are in a snapshot."""
+    """Wait until a snapshot has this many lines."""
     wait_for(lambda: last_lines(daemon) >= lines, f"{lines} lines in a snapshot: {daemon.said().decode()}", PATIENT)
 
 
 def settles(daemon: Daemon, said: Sequence[bytes]) -> None:
-    """Waits until the last snapshot that is due with these lines is there, beside the one before it alone."""
-    holds(daemon, (len(said) - 1) // LINES * LINES)  # a segment is full when the line behind it comes
+    """Wait until the last snapshot due after these lines exists, beside only the one before it."""
+    holds(daemon, (len(said) - 1) // LINES * LINES)  # a segment is full when its next line arrives
     wait_for(lambda: len(named(daemon)) == 2, f"two snapshots: {daemon.said().decode()}", PATIENT)
 
 
 def goes_on(setup: Setup, daemon: Daemon, said: list[bytes], asked: Sequence[bytes] = QUESTIONS) -> None:
-    """Asks it, and that its replies are those of firm alone to all lines; adds the questions to these."""
+    """Send it further lines, add them to these, and require the replies of firm alone to all lines."""
     replies = ask_all(daemon, list(asked))
     said += asked
     require(replies == setup.alone(ROSTER, text_of(said))[-len(asked) :], f"other replies: {replies}")
 
 
 def replayed(daemon: Daemon) -> int:
-    """How many lines it says to have replayed at its start."""
+    """Return the number of lines that it reports to have replayed at its start."""
     words = daemon.said().partition(b"firmd: ready: ")[2].split()
     return int(words[0].replace(b",", b""))
 
 
 @contextmanager
 def with_snapshots(setup: Setup, *options: str) -> Iterator[tuple[Daemon, list[bytes]]]:
-    """A daemon that has made two snapshots and goes on; and its lines, some of them behind the snapshots."""
+    """Start a daemon that has made two snapshots and goes on; yield it and its lines, some after the snapshots."""
     with setup.daemon("--snapshot-lines", str(LINES), *options) as daemon:
         said: list[bytes] = []
         daemon.start()
@@ -77,7 +77,7 @@ def with_snapshots(setup: Setup, *options: str) -> Iterator[tuple[Daemon, list[b
 
 
 def books_of(setup: Setup, lines: list[bytes], roster: bytes = ROSTER) -> Books:
-    """The books by firm's replies to all lines."""
+    """Return the books by firm's replies to all lines."""
     books = Books()
     books.start(roster)
     books.replied_all(lines, setup.alone(roster, text_of(lines)), None)
@@ -85,7 +85,7 @@ def books_of(setup: Setup, lines: list[bytes], roster: bytes = ROSTER) -> Books:
 
 
 def shown(daemon: Daemon, lines: int) -> dict[str, Any]:
-    """What readers are shown that doesn't change with time, once so many lines are."""
+    """Return the view of readers, without its times, once this many lines are shown."""
     found: dict[str, Any] = {}
 
     def are_shown() -> bool:
@@ -97,29 +97,29 @@ def shown(daemon: Daemon, lines: int) -> dict[str, Any]:
 
 
 def shown_now(daemon: Daemon) -> dict[str, Any]:
-    found = {command: asked(daemon, command) for command in ("status", "tasks")}
-    for task in found["tasks"]["tasks"]:
+    status = asked(daemon, "status")
+    rows = [asked(daemon, "watch", tenant=tenant["tenant"])["book"] for tenant in status["tenants"]]
+    for task in (task for book in rows if book is not None for task in book["tasks"]):
         task.pop("seconds")
-    status = found.pop("status")
-    return {**found, "tenants": status["tenants"], "lines": status["status"]["lines"]}
+    return {"rows": rows, "tenants": status["tenants"], "lines": status["status"]["lines"]}
 
 
-def asked(daemon: Daemon, command: str) -> Any:
-    """What firmctl prints, which is the view's answer."""
+def asked(daemon: Daemon, command: str, **words: str) -> Any:
+    """Return the view's answer."""
     with Client(daemon.state / "view") as view:
-        answer = json.loads(view.ask(json.dumps({"ask": command}).encode()))
+        answer = json.loads(view.ask(json.dumps({"ask": command, **words}).encode()))
     require("error" not in answer, answer)
     return answer
 
 
 def failures(daemon: Daemon) -> int:
-    """How many snapshots could not be made."""
+    """Return the number of failed snapshots."""
     found: int = asked(daemon, "status")["status"]["snapshot_failures"]
     return found
 
 
 def processes(daemon: Daemon) -> list[int]:
-    """Those that it has started, by any of its threads, and that have not ended."""
+    """Return the running processes that it has started, by any of its threads."""
     found: list[int] = []
     for thread in Path(f"/proc/{daemon.running().pid}/task").iterdir():
         with suppress(OSError):  # it has ended meanwhile
@@ -128,7 +128,7 @@ def processes(daemon: Daemon) -> list[int]:
 
 
 def children(daemon: Daemon) -> list[bytes]:
-    """The command lines of these."""
+    """Return the command lines of these."""
     found: list[bytes] = []
     for pid in processes(daemon):
         with suppress(OSError):

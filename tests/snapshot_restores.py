@@ -1,5 +1,6 @@
-"""Services that begin with a state in the place of a roster: that of another service, or of a tenant that moves, or one
-with another heading than a snapshot. tests/snapshots.py runs these checks.
+"""Checks of services that begin with a state in the place of a roster, which tests/snapshots.py runs.
+
+The state is that of another service, of a tenant that moves, or one with another heading than a snapshot.
 """
 
 from __future__ import annotations
@@ -59,13 +60,13 @@ def restores(setup: Setup) -> None:
 
 
 def begin_with(daemon: Daemon, state: Path) -> None:
-    """Starts it with a state in its roster's place."""
+    """Start it with a state in its roster's place."""
     daemon.restored = state
     daemon.start()
 
 
 def moves(setup: Setup) -> None:
-    """A tenant goes to another service by two commands, with all that it had."""
+    """A tenant moves to another service by two commands, with its whole state."""
     with setup.daemon() as here, setup.daemon(roster=HEADING + b"gamma,30,300,1000,0,0\n") as there:
         said = [*ROUNDS, b"alpha task j waits", b"alpha round"]
         here.start()
@@ -88,8 +89,8 @@ def moves(setup: Setup) -> None:
 
 
 def patience(setup: Setup) -> None:
-    """Snapshots and restored states keep whether a service accepts a patience, by their first line. A snapshot with
-    another one than the service's is reported and not used."""
+    """Snapshots and restored states record in their first line whether a service accepts a patience. A snapshot that
+    differs from its service in this is reported and not used."""
     comes = [b"+ admit gamma,30,300,1000,1,2,0,2", b"gamma job j 5", b"gamma task j t", *[b"gamma round"] * 4]
     asked = [b"gamma round", b"gamma costs", b"+ admit delta,2,0,9,0,0,0,7", b"+ retire delta"]
     for roster in (ROSTER, firmd_kit.extended(ROSTER, LONGEST_PATIENCE)):

@@ -1,7 +1,7 @@
-"""Has firmd make snapshots, start from them and change over to a fresh firm, damages them, and kills it meanwhile.
+"""Check snapshots of firmd, starts from them and changes to a fresh firm; damage them, and kill firmd meanwhile.
 
 usage: tools/run tests/snapshots.py [--quick] [--program FILE] [--state FILE] [--only WORDS] [--kills N] [--seed N]
-Each check has a line; the last line is 'N passed, M failed', and the exit status is 1 where one failed. It needs the
+Each check prints a line; the last line is 'N passed, M failed', and the exit status is 1 if one failed. It needs the
 built firm and firm_state. firm alone, over all lines of the journal from its beginning, is the judge of each reply.
 """
 
@@ -26,6 +26,7 @@ from pathlib import Path
 import firmd_disks
 import firmd_kit
 import snapshot_restores
+from agent_kit import remove
 from firmd_kit import ROSTER, Client, Daemon, Gone, Setup, Tenant, in_threads, roster_of, wait_for
 from harness import program
 from harness.checks import Check, Suite, require, run_script, run_suites
@@ -53,8 +54,8 @@ from snapshot_kit import (
 )
 
 CHECKS_AT_A_TIME = 4
-MOMENT_SECONDS = 30.0  # at most, until a kill
-LIMIT = 8_000  # bytes that firm may read, where fresh ones take over
+MOMENT_SECONDS = 30.0  # the longest wait before a kill
+LIMIT = 8_000  # bytes that firm may read before a fresh one takes over
 
 
 @dataclass(frozen=True)
@@ -67,7 +68,7 @@ class Options(Setup):
 
 
 def folds(setup: Options) -> None:
-    """States are folded, joined and cut as firm goes on from them; faults have the words of firm_state."""
+    """States are folded, joined and cut as firm continues from them; faults have the words of firm_state."""
     with setup.daemon() as daemon:
         roster, first, rest = daemon.folder / "roster.csv", [*ROUNDS, *MORE], [*QUESTIONS, *MORE]
         opening = service_states.Opening(roster)
@@ -81,12 +82,14 @@ def folds(setup: Options) -> None:
             require(
                 service_states.fold(state, pieces) == service_states.fold(opening, [text_of([*first, *rest])]), "law"
             )
-            parts = [service_states.fold(state, part=service_states.Part(tenants=[name])) for name in ("beta", "alpha")]
+            parts = [
+                service_states.fold(state, part=service_states.StatePart(tenants=[name])) for name in ("beta", "alpha")
+            ]
             require([len(service_states.tenants_of(part)) for part in parts] == [1, 1], "cut")
-            refused(service_states.Part(tenants=["gamma"]), state, ("tenant", 26, "no-such-tenant", None))
-            refused(service_states.Part(merged=[state.path]), state, ("tenant", 25, "tenant-exists", None))
+            refused(service_states.StatePart(tenants=["gamma"]), state, ("tenant", 26, "no-such-tenant", None))
+            refused(service_states.StatePart(merged=[state.path]), state, ("tenant", 25, "tenant-exists", None))
         with service_states.state_file(parts[1]) as alpha, service_states.state_file(parts[0]) as beta:
-            joined = service_states.fold(alpha, part=service_states.Part(merged=[beta.path]))
+            joined = service_states.fold(alpha, part=service_states.StatePart(merged=[beta.path]))
             both = [service_states.tenants_of(parts[1]), service_states.tenants_of(parts[0])]
             require(service_states.tenants_of(joined) == both[0] + both[1] == service_states.tenants_of(text), joined)
         with service_states.state_file(text.replace(b" at ", b" on ", 1)) as state:
@@ -100,18 +103,18 @@ def folds(setup: Options) -> None:
 
 
 def hangs(setup: Options) -> None:
-    """A firm_state that takes nothing, says nothing, doesn't end or writes without end is killed, and that is told."""
+    """A firm_state that reads nothing, is silent, doesn't end or writes without end is killed and reported."""
     del setup
     with tempfile.TemporaryDirectory(prefix="firm-") as name:
-        for script, said in HANGING:
+        for script, seconds, said in HANGING:
             named = {**os.environ, "FIRM_STATE_PROGRAM": firmd_kit.stand_in(Path(name), f"#!/bin/sh\n{script}\n")}
-            words = [sys.executable, "-c", HUNG, name]
+            words = [sys.executable, "-c", HUNG, name, str(seconds)]
             done = subprocess.run(words, capture_output=True, text=True, env=named, timeout=PATIENT)
             require((done.returncode, done.stdout.strip()) == (0, said), f"{script}: {done}")
 
 
 def files_of_killed(setup: Options) -> None:
-    """A state's text is in no file that a killed process leaves behind."""
+    """No file that a killed process leaves has a state's text."""
     del setup
     with tempfile.TemporaryDirectory(prefix="firm-") as name:
         words = [sys.executable, "-c", KILLED]
@@ -122,38 +125,40 @@ def files_of_killed(setup: Options) -> None:
 
 KILLED = """\
 import os, subprocess, sys
-from firm_service import states
+from firm.server import firm_state as states
 with states.state_file(b"firm state 1\\nplace admissions 1\\nrows 1\\n") as opening:
     print(subprocess.run(["cat", opening.path], capture_output=True, text=True).stdout, flush=True)
     os.kill(os.getpid(), 9)
 """
-SILENCE = "-9 it has neither taken nor written anything for 1 s, so it is killed"
+SILENCE = "-9 no input or output for 1 s: killing it"
+# For each case: a program in the place of firm_state, its allowed seconds of silence, and the expected words. A program
+# that writes or ends has a minute, as it may begin late on a busy host.
 HANGING = [
-    ("exec sleep 600", SILENCE),
-    ("cat > /dev/null; exec sleep 600", SILENCE),
-    ("cat > /dev/null; exec >&- 2>&-; exec sleep 600", SILENCE),
-    ("exec <&-; exec sleep 600", SILENCE),
-    ("exec yes", "-9 it writes more than any state has, so it is killed"),
-    ("echo firm_state: no >&2; exit 7", "7 firm_state: no"),
+    ("exec sleep 600", 1, SILENCE),
+    ("cat > /dev/null; exec sleep 600", 1, SILENCE),
+    ("cat > /dev/null; exec >&- 2>&-; exec sleep 600", 1, SILENCE),
+    ("exec <&-; exec sleep 600", 1, SILENCE),
+    ("exec yes", 60, "-9 its output exceeds the size of a state: killing it"),
+    ("echo firm_state: no >&2; exit 7", 60, "7 firm_state: no"),
 ]
 HUNG = """\
 import sys
 from pathlib import Path
-from firm_service import states
-states.SILENT_SECONDS = 1.0
+from firm.server import firm_state as states
+states.SILENT_SECONDS = float(sys.argv[2])
 try:
     states.fold(states.Opening(Path(sys.argv[1])), [b"alpha round\\n"] * 100_000)
-except states.StateError as error:
+except states.FirmStateError as error:
     print(error.status, error)
 """
 
 
 def refused(
-    part: service_states.Part, opening: service_states.Opening, fault: tuple[str, int, str, int | None]
+    part: service_states.StatePart, opening: service_states.Opening, fault: tuple[str, int, str, int | None]
 ) -> None:
     try:
         service_states.fold(opening, part=part)
-    except service_states.Refused as error:
+    except service_states.StateRefused as error:
         got = (error.of, error.number, error.name, error.line)
         require(got == fault and str(error).startswith("firm_state: "), f"{got}: {error}")
     else:
@@ -164,7 +169,7 @@ def refused(
 
 
 def starts(setup: Options) -> None:
-    """A start goes on from the last snapshot and its tail, after a kill and a stop, and shows all as before."""
+    """A start continues from the last snapshot and its tail, after a kill and a stop, and shows all as before."""
     with with_snapshots(setup) as (daemon, said):
         for is_killed in (True, False):
             before, lines = shown(daemon, len(said)), last_lines(daemon)
@@ -192,11 +197,11 @@ def starts(setup: Options) -> None:
 
 
 def refused_memory(setup: Options) -> None:
-    """A line that memory was refused to takes no effect in a snapshot, nor behind one."""
+    """A line that was refused for want of memory takes no effect in a snapshot, nor after one."""
     with setup.daemon("--snapshot-lines", "30") as daemon:
         daemon.start()
         ask_all(daemon, [*ROUNDS, *[b"alpha show"] * 20])
-        daemon.kill()  # before the digest of the replies is kept
+        daemon.kill()  # before the digest of the replies is stored
         mark_refused(daemon, 3)  # `alpha task j a`
         daemon.start()
         require(ask_all(daemon, [b"alpha where a"])[0].endswith(b" no 10 no-such-task"), "before a snapshot")
@@ -208,7 +213,7 @@ def refused_memory(setup: Options) -> None:
         ask_all(daemon, [b"alpha task j tail"])
         lines = daemon.journal().count(b"\n")
         daemon.kill()
-        require(last_lines(daemon) < lines, "the line stands behind the snapshot")
+        require(last_lines(daemon) < lines, "the line is in the snapshot")
         mark_refused(daemon, lines)
         daemon.start()
         require(ask_all(daemon, [b"alpha where tail"])[0].endswith(b" no 10 no-such-task"), "behind a snapshot")
@@ -218,19 +223,19 @@ def refused_memory(setup: Options) -> None:
 MARKED = """\
 import sys
 from pathlib import Path
-from firm_service.journal import Journal, Room
-from firm_service.kept import first_base
-from firm_service.state import State
-state = State(Path({state!r}))
+from firm.server.journal import Journal, SegmentLimit
+from firm.server.journal_reader import first_base
+from firm.server.state import ServiceState
+state = ServiceState(Path({state!r}))
 state.read_opening()
-journal = Journal(state, Room(10**7), first_base(state.folder))
+journal = Journal(state, SegmentLimit(10**7), first_base(state.folder))
 journal.keep_refused([{number}])
 journal.close()
 """
 
 
 def mark_refused(daemon: Daemon, number: int) -> None:
-    """Has the journal say that memory was refused to a line."""
+    """Mark a line in the journal as refused for want of memory."""
     script = MARKED.format(state=str(daemon.state), number=number)
     done = subprocess.run([sys.executable, "-c", script], capture_output=True, text=True)
     require(done.returncode == 0, done.stderr)
@@ -240,7 +245,7 @@ def mark_refused(daemon: Daemon, number: int) -> None:
 
 
 def damage(path: Path, draw: random.Random) -> str:
-    """Changes a file somehow; says how."""
+    """Change a file at random; return the change in words."""
     text = path.read_bytes()
     place = draw.randrange(len(text))
     kind = draw.choice(["flip", "flip", "cut", "empty", "remove", "repeat"])
@@ -254,7 +259,7 @@ def damage(path: Path, draw: random.Random) -> str:
 
 
 def damages(setup: Options) -> None:
-    """A damaged snapshot is told and not used, but the one before it and a longer tail, or the whole journal."""
+    """A damaged snapshot is reported and not used; the one before it and a longer tail are, or the whole journal."""
     draw = random.Random(setup.seed)
     with with_snapshots(setup) as (daemon, said):
         daemon.kill()
@@ -271,7 +276,7 @@ def damages(setup: Options) -> None:
             goes_on(setup, daemon, list(said))
             require(trial % 2 == 0 or replayed(daemon) == len(said), f"{what}: {replayed(daemon)} lines")
             daemon.kill()
-            shutil.rmtree(daemon.state)
+            remove(daemon.state)  # a snapshot may just have been made in it
             shutil.copytree(kept, daemon.state)
         for segment, other in zip(first, second):
             segment.write_bytes(other.read_bytes())  # that of another segment
@@ -281,11 +286,11 @@ def damages(setup: Options) -> None:
         daemon.kill()
 
 
-# What is kept.
+# Stored lines and snapshots.
 
 
 def whole_journal(daemon: Daemon, archive: Path) -> bytes:
-    """The lines of the archive and the journal: a daemon that is killed may leave a segment, as it is, in both."""
+    """Return the lines of the archive and the journal: a killed daemon may leave a segment in both."""
     segments = {path.name: path for path in archive.glob("*.lines")}
     for path in daemon.segments():
         archived = segments.setdefault(path.name, path)
@@ -294,7 +299,7 @@ def whole_journal(daemon: Daemon, archive: Path) -> bytes:
 
 
 def keeps(setup: Options) -> None:
-    """Old segments are archived or deleted; then one of the snapshots is needed, and no other line is away."""
+    """Old segments are archived or deleted; a start then needs one of the snapshots, and no other line is missing."""
     for is_archived in (True, False):
         with setup.daemon("--snapshot-lines", "20", "--keep", "0") as daemon:
             archive = daemon.folder / "archive"
@@ -327,7 +332,8 @@ def keeps(setup: Options) -> None:
 
 
 def clocks_jump(setup: Options) -> None:
-    """A clock that is set ahead takes no segment away, nor keeps one for long by what it wrote; nor one set back."""
+    """A clock that is set ahead removes no segment, and its times keep none for long; nor does a clock that is set
+    back."""
     del setup
     now, day = time.time(), 86_400.0
     for times, taken in [
@@ -348,7 +354,7 @@ def clocks_jump(setup: Options) -> None:
 
 
 def clock_is_ahead() -> None:
-    """While a clock is ahead for some seconds, no segment is taken away that is seconds old; a lasting one counts."""
+    """While a clock is ahead for some seconds, no segment is removed that is seconds old; a lasting change counts."""
     day, ahead, steady = 86_400.0, [0.0], [0.0]
     clock = archive.Clock(lambda: 1e9 + steady[0] + ahead[0], lambda: steady[0])
     keeping = archive.Keeping(days=1.0, clock=clock)
@@ -370,7 +376,8 @@ def clock_is_ahead() -> None:
 
 
 def archive_away(setup: Options) -> None:
-    """An archive that can't be written delays no snapshot; once it can, segments go there without a further one."""
+    """An archive that can't be written delays no snapshot; once it can, segments go there without a further
+    snapshot."""
     with setup.daemon("--snapshot-lines", "20", "--keep", "0") as daemon:
         away = daemon.folder / "archive"
         away.write_bytes(b"")
@@ -393,8 +400,7 @@ def archive_away(setup: Options) -> None:
 
 
 def leaves_nothing(setup: Options) -> None:
-    """Parts of snapshots that a crash left go with the next one, and no other file; one that can't be written leaves
-    none."""
+    """The next snapshot removes the parts that a crash left, and no other file; a failed snapshot leaves none."""
     with setup.daemon("--snapshot-lines", "20") as daemon:
         folder = daemon.state / "snapshots"
         folder.mkdir(parents=True)
@@ -417,7 +423,7 @@ def leaves_nothing(setup: Options) -> None:
         )
         daemon.stop()
         held = snapshots.read(folder, named(daemon)[0])
-        for script, told in [(TOO_LITTLE, "which is too little room"), (TOO_LARGE, "File too large")]:
+        for script, told in [(TOO_LITTLE, "bytes free"), (TOO_LARGE, "File too large")]:
             words = [sys.executable, "-c", script, str(folder), str(held.base.segment)]
             done = subprocess.run(words, capture_output=True, text=True)
             require(told in done.stdout, done)
@@ -428,7 +434,7 @@ LEFT = ["00000000.state", "99999999.state.new", "00000000.snapshot.new", "999999
 WRITTEN = """\
 import os, resource, sys
 from pathlib import Path
-from firm_service import snapshots
+from firm.server import snapshots
 folder = Path(sys.argv[1])
 snapshot = snapshots.read(folder, int(sys.argv[2]))
 {}
@@ -447,7 +453,7 @@ os.statvfs = lambda path: os.statvfs_result((*found[:4], 1, *found[5:10]))
 
 
 def fails(setup: Options) -> None:
-    """A snapshot that can't be made is told and counted; the service goes on, and makes one once it can."""
+    """A failed snapshot is reported and counted; the service goes on, and makes one once it can."""
     with setup.daemon("--snapshot-lines", "20") as daemon:
         blocked = daemon.state / "snapshots"
         daemon.state.mkdir()
@@ -472,7 +478,7 @@ def fails(setup: Options) -> None:
 
 
 def seals_once(setup: Options) -> None:
-    """Snapshots that can't be made again and again leave no more segments than one that can."""
+    """However often snapshots fail, they leave no more segments than one that succeeds."""
     with setup.daemon("--snapshot-minutes", "0.0001") as daemon:
         daemon.words = ["env", f"FIRM_STATE_PROGRAM={daemon.folder / 'none'}", *firmd_kit.FIRMD]
         said: list[bytes] = []
@@ -486,11 +492,12 @@ def seals_once(setup: Options) -> None:
 
 
 LARGE = firmd_kit.HEADING + b"alpha,4096,65536,1000000000,1,500\n"
-HASTY = "from firm_service import snapshotting\nsnapshotting.WORK_SECONDS = 0.02\n"
+HASTY = "from firm.server import snapshotting\nsnapshotting.WORK_SECONDS = 0.02\n"
 
 
 def costly_lines(setup: Options) -> None:
-    """A few lines for which firm has worked long, as rounds of many tasks, get a snapshot: so a start needs no more."""
+    """A few lines of long work for firm, such as rounds of many tasks, get a snapshot: so a start does not repeat
+    the work."""
     with setup.daemon(roster=LARGE) as daemon:
         patch(daemon, HASTY)
         daemon.start()
@@ -504,19 +511,20 @@ def costly_lines(setup: Options) -> None:
 
 
 def full_disk(setup: Options) -> None:
-    """On a full disk no segment is begun for a snapshot, and none takes the room that lines have: firmd goes on."""
+    """On a full disk no segment is begun for a snapshot, and no snapshot takes the room reserved for lines: firmd
+    goes on."""
     with setup.daemon("--snapshot-minutes", "0.0001") as daemon:
         daemon.state.mkdir()
         firmd_disks.mount(daemon.state, "-t", "tmpfs", "-o", "size=4m,mode=755", "tmpfs")
         try:
             filling = daemon.state / "filling"
-            filling.write_bytes(bytes(4 * 2**20 - 2**16))  # what is left is for lines, and not for a segment
+            filling.write_bytes(bytes(4 * 2**20 - 2**16))  # the rest has room for lines, and not for a segment
             said: list[bytes] = []
             daemon.start()
             goes_on(setup, daemon, said, ROUNDS)
             wait_for(lambda: failures(daemon) >= 2, f"failures: {daemon.said().decode()}", PATIENT)
             require(b"no segment is begun for a snapshot" in daemon.said(), daemon.said().decode())
-            filling.write_bytes(bytes(3 * 2**20))  # for a segment, and not for a snapshot
+            os.truncate(filling, 3 * 2**20)  # room for a segment, and not for a snapshot
             wait_for(lambda: b"no snapshot was made" in daemon.said(), daemon.said().decode(), PATIENT)
             require(len(daemon.segments()) == 2 and not named(daemon), f"{daemon.segments()}")
             goes_on(setup, daemon, said)
@@ -529,8 +537,8 @@ def full_disk(setup: Options) -> None:
 
 
 def gives_way(setup: Options) -> None:
-    """Who makes a snapshot has a lower priority than firmd and firm, in their session: sessions share the processors
-    whatever the priorities of their processes."""
+    """The process that makes a snapshot has a lower priority than firmd and firm, in their session: across sessions,
+    priorities of processes have no effect."""
     with setup.daemon("--snapshot-lines", "20") as daemon:
         daemon.start()
         session, found = os.getsid(daemon.running().pid), set[tuple[bool, int]]()
@@ -552,14 +560,15 @@ def gives_way(setup: Options) -> None:
 
 
 def changes_over(setup: Options) -> None:
-    """Far more than firm may read goes through: fresh firms go on, and each reply is as from one that reads all."""
+    """firmd accepts far more than firm may read: fresh firms take over, and each reply is that of one that reads
+    all."""
     with setup.daemon("--snapshot-lines", "100", "--journal-limit", str(LIMIT)) as daemon:
         said: list[bytes] = []
         daemon.start()
         goes_on(setup, daemon, said, ROUNDS)
 
         def fresh_firms() -> int:
-            return daemon.said().count(b"a fresh firm goes on from the snapshot")
+            return daemon.said().count(b"restarted firm from the snapshot")
 
         with daemon.client() as client:
             ends, number, replies = time.monotonic() + 2 * PATIENT, 0, list[bytes]()
@@ -580,7 +589,7 @@ def changes_over(setup: Options) -> None:
 
 
 def firms_hang(setup: Options) -> None:
-    """A fresh firm that hangs is killed, and the one that runs goes on; so is a former one that doesn't end."""
+    """A fresh firm that hangs is killed, and the running one goes on; so is a former one that doesn't end."""
     limits = ["--snapshot-lines", "100", "--journal-limit", str(LIMIT), "--firm-timeout", "5"]
     with setup.daemon(*limits) as daemon:
         hanging, daemon.firm = daemon.folder / "hanging", firmd_kit.stand_in(
@@ -592,17 +601,17 @@ def firms_hang(setup: Options) -> None:
         goes_on(setup, daemon, said, ROUNDS)
         first = daemon.firm_process()
         with daemon.client() as client:
-            until_said(daemon, client, said, b"no fresh firm goes on from the snapshot")
+            until_said(daemon, client, said, b"cannot restart firm from the snapshot")
             require(b"firm has not answered for 5 s" in daemon.said(), daemon.said().decode())
             hanging.unlink()
-            until_said(daemon, client, said, b"a fresh firm goes on from the snapshot")
+            until_said(daemon, client, said, b"restarted firm from the snapshot")
         wait_for(lambda: not Path(f"/proc/{first}").exists(), "the former firm is killed", PATIENT)
         goes_on(setup, daemon, said)
         daemon.stop()
 
 
 # In the place of firm. The one that begins with the roster doesn't end with its input; one that begins with a snapshot
-# for firmd itself hangs as long as a file is there.
+# for firmd itself hangs while a file exists.
 HUNG_FIRM = """\
 #!/bin/sh
 case "$*" in
@@ -614,7 +623,7 @@ exec {0} "$@"
 
 
 def until_said(daemon: Daemon, client: Client, said: list[bytes], words: bytes) -> None:
-    """Gives it lines until it says these words."""
+    """Send it lines until it writes this message."""
     ends = time.monotonic() + PATIENT
     while words not in daemon.said():
         require(time.monotonic() < ends, f"{words!r}: {daemon.said().decode()}")
@@ -623,9 +632,10 @@ def until_said(daemon: Daemon, client: Client, said: list[bytes], words: bytes) 
 
 
 def kills(setup: Options, part: int) -> None:
-    """kill -9 or a stop at any moment of a snapshot, a change over and a segment's move: no answered line is lost.
+    """kill -9 or a stop at any moment of a snapshot, a change to a fresh firm and a segment's move: no answered line is
+    lost.
 
-    The long form goes on until each of these moments has come, and was met.
+    The long form goes on until each of these moments has occurred during a kill.
     """
     seed = setup.seed + 1000 * (part + 1)
     draw = random.Random(seed)
@@ -654,7 +664,7 @@ def kills(setup: Options, part: int) -> None:
 
 
 def kill_amid(daemon: Daemon, tenants: list[Tenant], draw: random.Random, moment: Moment) -> bool:
-    """Starts it, has clients ask, and kills it at a moment, or now and then stops it; whether that came."""
+    """Start it with clients, and kill it at a moment, or now and then stop it; return whether the moment came."""
     if draw.random() < 0.2:  # at any moment of its start
         daemon.spawn()
         time.sleep(draw.uniform(0.05, 0.5))
@@ -672,19 +682,19 @@ def kill_amid(daemon: Daemon, tenants: list[Tenant], draw: random.Random, moment
 
 @dataclass(frozen=True)
 class Moment:
-    """When a daemon is killed."""
+    """The moment of a daemon's kill."""
 
     has_come: Callable[[Daemon], bool]
-    most_seconds: float = 0.03  # behind that
+    most_seconds: float = 0.03  # after that
 
 
-# The first of them are those of the quick form.
+# The quick form uses the first of them.
 MOMENTS = {
     "a snapshot is made": Moment(lambda daemon: any(b"firm-snapshot" in words for words in children(daemon)), 0.3),
     "a fresh firm is given lines": Moment(
         lambda daemon: sum(words.startswith(daemon.firm.encode()) for words in children(daemon)) > 1
     ),
-    "a fresh firm goes on": Moment(lambda daemon: b"a fresh firm goes on" in daemon.said()),
+    "a fresh firm goes on": Moment(lambda daemon: b"restarted firm from the snapshot" in daemon.said()),
     "a snapshot is written": Moment(lambda daemon: any((daemon.state / "snapshots").glob("*.new"))),
     "a further snapshot is there": Moment(lambda daemon: len(named(daemon)) > 2),
     "segments are archived": Moment(lambda daemon: b"segments of the journal are in" in daemon.said()),
@@ -693,7 +703,7 @@ MOMENTS = {
 
 
 def end_at(daemon: Daemon, moment: Moment, seconds: float, end: Callable[[], None]) -> bool:
-    """Ends it so long after a moment, which it has some time for; whether that came."""
+    """End it this long after a moment, which it has some time to reach; return whether the moment came."""
     ends = time.monotonic() + MOMENT_SECONDS
     try:
         while not (has_come := moment.has_come(daemon)) and time.monotonic() < ends:
@@ -705,7 +715,7 @@ def end_at(daemon: Daemon, moment: Moment, seconds: float, end: Callable[[], Non
 
 
 def talk(tenant: Tenant, client: Client, draw: random.Random) -> None:
-    """Asks until the connection ends; what firm can't read yet is asked again later."""
+    """Send lines until the connection ends; repeat the lines that firm can't read yet."""
     with client:
         while True:
             for line in tenant.lines(draw.choice([1, 2, 5])):
@@ -754,10 +764,10 @@ def main() -> int:
     program.add_program(parser)
     state = str(program.built("firm_state"))
     parser.add_argument("--state", type=program.program_file, default=state, metavar="FILE")
-    parser.add_argument("--only", default="", help="nothing but the checks whose names have these words")
-    parser.add_argument("--kills", type=int, help="of each part (default: 3 with --quick, else 60)")
+    parser.add_argument("--only", default="", help="run only the checks whose names have these words")
+    parser.add_argument("--kills", type=int, help="kills in each part (default: 3 with --quick, else 60)")
     parser.add_argument(
-        "--seed", type=int, default=random.randrange(10**6), help="of all that is random (default: any)"
+        "--seed", type=int, default=random.randrange(10**6), help="seed of all random choices (default: any)"
     )
     options = parser.parse_args()
     print(f"seed {options.seed}", flush=True)

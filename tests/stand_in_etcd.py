@@ -1,4 +1,4 @@
-"""Stands in for etcd in memory: keys with revisions and leases, answers that are lost, and a quota that is full."""
+"""Stands in for etcd in memory: keys with revisions and leases, lost answers, and an exhausted quota."""
 
 from __future__ import annotations
 
@@ -6,34 +6,45 @@ from collections.abc import Callable, Iterator, Sequence
 from dataclasses import dataclass, field
 from threading import RLock
 
-from firm_service.replicated.etcd import Change, Condition, Done, Full, Put, Row, Rows, Size, Span, Unsure
+from firm.server.replicated.etcd import (
+    KeyChange,
+    Condition,
+    Done,
+    Full,
+    Put,
+    EtcdRow,
+    EtcdRows,
+    DatabaseSize,
+    Span,
+    Unsure,
+)
 
 
 @dataclass
 class Memory:
-    """What all connections share."""
+    """The state that all connections share."""
 
-    rows: dict[bytes, tuple[Row, int]] = field(default_factory=dict)  # each with its lease
+    rows: dict[bytes, tuple[EtcdRow, int]] = field(default_factory=dict)  # each with its lease
     leases: set[int] = field(default_factory=set)
-    history: list[tuple[int, Change]] = field(default_factory=list)
+    history: list[tuple[int, KeyChange]] = field(default_factory=list)
     revision: int = 1
     compacted: int = 0
-    size: Size = Size(0, 1 << 30)
-    is_full: bool = False  # it takes no key and no lease, but has some removed
+    size: DatabaseSize = DatabaseSize(0, 1 << 30)
+    is_full: bool = False  # it takes no key and no lease, but removes some
     lock: RLock = field(default_factory=RLock)
 
     def set(self, put: Put) -> None:
         before = self.rows.get(put.key)
         made = before[0].made if before else self.revision
-        self.rows[put.key] = Row(put.key, put.value, made), put.lease
-        self.history.append((self.revision, Change(put.key, put.value)))
+        self.rows[put.key] = EtcdRow(put.key, put.value, made), put.lease
+        self.history.append((self.revision, KeyChange(put.key, put.value)))
 
     def remove(self, key: bytes) -> None:
         del self.rows[key]
-        self.history.append((self.revision, Change(key, None)))
+        self.history.append((self.revision, KeyChange(key, None)))
 
     def end_lease(self, lease: int) -> None:
-        """As its end does, or its loss."""
+        """End a lease, as its expiry or its loss does."""
         with self.lock:
             self.leases.discard(lease)
             self.revision += 1
@@ -52,12 +63,12 @@ class Connection:
         self.faults: list[str] = []  # of the next transactions: `done` or `lost` without an answer, `again`, or `full`
         self.on_transaction: Callable[[], None] = lambda: None
 
-    def range(self, key: bytes, end: bytes | None = None, limit: int = 0, is_last_first: bool = False) -> Rows:
+    def range(self, key: bytes, end: bytes | None = None, limit: int = 0, is_last_first: bool = False) -> EtcdRows:
         with self.memory.lock:
             last = key + b"\0" if end is None else end
             keys = sorted(found for found in self.memory.rows if key <= found < last)
             keys = keys[::-1] if is_last_first else keys
-            return Rows(self.memory.revision, [self.memory.rows[found][0] for found in keys[: limit or None]])
+            return EtcdRows(self.memory.revision, [self.memory.rows[found][0] for found in keys[: limit or None]])
 
     def last_key(self, key: bytes, end: bytes) -> bytes | None:
         found = self.range(key, end, 1, True).found
@@ -80,7 +91,7 @@ class Connection:
                     self.memory.remove(key)
             if fault == "done":
                 raise Unsure("the answer was lost")
-            # The client itself asks a further member where an answer is lost; this is the answer of the second.
+            # The client itself asks a further member if an answer is lost; this is the answer of the second.
             return Done(holds and fault != "again", self.memory.revision)
 
     def _holds(self, condition: Condition) -> bool:
@@ -113,15 +124,15 @@ class Connection:
     def revoke(self, lease: int) -> None:
         self.memory.end_lease(lease)
 
-    def size(self) -> Size:
+    def size(self) -> DatabaseSize:
         return self.memory.size
 
-    def watch(self, key: bytes, end: bytes, revision: int, seconds: float) -> Iterator[list[Change]]:
+    def watch(self, key: bytes, end: bytes, revision: int, seconds: float) -> Iterator[list[KeyChange]]:
         with self.memory.lock:
             changes = [change for at, change in self.memory.history if at >= revision and key <= change.key < end]
         if changes:
             yield changes
-        raise Unsure("nothing was heard")
+        raise Unsure("no answer came")
 
     def end_watch(self) -> None:
         pass

@@ -1,8 +1,8 @@
 #!/usr/bin/env python3
-"""Stands in for firm where a check is of the load on firmd: it answers each line at once, with numbers as firm's.
+"""A stand-in for firm in checks of the load on firmd: it answers each line at once, with numbers as firm's.
 
-A round takes the seconds of ROUND_SECONDS, and as in firm no later reply comes before its own. A line of a tenant that
-is away with a round goes into the file MISPLACED, where one is named: firm would stand behind it.
+A round takes the seconds of ROUND_SECONDS, and as in firm no later reply comes before its own. A line of a tenant whose
+round is running goes into the file MISPLACED, if given: firm would wait for it.
 """
 
 from __future__ import annotations
@@ -60,7 +60,7 @@ class StandIn:
         return b"%b %d %b" % (tenant, self.numbers[tenant], done)
 
     def rest(self, line: bytes, behind: list[bytes]) -> None:
-        """Takes the time of a round, and notes what came meanwhile and would have to wait for it."""
+        """Take the time of a round, and record lines that came meanwhile and would have to wait for it."""
         if self.seconds:
             time.sleep(self.seconds)
         if self.misplaced:

@@ -1,10 +1,10 @@
 #!/usr/bin/env python3
-"""Stands in for the kit in the launcher's checks: by its name for rt, rattle or rattle-link; and keeps a record.
+"""A stand-in for the kit in the launcher's checks, under the names rt, rattle and rattle-link; it writes a record.
 
-It makes in a moment what a proof would make. The file `asked` at the top of the repository gets a line at each begin
-and each end of a check, where something is made, and for each `rt try`. The environment can have a crate's check fail
-(KIT_BROKEN), take very long (KIT_SLOW) or wait for the file `go` at the top (KIT_WAITS), by the crate's name, and have
-`rt try` end with a status (KIT_STATUS), without an answer (KIT_NO_ANSWER), or take very long (KIT_SLOW, firm).
+It makes in a moment the files of a proof. The file `asked` at the top of the repository gets a line at each start and
+each end of a check that makes something, and for each `rt try`. By a crate's name, the environment can make the crate's
+check fail (KIT_BROKEN), take very long (KIT_SLOW) or wait for the file `go` at the top (KIT_WAITS). It can make `rt
+try` end with a status (KIT_STATUS), without an answer (KIT_NO_ANSWER), or take very long (KIT_SLOW, firm).
 """
 
 from __future__ import annotations
@@ -18,7 +18,7 @@ from pathlib import Path
 TOP = Path.cwd().parent.parent
 NAME = Path.cwd().name
 LONG_SECONDS = 120
-# It tells its words and its input, and whether it was started with broken pipes ignored, as Python does.
+# It prints its words and its input, and whether it was started with broken pipes ignored, as Python does.
 PROGRAM = """#!/usr/bin/env bash
 echo "the program: $*"
 cat
@@ -31,12 +31,12 @@ def note(word: str) -> None:
         file.write(f"{word} {NAME}\n")
 
 
-def is_asked(behaviour: str) -> bool:
+def is_set(behaviour: str) -> bool:
     return os.environ.get(behaviour) == NAME
 
 
 def take_long() -> None:
-    """Two processes that do not end, as rattle forks copies of itself."""
+    """Run two processes that do not end, as rattle forks copies of itself."""
     os.fork()
     time.sleep(LONG_SECONDS)
 
@@ -46,7 +46,7 @@ def value(flag: str) -> str:
 
 
 def fault_of_words() -> str:
-    """What a check would refuse in its words: a file or a library that is not there, an rlib with proofs."""
+    """Return the fault that a check would find in its words: a missing file or library, an rlib with proofs."""
     libraries = [word.partition("=")[2] for flag, word in zip(sys.argv, sys.argv[1:]) if flag == "--extern"]
     kit = Path(sys.argv[0]).parent.parent
     given = [value("--antt-project"), value("--logic-built"), sys.argv[4], *libraries]
@@ -63,12 +63,12 @@ def rattle() -> int:
     if sys.stdin.read():
         note("robbed")
     fault = fault_of_words()
-    if fault or is_asked("KIT_BROKEN"):
+    if fault or is_set("KIT_BROKEN"):
         print(f"error: {fault or 'a goal is open'}")
         return 1
-    if is_asked("KIT_SLOW"):
+    if is_set("KIT_SLOW"):
         take_long()
-    while is_asked("KIT_WAITS") and not (TOP / "go").exists():
+    while is_set("KIT_WAITS") and not (TOP / "go").exists():
         time.sleep(0.02)
     note("made")
     made = Path(value("-o"))
@@ -92,11 +92,11 @@ def rattle_link() -> int:
 
 
 def rt_try() -> int:
-    """As rt, it says on standard error what came of it, behind what the program writes there."""
+    """Write the result to standard error, as rt does, after the program's own lines there."""
     note("try")
-    if is_asked("KIT_SLOW"):
+    if is_set("KIT_SLOW"):
         time.sleep(LONG_SECONDS)
-    if is_asked("KIT_NO_ANSWER"):
+    if is_set("KIT_NO_ANSWER"):
         print("checked: no-answer", "run=none proved=no", sep="\n", file=sys.stderr)
         return 6
     words, roster = sys.argv[sys.argv.index("--") + 1 :], value("--data").partition("=")[2]

@@ -1,8 +1,8 @@
 #!/usr/bin/env python3
-"""Stands in for Slurm's sbatch: runs the tasks of an array on this machine, one behind the other.
+"""A stand-in for Slurm's sbatch: it runs the tasks of an array on this machine, one after the other.
 
 usage: stand_in_sbatch.py --wait --array=0-LAST --wrap COMMAND
-The exit status is 1 where a task failed, as sbatch gives it with --wait.
+The exit status is 1 if a task failed, as sbatch gives it with --wait.
 """
 
 from __future__ import annotations

@@ -8,11 +8,11 @@ from state_texts import STATE
 from statuses import HEADING, HEADING_OF_EIGHT, HEADING_OF_SEVEN, ROSTER_OF_64
 
 UNKNOWN = b"! unknown-tenant\n"
-MOST_ADMISSIONS = 32_768  # to a place, with the roster's row
+MAX_ADMISSIONS = 32_768  # to a place, with the roster's row
 
 
 class Served(NamedTuple):
-    """A service, which opens with a roster or a state: what it reads and writes, and its state then."""
+    """A service, which opens with a roster or a state: its input and output, and its state then."""
 
     opening: bytes
     lines: bytes
@@ -531,8 +531,8 @@ costs
     + b"rows 192\n",
 )
 
-# The roster's row is the first admission to its place; the one behind the last is to another.
-COMES_AND_GOES = MOST_ADMISSIONS - 1
+# The roster's row is the first admission to its place; the one after the last is to another.
+COMES_AND_GOES = MAX_ADMISSIONS - 1
 WORN_PLACE = Served(
     TWO,
     b"+ retire alpha\n" + COMES_AND_GOES * b"+ admit alpha,2,0,1,0,0\n+ retire alpha\n" + b"+ admit alpha,2,0,1,0,0\n",

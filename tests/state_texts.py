@@ -68,11 +68,11 @@ rows 16
 
 
 def with_line(number: int, line: bytes) -> bytes:
-    """The state with a line changed to this."""
+    """Return the state with a line changed to this."""
     return b"".join([*LINES[: number - 1], line, *LINES[number:]])
 
 
-# The number of a line, what stands there instead, and the first fault, if any, by the numbers of docs/FORMATS.md.
+# The number of a line, its replacement, and the first fault, if any, by the numbers of docs/FORMATS.md.
 CHANGES: list[tuple[int, bytes, StateFault | None]] = [
     (1, b"", StateFault(1, 1)),
     (1, b"firm state 2\n", StateFault(1, 1)),
@@ -186,8 +186,8 @@ CHANGES: list[tuple[int, bytes, StateFault | None]] = [
     (9, b"\n", StateFault(2, 9)),
 ]
 
-# How the tenant's row ends in the place of `remote 7 commands 9`, and the first fault, if any, in an extended state and
-# in a plain one.
+# The end of the tenant's row in the place of `remote 7 commands 9`, and the first fault, if any, in an extended state
+# and in a plain one.
 PATIENCES: list[tuple[bytes, StateFault | None, StateFault]] = [
     (b"remote 7 patience 2 commands 9", None, StateFault(2, 3)),
     (b"remote 7 patience 999999 commands 9", None, StateFault(2, 3)),
@@ -202,24 +202,24 @@ PATIENCES: list[tuple[bytes, StateFault | None, StateFault]] = [
 
 
 def of_patience(heading: bytes, words: bytes) -> bytes:
-    """The state with this heading, and with these words at the end of the tenant's row."""
+    """Return the state with this heading, and with these words at the end of the tenant's row."""
     return STATE.replace(HEADING, heading).replace(b"remote 7 commands 9", words)
 
 
 def after_commands(number: int, cost: int) -> bytes:
-    """The state after so many commands, where the last round cost this."""
+    """Return the state after this many commands, with this cost of the last round."""
     text = STATE.replace(b"commands 9", b"commands %d" % number)
     return text.replace(b"costs 5 12", b"costs 12 %d" % cost)
 
 
 def crowd(spread: int, churn: int) -> bytes:
-    """Two tasks of weight 10 that run on one machine after two rounds."""
+    """Return two tasks of weight 10 that run on one machine after two rounds."""
     text = STATE.replace(b"spread 1 churn 2 remote 7 commands 9", b"spread %d churn %d remote 0 commands 100")
     return text.replace(b"x at m1", b"x at m2").replace(b"y waits 2", b"y at m2") % (spread, churn)
 
 
 def bidding(weight: int, churn: int, remote: int) -> bytes:
-    """A task of this weight that two rounds left waiting, beside one of weight 10 that runs."""
+    """Return a task of this weight that two rounds left waiting, beside one of weight 10 that runs."""
     return f"""\
 firm state 1
 place admissions 1
@@ -235,11 +235,11 @@ rows 8
 
 
 def of_places(count: int) -> bytes:
-    """So many places, each given once and empty."""
+    """Return this many places, each given once and empty."""
     return b"firm state 1\n" + b"place admissions 1\n" * count + b"rows %d\n" % count
 
 
-# Texts, each with its first fault, or None where it is a state.
+# Texts, each with its first fault, or None for a state.
 TEXTS: list[tuple[bytes, StateFault | None]] = [
     *((with_line(number, line), fault) for number, line, fault in CHANGES),
     *((of_patience(EXTENDED_HEADING, words), fault) for words, fault, _ in PATIENCES),

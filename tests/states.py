@@ -1,9 +1,9 @@
-"""Cuts services off between two lines, and asks that they go on from their states as if nothing had happened.
+"""Cut services off between two lines, and require that they go on from their states as if uninterrupted.
 
 usage: tools/run tests/states.py [--quick] [--program FILE] [--state FILE] [--explain FILE] [WORD..]
-It also plays the services of state_services.py to their states, and asks for the faults of state_texts.py. With words
-only the checks whose names have one of them. Each check has a line; the exit status is 1 where one failed. Without
---quick random streams are 10,000, in some fifteen minutes. It needs a C compiler for refuse.c.
+It also plays the services of state_services.py to their states, and checks the faults of state_texts.py. With words it
+runs only the checks whose names have one of them. Each check prints a line; the exit status is 1 if one failed. Without
+--quick there are 10,000 random streams, in some fifteen minutes. It needs a C compiler for refuse.c.
 """
 
 from __future__ import annotations
@@ -32,7 +32,10 @@ from statuses import HEADING as HEADING_OF_SIX
 
 FIRM_STATE = program.built("firm_state")
 WORKERS = ("1", "2", "8")
-MOST_PLACES = 64
+MAX_PLACES = 64
+MANY_WORDS = 6_000
+LONG_PATH = ("x" * 200 + "/") * 18
+ROSTER = b"tenant,nodes,arcs,life,spread,churn\nt01,2,0,1,0,0\n"
 CUT_AT_EACH_LINE = ("evicted_as_others_come_and_go", "comes_back_between_rounds")  # by quick runs, of tests/services
 FAULT = re.compile(rb"firm_state: state fault (\d+) ([a-z-]+) in line (\d+)\n")
 NAMES = {
@@ -62,7 +65,7 @@ class Options(NamedTuple):
 
 
 class Cut(NamedTuple):
-    """A roster, the lines before a cut, and those behind it."""
+    """A roster, the lines before a cut, and those after it."""
 
     roster: bytes
     lines: bytes
@@ -83,19 +86,20 @@ class Folder:
 
     def file(self, name: str, content: bytes) -> str:
         path = Path(self.folder.name) / name
+        path.parent.mkdir(parents=True, exist_ok=True)
         path.write_bytes(content)
         return str(path)
 
 
 def output_of(words: Sequence[str], text: bytes) -> bytes:
-    """What a run writes that must end well."""
+    """Return the output of a run that must succeed."""
     done = program.run_words(words, text)
     require(done.status == 0 and not done.faults, f"{list(words)}: status {done.status}, {done.faults!r}")
     return done.output
 
 
 def cuts_of(roster: bytes, text: bytes) -> list[Cut]:
-    """The cuts of a stream before each of its lines, the first among them, and behind the last if it has an end."""
+    """Return the cuts of a stream before each line, the first among them, and after the last if it has an end."""
     ends = [0] + [place + 1 for place, byte in enumerate(text) if byte == ord("\n")]
     return [Cut(roster, text[:place], text[place:]) for place in ends]
 
@@ -148,14 +152,14 @@ def random_streams(options: Options, count: int) -> None:
 
 
 def lines_of_kind(kind: str, tasks: int, machines: int) -> tuple[bytes, list[bytes]]:
-    """The roster of a stream of this kind, and the lines up to each round, with it."""
+    """Return the roster of a stream of this kind, and the lines up to each round, with it."""
     stream = kinds.make(kind, tasks, machines)
     texts = ["".join(line + "\n" for line in [*lines, f"{kinds.TENANT} round"]) for lines in stream.parts]
     return stream.roster.encode(), [text.encode() for text in texts]
 
 
 def kind_goes_on(options: Options, kind: str) -> None:
-    """A stream of a kind with hundreds of tasks, cut before and behind each round."""
+    """A stream of a kind with hundreds of tasks, cut before and after each round."""
     roster, parts = lines_of_kind(kind, *((60, 20) if options.quick else (600, 200)))
     for count in range(len(parts) + 1):
         cut = Cut(roster, b"".join(parts[:count]), b"".join(parts[count:]))
@@ -210,7 +214,7 @@ def parts_are_whole(options: Options, count: int) -> None:
 
 
 def outputs_of_parts(options: Options, path: str, groups: list[list[bytes]], more: bytes) -> Parts:
-    """The outputs for the tenants' lines, with the tenants in these groups."""
+    """Return the outputs for the tenants' lines, with the tenants in these groups."""
     lines = without_operator(more)
     with Folder() as folder:
         files = [
@@ -233,10 +237,25 @@ def replies_are_alike(outputs: Parts, names: list[bytes], kept: list[bytes], wha
 
 
 def part_of(options: Options, path: str, names: list[bytes]) -> bytes:
-    """The state of these tenants alone; it has no others."""
+    """Return the state of these tenants alone; require that it has no others."""
     part = state_after(options, ["--state", path, "--tenant", *(name.decode() for name in names)], b"")
-    require(sorted(tenants_in(part)) == sorted(names), f"other tenants than {names}")
+    require(sorted(tenants_in(part)) == sorted(set(names)), f"other tenants than {names}")
     return part
+
+
+def all_places(options: Options) -> None:
+    """A state for each place, beside many that are empty, is joined, and the whole cut again, by words of any number
+    and paths of any length."""
+    names = [b"t%02d" % place for place in range(MAX_PLACES)]
+    with Folder() as folder:
+        files = [folder.file(LONG_PATH + name.decode(), with_rows(small_tenant(name))) for name in names]
+        empty = [folder.file("empty", EMPTY)] * MANY_WORDS
+        joined = state_after(options, ["--state", files[0], "--merge", *empty, *files[1:]], b"")
+        require(joined == with_rows([row for name in names for row in small_tenant(name)]), "another joined state")
+        path = folder.file(LONG_PATH + "joined", joined)
+        part_of(options, path, [*names[2:]] * (MANY_WORDS // MAX_PLACES) + names[1:2])
+        for words in (["--state", path], ["--roster", folder.file(LONG_PATH + "roster.csv", ROSTER)]):
+            require(output_of([options.firm, *words], b"t01 show\n").startswith(b"t01 1 ok "), f"{words[0]}: no reply")
 
 
 WORKED = b"""\
@@ -259,13 +278,15 @@ def changed(old: bytes, new: bytes) -> bytes:
 
 
 def with_rows(rows: Sequence[bytes], heading: bytes = HEADING) -> bytes:
-    """The text of a state of these rows."""
+    """Return the text of a state of these rows."""
     return heading + b"".join(line + b"\n" for line in [*rows, b"rows %d" % len(rows)])
 
 
 ROWS = WORKED.splitlines()[1:-1]
+EMPTY = with_rows([b"place admissions 1"])
 
-# Of more than eight rounds the last eight left their costs; the commands beside the rows tell how many there may be.
+# After more than eight rounds, the last eight left their costs; the commands beside the rows tell how many there may
+# be.
 LONG_WAIT = (
     changed(b"costs 0 13", b"costs 0 1 2 3 4 5 6 7")
     .replace(b"commands 6", b"commands 13")
@@ -275,7 +296,7 @@ LONG_WAIT = (
 # Two tasks of weight 10 on one machine, after two rounds: the second slot costs up to the weight and churn, which is 2.
 CROWD = changed(b"waits 1", b"at m1").replace(b"spread 1", b"spread 12")
 
-# A task of weight 1 that one behind it crowds, where the second slot costs 4.
+# A task of weight 1 that a later one crowds, where the second slot costs 4.
 LIGHT = (
     changed(b"web a at m1 prefers m1", b"low a at m1")
     .replace(b"web c waits 1", b"web c at m1")
@@ -336,7 +357,7 @@ FAULTY = [
 
 
 def fault_of(options: Options, text: bytes, by_firm_state_alone: bool = False) -> StateFault | None:
-    """The fault of a text as the programs tell it, or None where it is a state, which is written as it stands."""
+    """Return the programs' fault of a text, or None for a state, which is written as it stands."""
     with Folder() as folder:
         path = folder.file("state", text)
         told = program.run_words([options.state, "--state", path], b"")
@@ -386,7 +407,7 @@ def served_states(options: Options) -> None:
 
 
 class Given(NamedTuple):
-    """How often a place was given, and whether a tenant stays there."""
+    """The number of times that a place was given, and whether a tenant stays there."""
 
     times: int
     stays: bool
@@ -398,7 +419,7 @@ def rows_of_place(number: int, place: Given) -> list[bytes]:
 
 
 def state_of_places(options: Options, places: Sequence[Given]) -> bytes:
-    """The state of a service that has given its places so often: a tenant is the first to get the place it left."""
+    """Return the state of a service that has given its places this often: a tenant is the first to get its place."""
     rows = [b"t%d,2,0,1,0,0" % number for number in range(len(places))]
     lines = [
         line
@@ -425,7 +446,7 @@ def reached_places(options: Options, most: int) -> None:
 
 
 def cut_states(options: Options, count: int) -> None:
-    """A state cut at any byte behind its version lacks its last row, in the line behind those that are whole."""
+    """A state cut at any byte after its version lacks its last row, in the line after the whole ones."""
     told_alike = Random(1).sample(range(len(STATE)), count) if options.quick else range(len(STATE))
     for place in range(len(STATE)):
         front = STATE[:place]
@@ -446,7 +467,7 @@ def changed_states(options: Options, count: int) -> None:
 
 
 def changed_state(options: Options, seed: int) -> bytes:
-    """A state of a random stream, with a row doubled, left out, changed, or exchanged with another."""
+    """Return a state of a random stream, with a row doubled, left out, changed, or exchanged with another."""
     draw, cut = Random(seed), random_cut(seed)
     with Folder() as folder:
         text = state_after(options, ["--roster", folder.file("roster.csv", cut.roster)], cut.lines)
@@ -484,19 +505,22 @@ def plain_and_extended(options: Options) -> None:
 
 
 def joins_are_refused(options: Options) -> None:
-    """A tenant of both states, want of a place, and a name that is not there are faults; nothing is written."""
-    full = with_rows([row for number in range(MOST_PLACES) for row in small_tenant(b"t%d" % number)])
+    """A tenant of both states, want of a place, and a missing name are faults; nothing is written."""
+    full = with_rows([row for number in range(MAX_PLACES) for row in small_tenant(b"t%d" % number)])
     cases = [
         (WORKED, ["--merge", "worked"], b"tenant fault 25 tenant-exists of alpha"),
         (full, ["--merge", "worked"], b"tenant fault 27 operator-full of alpha"),
         (WORKED, ["--tenant", "alpha", "beta"], b"tenant fault 26 no-such-tenant of beta"),
-        (with_rows([b"place admissions 1"]), ["--tenant", "alpha"], b"tenant fault 26 no-such-tenant of alpha"),
+        (EMPTY, ["--tenant", "alpha"], b"tenant fault 26 no-such-tenant of alpha"),
         (WORKED, ["--merge", "none"], b"cannot read state"),
         (WORKED, ["--merge", "faulty"], b"state fault 13 rows in line 10"),
+        (WORKED, ["--merge", "empty", "worked"], b"tenant fault 25 tenant-exists of alpha"),
+        (WORKED, ["--merge", "empty", "faulty"], b"state fault 13 rows in line 10"),
     ]
+    texts = {"worked": WORKED, "faulty": WORKED[:-1], "empty": EMPTY}
     for text, words, fault in cases:
         with Folder() as folder:
-            files = {"worked": folder.file("worked", WORKED), "faulty": folder.file("faulty", WORKED[:-1])}
+            files = {name: folder.file(name, content) for name, content in texts.items()}
             told = program.run_words(
                 [options.state, "--state", folder.file("state", text), *(files.get(word, word) for word in words)], b""
             )
@@ -509,7 +533,7 @@ def small_tenant(name: bytes) -> list[bytes]:
 
 
 def statuses(options: Options) -> None:
-    """The exit statuses of firm_state, and what it says with them."""
+    """The exit statuses of firm_state, and its messages with them."""
     neither = b"no roster and no state: give --roster FILE or --state FILE"
     both = b"a roster and a state: give --roster FILE or --state FILE, not both"
     with Folder() as folder:
@@ -519,6 +543,7 @@ def statuses(options: Options) -> None:
             ([], 2, neither),
             (["--roster", roster, "--state", state], 2, both),
             (["--state", state, "--tenant", "A"], 2, b"a tenant's name is not valid"),
+            (["--state", os.fsdecode(b"\xff")], 2, b"the command line is not UTF-8"),
             (["--roster", "/nonexistent"], 3, b"cannot read roster"),
             (["--state", "/nonexistent"], 3, b"cannot read state"),
             (["--roster", faulty], 3, b"roster fault 1 header"),
@@ -535,9 +560,11 @@ def statuses(options: Options) -> None:
         ):
             told = program.run_words([options.state, *words], b"")
             require(told.status == 2 and not told.output and told.faults.startswith(b"error: "), f"{words}: {told}")
-        for words, first in ((["--help"], b"Writes the state"), (["--version"], b"firm_state ")):
-            told = program.run_words([options.state, *words], b"")
-            require(told.status == 0 and told.output.startswith(first) and not told.faults, f"{words}: {told}")
+        texts = {"--help": (b"Writes the state", b"what stands\nin them.\n"), "--version": (b"firm_state ", b"0.1.0\n")}
+        for word, (first, last) in texts.items():
+            told = program.run_words([options.state, word], b"")
+            is_whole = told.output.startswith(first) and told.output.endswith(last)
+            require(told.status == 0 and is_whole and not told.faults, f"{word}: {told}")
         devices(options, state)
 
 
@@ -575,7 +602,7 @@ def refused_memory(options: Options, step: int) -> None:
 
 
 def checks(options: Options) -> dict[str, Check]:
-    """Each check's name and what it runs; it passes where nothing is raised."""
+    """Return each check's name and function; it passes if nothing is raised."""
     quick = options.quick
     return {
         "statuses": partial(statuses, options),
@@ -589,6 +616,7 @@ def checks(options: Options) -> dict[str, Check]:
         "plain and extended": partial(plain_and_extended, options),
         "joins that are refused": partial(joins_are_refused, options),
         "parts": partial(parts_are_whole, options, 20 if quick else 1000),
+        "all places": partial(all_places, options),
         "random streams": partial(random_streams, options, 40 if quick else 10_000),
         **{f"kind, {kind}": partial(kind_goes_on, options, kind) for kind in kinds_of(quick)},
     }
@@ -604,7 +632,7 @@ def kinds_of(quick: bool) -> Iterator[str]:
 
 def main() -> int:
     parser = argparse.ArgumentParser(description=(__doc__ or "").splitlines()[0])
-    parser.add_argument("words", nargs="*", metavar="WORD", help="only checks whose names have one of these words")
+    parser.add_argument("words", nargs="*", metavar="WORD", help="run only checks whose names have one of these words")
     parser.add_argument("--quick", action="store_true", help="few and small streams, in some seconds")
     program.add_program(parser)
     parser.add_argument("--state", type=program.program_file, default=str(FIRM_STATE), metavar="FILE")

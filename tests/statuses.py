@@ -1,7 +1,7 @@
-"""Asks the built program for its exit statuses, by words, rosters, states and inputs, and for what it says with them.
+"""Check the built program's exit statuses and messages, by words, rosters, states and inputs.
 
 usage: tools/run tests/statuses.py [--program FILE]
-Each check has a line, and the exit status is 1 where one failed.
+Each check prints a line; the exit status is 1 if one failed.
 """
 
 from __future__ import annotations
@@ -11,6 +11,7 @@ import fcntl
 import os
 import subprocess
 import tempfile
+import threading
 from functools import partial
 from pathlib import Path
 from typing import Iterator, NamedTuple, Sequence
@@ -25,8 +26,8 @@ HEADING_OF_EIGHT = HEADING_OF_SEVEN.replace(b"\n", b",patience\n")
 ROW = b"a,2,0,1,0,0\n"
 ROSTER_OF_64 = HEADING + b"".join(b"t%d,2,%d,1,0,0\n" % (number, number) for number in range(64))
 GREATEST = HEADING + b"a,4096,65536,1099511627776,1000,1000000\n"
-MOST_ROSTER = 65_536
-LIMIT_SECONDS = 60
+MAX_ROSTER, MAX_STATE = 65_536, 41_943_040
+LIMIT_SECONDS = 300  # for a run, on a busy host
 SHOWN = b"a 1 ok machines 0 jobs 0 tasks 0 running 0 nodes 2 of 2 arcs 0 of 0\n"
 
 HELP = """\
@@ -71,19 +72,26 @@ many clients and keep a journal.
 VERSION = "firm 0.1.0\n"
 
 
+# Arguments with files in one folder, and with missing files.
+FILE_NAMES = ["roster.csv", "state", "t", "T", " t", "t ", "\tt", "t\n", "t.csv", "~", "*", "%74", "$HOME", "é"]
+MISSING_NAMES = ["", "none", "t.", "t.cs", "roster", "state ", "E"]
+
+
 class FaultyWords(NamedTuple):
-    """Words at fault, and the first line of what is said of them."""
+    """Faulty words, and the first line of the message."""
 
     words: list[str]
     first_line: str
 
 
+LONG_WORD = "--" + "x" * 10_000
 FAULTY_WORDS = [
     FaultyWords(["--roster"], "a value is required for '--roster <FILE>' but none was supplied"),
     FaultyWords(["--state"], "a value is required for '--state <FILE>' but none was supplied"),
     FaultyWords(["--state", "s", "--state", "s"], "the argument '--state <FILE>' cannot be used multiple times"),
     FaultyWords(["--roster", "r.csv", "more"], "unexpected argument 'more' found"),
     FaultyWords(["--roster", "r.csv", "--fast"], "unexpected argument '--fast' found"),
+    FaultyWords(["--roster", "r.csv", LONG_WORD], f"unexpected argument '{LONG_WORD}' found"),
     FaultyWords(
         ["--roster", "r.csv", "--roster", "r.csv"], "the argument '--roster <FILE>' cannot be used multiple times"
     ),
@@ -105,7 +113,7 @@ FAULTY_WORDS = [
 ]
 
 
-# Words that name no file to open with, or two, and what is said of them.
+# Words that name no file to open with, or two, and the message.
 NOT_ONE: dict[str, list[list[str]]] = {
     "no roster and no state: give --roster FILE or --state FILE": [[], ["--workers", "2"]],
     "a roster and a state: give --roster FILE or --state FILE, not both": [
@@ -115,7 +123,7 @@ NOT_ONE: dict[str, list[list[str]]] = {
 }
 
 
-# What stands at the beginning of a roster, and by their first fault what may follow.
+# Beginnings of a roster, and the possible continuations by their first fault.
 FAULTY_ROSTERS: dict[bytes, dict[str, list[bytes]]] = {
     b"": {
         "1 header": [
@@ -134,7 +142,7 @@ FAULTY_ROSTERS: dict[bytes, dict[str, list[bytes]]] = {
             b"tenant, nodes,arcs,life,spread,churn\n",
             b"tenants,nodes,arcs,life,spread,churn\nA,1,0\n",
         ],
-        "2 row": [b"x" * (MOST_ROSTER + 1), GREATEST.ljust(MOST_ROSTER + 1, b"\n")],
+        "2 row": [b"x" * (MAX_ROSTER + 1), GREATEST.ljust(MAX_ROSTER + 1, b"\n")],
     },
     HEADING: {
         "2 row": [
@@ -191,7 +199,7 @@ FAULTY_ROSTERS: dict[bytes, dict[str, list[bytes]]] = {
 }
 
 
-# A state that opens as a roster of one tenant does, and one behind a command and a retirement.
+# A state that opens as a roster of one tenant does, and one after a command and a retirement.
 STATE = b"""\
 firm state 1
 place admissions 1
@@ -237,7 +245,7 @@ class Served(NamedTuple):
 
 
 def filled(machines: int, slots: int, exchanges: Sequence[tuple[bytes, bytes]]) -> Served:
-    """A tenant of the largest arena that adds machines of so many slots, and then gives these commands."""
+    """Return a tenant of the largest arena that adds machines of this many slots, and then has these exchanges."""
     asked = [(b"machine m%d %d" % (number, slots), b"ok") for number in range(machines)] + [*exchanges]
     return Served(
         HEADING + b"a,4096,65536,10000,0,0\n",
@@ -260,7 +268,7 @@ EVERY_ARC = [
 SERVED = [
     Served(HEADING + ROW, b"", b""),
     Served(HEADING + ROW, b"a show\n", SHOWN),
-    Served(GREATEST.ljust(MOST_ROSTER, b"\n"), b"a show", SHOWN.replace(b"2 arcs 0 of 0", b"4096 arcs 0 of 65536")),
+    Served(GREATEST.ljust(MAX_ROSTER, b"\n"), b"a show", SHOWN.replace(b"2 arcs 0 of 0", b"4096 arcs 0 of 65536")),
     filled(4094, 1, EVERY_NODE),
     filled(1008, 64, EVERY_ARC),
     Served(
@@ -271,17 +279,18 @@ SERVED = [
 ]
 
 
-def run(built: str, words: Sequence[str | bytes], text: bytes = b"") -> Run:
-    done = subprocess.run([built, *words], input=text, capture_output=True, timeout=LIMIT_SECONDS)
+def run(built: str, words: Sequence[str | bytes], text: bytes = b"", folder: Path | None = None) -> Run:
+    done = subprocess.run([built, *words], input=text, capture_output=True, timeout=LIMIT_SECONDS, cwd=folder)
     return Run(done.returncode, done.stdout, done.stderr)
 
 
 def faulty_words(built: str) -> None:
-    """Words at fault are told, with status 2, and nothing is written; so are words that are no text."""
+    """Faulty words are reported, with status 2, and nothing is written; so are words that are not text."""
     for words, first in FAULTY_WORDS:
         found = run(built, words, b"a show\n")
         require(found.status == 2 and not found.output, f"{words}: {found}")
-        require(found.faults.startswith(f"error: {first}\n".encode()), f"{words}: {found.faults.decode()}")
+        is_whole = found.faults.endswith(b"\n\nFor more information, try '--help'.\n")
+        require(found.faults.startswith(f"error: {first}\n".encode()) and is_whole, f"{words}: {found.faults.decode()}")
     for said, all_words in NOT_ONE.items():
         for words in all_words:
             found = run(built, words, b"a show\n")
@@ -291,7 +300,7 @@ def faulty_words(built: str) -> None:
 
 
 def requests(built: str) -> None:
-    """The help and the version, of which the words ask for the first, are written with status 0."""
+    """Help and version are written with status 0; if the words request both, the first counts."""
     asked: dict[str, list[list[str]]] = {
         HELP: [["--help"], ["-h"], ["--workers", "3", "--help"], ["--help", "--version"]],
         VERSION: [["--version"], ["-V"], ["--roster", "r.csv", "--version", "--help"]],
@@ -303,7 +312,7 @@ def requests(built: str) -> None:
 
 
 def example_of_the_help(built: str, folder: Path) -> None:
-    """The session that the help shows: what its files hold, and what firm writes for them."""
+    """The session in the help: firm writes that output for these files."""
     indented = [line[2:] for line in HELP.partition("Example:\n")[2].splitlines() if line.startswith("  ")]
     shown: dict[str, str] = {}
     for line in indented:
@@ -321,7 +330,7 @@ def example_of_the_help(built: str, folder: Path) -> None:
 
 
 def faults_that_nobody_reads(built: str, folder: Path) -> None:
-    """A fault that can't be told changes no status."""
+    """A fault that can't be written changes no status."""
     faulty: dict[int, list[str]] = {2: [], 3: ["--roster", f"{folder}/none"]}
     with open("/dev/full", "wb") as full:
         for status, words in faulty.items():
@@ -332,7 +341,7 @@ def faults_that_nobody_reads(built: str, folder: Path) -> None:
 
 
 def faulty_rosters() -> Iterator[tuple[bytes, str]]:
-    """The text of each faulty roster, and its first fault."""
+    """Yield the text of each faulty roster, and its first fault."""
     for front, faulty in FAULTY_ROSTERS.items():
         for fault, ends in faulty.items():
             yield from ((front + end, fault) for end in ends)
@@ -353,7 +362,7 @@ def rosters(built: str, folder: Path) -> None:
 
 
 def states(built: str, folder: Path) -> None:
-    """A faulty state gives status 3, and nothing is read or written; others are gone on from."""
+    """A faulty state gives status 3, and nothing is read or written; firm continues from others."""
     path = folder / "state"
     for text, fault in FAULTY_STATES.items():
         path.write_bytes(text)
@@ -371,22 +380,50 @@ def states(built: str, folder: Path) -> None:
     require(found == (3, b"", b"firm: state too long\n"), found)
 
 
-def bytes_of_the_roster(built: str, folder: Path) -> None:
-    """Of a roster's file one byte more is read than a roster may have, and no further one."""
-    path, size = folder / "fifo", 200_000
-    os.mkfifo(path)
-    pipe = os.open(path, os.O_RDWR | os.O_NONBLOCK)
-    fcntl.fcntl(pipe, fcntl.F_SETPIPE_SZ, 1 << 20)
-    require(os.write(pipe, (HEADING + ROW).ljust(size, b"\n")) == size, "the pipe holds it all")
-    found = run(built, ["--roster", str(path)], b"a show\n")
-    require(found == (3, b"", b"firm: roster fault 2 row\n"), found)
-    left = len(os.read(pipe, 1 << 20))
-    os.close(pipe)
-    require(left == size - MOST_ROSTER - 1, f"{size - left} bytes were read")
+def names_of_files(built: str, folder: Path) -> None:
+    """firm opens exactly the named file, letter by letter, and no other in place of a missing one."""
+    for option, text, of_tenant in (("--roster", HEADING + ROW, b"\n%b,"), ("--state", STATE, b"tenant %b ")):
+        tenants = [b"t%d" % number for number in range(len(FILE_NAMES))]
+        for name, tenant in zip(FILE_NAMES, tenants):
+            (folder / name).write_bytes(text.replace(of_tenant % b"a", of_tenant % tenant))
+        for name, tenant in zip(FILE_NAMES, tenants):
+            found = run(built, [option, name], tenant + b" show\n", folder)
+            require(found == (0, SHOWN.replace(b"a ", tenant + b" ", 1), b""), f"{option} {name!r}: {found}")
+        for name in MISSING_NAMES:
+            found = run(built, [option, name], b"", folder)
+            require(found == (3, b"", b"firm: cannot read %b\n" % option[2:].encode()), f"{option} {name!r}: {found}")
+
+
+def bytes_of_the_files(built: str, folder: Path) -> None:
+    """firm reads one byte more of a roster's or a state's file than it may have, and no further one."""
+    whole_files = {
+        "--roster": ((HEADING + ROW).ljust(200_000, b"\n"), MAX_ROSTER, b"roster fault 2 row"),
+        "--state": (STATE.ljust(MAX_STATE + 200_000, b"\n"), MAX_STATE, b"state too long"),
+    }
+    for option, (text, most, fault) in whole_files.items():
+        path = folder / f"fifo{option}"
+        os.mkfifo(path)
+        pipe = os.open(path, os.O_RDWR)
+        fcntl.fcntl(pipe, fcntl.F_SETPIPE_SZ, 1 << 20)
+        writer = threading.Thread(target=write_all, args=(pipe, text), daemon=True)
+        writer.start()
+        found = run(built, [option, str(path)], b"a show\n")
+        require(found == (3, b"", b"firm: %b\n" % fault), found)
+        writer.join(LIMIT_SECONDS)
+        require(not writer.is_alive(), f"{option}: less was read than may be")
+        os.set_blocking(pipe, False)
+        left = len(os.read(pipe, 1 << 20))
+        os.close(pipe)
+        require(left == len(text) - most - 1, f"{option}: {len(text) - left} bytes were read")
+
+
+def write_all(pipe: int, text: bytes) -> None:
+    with open(pipe, "wb", closefd=False) as file:
+        file.write(text)
 
 
 def unread_input(built: str, folder: Path) -> None:
-    """Where the words, the roster or the state are at fault no byte of the input is read."""
+    """If the words, the roster or the state are faulty, no byte of the input is read."""
     none = f"{folder}/none"
     unserved: list[list[str]] = [[], ["--help"], ["--version"], ["--roster", none], ["--state", none]]
     for words in unserved:
@@ -411,7 +448,8 @@ def main() -> int:
             "faults that nobody reads": partial(faults_that_nobody_reads, built, folder),
             "rosters": partial(rosters, built, folder),
             "states": partial(states, built, folder),
-            "bytes of the roster": partial(bytes_of_the_roster, built, folder),
+            "names of files": partial(names_of_files, built, folder),
+            "bytes of the files": partial(bytes_of_the_files, built, folder),
             "unread input": partial(unread_input, built, folder),
         }
         return run_suites(Suite(checks))

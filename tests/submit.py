@@ -1,42 +1,45 @@
-"""Asks firmctl's verbs and the Python clients, over firmd and firm-queue, with tasks that are processes.
+"""Check firmctl's verbs and the Python clients, over firmd and firm-api, with tasks that are processes.
 
 usage: tools/run tests/submit.py [--quick] [--only WORDS] [--program FILE]
-Each check has a line; the last line is 'N passed, M failed', and the exit status is 1 where one failed. It needs Python
+Each check prints a line; the last line is 'N passed, M failed', and the exit status is 1 if one failed. It needs Python
 3 and the built program. --quick has fewer kills.
 """
 
 from __future__ import annotations
 
 import argparse
-import asyncio
 import csv
 import os
 import re
-import socket
 import subprocess
 import sys
-import threading
 import time
-from collections.abc import Callable, Iterator
+from collections.abc import Callable, Mapping
 from concurrent.futures import ThreadPoolExecutor
-from contextlib import contextmanager, suppress
+from contextlib import closing, suppress
 from functools import partial
 from pathlib import Path
+from typing import Any
 
+import submit_servers
+from queue_client import Connection, as_user_does
 from harness import program
 from harness.checks import Check, Skipped, Suite, require, run_script, run_suites
-from harness.deployed import SERVICE, async_client, client, forms
+from harness.deployed import SERVICE, forms
 from harness.program import ROOT
 from harness.sessions import blocks_of
-from queue_kit import ANN, as_user_does
-from submit_kit import Cluster, cluster
+from queue_kit import ANN
+from submit_kit import Cluster, cluster, python_of_clients
+
+from firm.client import calls
+from firm.client.blocking import ApiClient, ApiError
 
 CHECKS_AT_A_TIME = 4
-LIMIT_SECONDS = 120  # for anything that is waited for, on a busy host
-Submission, Queue = client.Submission, client.Queue
+LIMIT_SECONDS = 600  # for any wait, on a busy host
+ESTIMATE_SECONDS = 120  # between an estimate and its event
 
 
-def wait_until(holds: Callable[[], bool], what: str) -> None:
+def wait_until(holds: Callable[[], object], what: str) -> None:
     ends = time.monotonic() + LIMIT_SECONDS
     while not holds():
         require(time.monotonic() < ends, what)
@@ -44,7 +47,7 @@ def wait_until(holds: Callable[[], bool], what: str) -> None:
 
 
 def forms_are_read() -> None:
-    """Times, sizes and arrays as people write them, and what is none."""
+    """Times, sizes and arrays in people's notation are read, and invalid ones refused."""
     minute, hour, day = 60, 3_600, 86_400
     times = {"90": 90, "90s": 90, "2h": 2 * hour, "1h30m": 90 * minute, "1.5d": 1.5 * day, "0": 0, "1:30": 90}
     times |= {"1:30:00": 90 * minute, "1-12": 1.5 * day, "1-12:30": 36.5 * hour, "1-12:00:30": 1.5 * day + 30}
@@ -99,7 +102,7 @@ def statuses_of_waits(found: Cluster) -> None:
 
 
 def arrays(found: Cluster) -> None:
-    """An array's tasks know their indexes; its tasks that wait side by side are one row."""
+    """An array's tasks know their indexes; its neighbouring waiting tasks are one row."""
     number = found.submit(
         "--job", "arrayed", "--array", "3-5", "--output", "of-%a", "--", "sh", "-c", "echo $FIRM_INDEX"
     )
@@ -139,13 +142,13 @@ def limit_an_array(found: Cluster) -> None:
     require(max(running) == 2 and running[-1] == 0, running)
     written = sorted(path.name for path in found.folder.glob("limited-*"))
     require(written == [f"limited-{index}" for index in (2, 5, 6, 7, 9)], written)
-    with Queue(found.socket) as queue:
-        submitted = queue.submit(Submission(command=("true",), dir="/", job="listed", array="1,3,5", hold=True))
-        require((submitted.count, submitted.array) == (3, "1,3,5"), submitted)
-        require(list(submitted.tasks) == [f"{submitted.id}_{index}" for index in (1, 3, 5)], list(submitted.tasks))
-        require(sorted(task.task for task in queue.tasks(job="listed")) == list(submitted.tasks), "its tasks")
-        require(queue.task(f"{submitted.id}_3").spec["array"] == "1,3,5", "its specification")
-        queue.cancel(jobs=["listed"])
+    ask, work = found.client().ask, {"command": ["true"], "dir": "/", "job": "listed", "array": "1,3,5", "hold": True}
+    (made,) = ask(calls.submit([work]))  # type: ignore[list-item]
+    require((made["count"], made["array"]) == (3, "1,3,5"), made)
+    names = [f"{made['number']}_{index}" for index in (1, 3, 5)]
+    require([row["task"] for row in ask(calls.tasks(job="listed"))] == names, "its tasks")
+    require(ask(calls.one_task(names[1]))["spec"]["array"] == "1,3,5", "its specification")
+    ask(calls.change("cancel", jobs=["listed"]))
 
 
 def is_written(path: Path, text: str) -> bool:
@@ -196,13 +199,14 @@ def files(found: Cluster) -> None:
 
 
 def words_are_judged(found: Cluster) -> None:
-    """What is wrong on a command line is named, with status 2 by the program and 1 by the queue."""
+    """Each fault of a command line is named, with status 2 by the program and 1 by the queue."""
     cases: list[tuple[list[str], int, str]] = [
         (["--time", "soon", "--", "true"], 2, "'soon' is not a time"),
         (["--time", "0", "--", "true"], 1, "time: "),
         (["--weight", "0", "--", "true"], 1, "weight: "),
         (["--weight", "heavy", "--", "true"], 2, "'heavy' is not a whole number"),
         (["--array", "5-1", "--", "true"], 2, "ends before it begins"),
+        (["--array", "0-99999999", "--", "true"], 2, "indexes end at 9,999,999"),
         (["--array", "0-9999999", "--", "true"], 1, "array-too-large"),
         (["--memory", "much", "--", "true"], 2, "'much' is not a size"),
         (["--env", "NOT_THERE", "--", "true"], 2, "not in the environment"),
@@ -218,7 +222,7 @@ def words_are_judged(found: Cluster) -> None:
         (
             ["echo", "--hold"],
             2,
-            "an option stands behind 'echo'; it belongs before the command, or -- does: firmctl ..",
+            "an option follows 'echo'; write it, or --, before the command: firmctl ..",
         ),
         ([], 2, "name a command"),
         (["--file", "/nonexistent"], 2, "cannot read /nonexistent"),
@@ -227,18 +231,70 @@ def words_are_judged(found: Cluster) -> None:
     for words, status, told in cases:
         done = found.run("firmctl", "submit", *words)
         require(done.status == status and told in done.faults.decode() and not done.output, f"{words}: {done}")
-    other = found.run("firmctl", "submit", "--queue", "/nonexistent", "--patience", "0.1", "--", "true")
-    require(other.status == 3 and b"no queue answers at /nonexistent" in other.faults, other)
-    foreign = found.run("firmctl", "submit", "--queue", str(found.daemon.any), "--", "true")
-    require(foreign.status == 3 and b"is not firm-queue; it says b'! unknown-tenant" in foreign.faults, foreign)
-    for words, status in [(["ps", "--queue", "/nonexistent"], 3), (["logs", "99999"], 1), (["cancel"], 2)]:
+    other = found.run("firmctl", "submit", "--server", "unix:/nonexistent", "--patience", "0.1", "--", "true")
+    require(other.status == 3 and b"no firm-api answers at unix:/nonexistent: No such file" in other.faults, other)
+    foreign = found.run("firmctl", "submit", "--server", f"unix:{found.daemon.any}", "--", "true")
+    require(foreign.status == 3 and b"! unknown-tenant" in foreign.faults, foreign)
+    cases_of_server = [
+        ("ps", "--server", "/nonexistent"),
+        ("ps", "--server", "http://localhost:1"),
+        ("ps", "--token", "/none"),
+    ]
+    for at in cases_of_server:
+        require(found.run("firmctl", *at).status == 2, at)
+    nobody = found.run("firmctl", "ps", "--tenant", "gamma")
+    require(
+        nobody.status == 1 and b"no tenant 'gamma' is there for this user (no-such-tenant)" in nobody.faults, nobody
+    )
+    for words, status in [(["ps", "--server", "unix:/nonexistent"], 3), (["logs", "99999"], 1), (["cancel"], 2)]:
         require(found.run("firmctl", *words).status == status, words)
     keyed = [found.run("firmctl", "submit", "--dir", "/", "--key", "mine", "--", "true") for _ in range(2)]
     require(keyed[0] == keyed[1] and keyed[0].status == 0 and keyed[0].output.strip().isdigit(), keyed)
 
 
+ODD = (
+    b"a\xff",
+    b"..",
+    b"../x",
+    b"1/../2",
+    b"1%2e",
+    b"1?x=1",
+    b"\x1b[2J",
+    b"",
+    b"1\n2",
+    b"1_",
+    b"1_99999999999",
+    b"x" * 3_000,
+)
+
+
+def odd_names(found: Cluster) -> None:
+    """No bytes of a name lead to another request, end firmctl by an unexpected error, or steer a terminal."""
+    words = [[verb.encode(), name] for name in ODD for verb in ("show", "why", "logs", "wait", "cancel", "ps")]
+    words += [[b"history", b"--user", name] for name in ODD] + [[b"ps", b"--tenant", name] for name in ODD if name]
+    program_words = [os.fsencode(sys.executable), os.fsencode(SERVICE / "firmctl")]
+    environment = {**os.environ, "FIRM_SERVER": found.server, "FIRM_TENANT": "alpha"}
+
+    def ask(some: list[bytes]) -> subprocess.CompletedProcess[bytes]:
+        found: subprocess.CompletedProcess[bytes] = subprocess.run(
+            [*program_words, *some],
+            env=environment,
+            stdin=subprocess.DEVNULL,
+            capture_output=True,
+            timeout=LIMIT_SECONDS,
+        )
+        return found
+
+    with ThreadPoolExecutor(2) as pool:
+        for some, done in zip(words, pool.map(ask, words)):
+            said = done.stdout + done.stderr
+            statuses = (1, 125) if done.stderr or some[0] != b"ps" else (0,)  # a table without rows
+            require(done.returncode in statuses and b"Traceback" not in said and b"\x1b" not in said, f"{some}: {done}")
+            require(done.returncode == 0 or done.stderr.startswith(b"firmctl: "), f"{some}: {done}")
+
+
 def logs(found: Cluster) -> None:
-    """What a task writes, as it comes with -f, from before it has begun; bytes as they are."""
+    """A task's output, as it comes with -f, from before its start; bytes are unchanged."""
     number = found.submit(
         "--hold",
         "--env",
@@ -249,12 +305,12 @@ def logs(found: Cluster) -> None:
         r'echo "$TEXT"; until [ -e go ]; do sleep 0.05; done; printf "\377\033[2J"',
     )
     require(found.run("firmctl", "logs", number).status == 1, "nothing has begun")
-    words = [sys.executable, str(SERVICE / "firmctl"), "--queue", str(found.socket), "logs", "-f", number]
+    words = [sys.executable, str(SERVICE / "firmctl"), "--server", found.server, "logs", "-f", number]
     with subprocess.Popen(words, stdout=subprocess.PIPE) as following:
         found.firmctl("release", number)
         output = program.opened(following.stdout)
         require(output.readline() == b"a b\n", "the first line")
-        require(found.task(number).state == "running", "it comes while the task runs")
+        require(found.task(number)["state"] == "running", "it comes while the task runs")
         (found.folder / "go").touch()
         require(output.read() == b"\xff\x1b[2J" and following.wait() == 0, "the rest")
     done = found.run("firmctl", "logs", "--attempt", "1", number)
@@ -262,10 +318,10 @@ def logs(found: Cluster) -> None:
 
 
 def changes(found: Cluster) -> None:
-    """hold, release and cancel, of tasks and of jobs, tell what they changed and why not."""
+    """hold, release and cancel, of tasks and of jobs, report their changes, and reasons for the others."""
     one, other = (found.submit("--job", "changed", "--hold", "--", "sleep", "1000") for _ in range(2))
     require(found.firmctl("release", one) == f"{one}\n", "release")
-    wait_until(lambda: found.task(one).state == "running", "it does not run")
+    wait_until(lambda: found.task(one)["state"] == "running", "it does not run")
     done = found.run("firmctl", "hold", one, other)
     require(done.status == 1 and f"{one}: ".encode() in done.faults, f"both are as they are: {done}")
     require(set(found.firmctl("cancel", "changed").split()) == {one, other}, "the job")
@@ -279,24 +335,34 @@ def changes(found: Cluster) -> None:
     require(done.status == 1 and b"not changed: 99999, render\n" in done.faults, done)
     done = found.run("firmctl", "submit", "echo", "a", "-b")
     require(done.status == 2 and b"write -- before the command: firmctl .. -- echo a -b" in done.faults, done)
-    require(found.firmctl("cordon", "spare") == "spare\n" and found.machine("spare").state == "cordoned", "cordon")
+    require(found.firmctl("cordon", "--reason", "a new disk", "spare") == "spare\n", "cordon")
+    spare = found.machine("spare")
+    require(spare["state"] == "cordoned" and spare["reason"].endswith(": a new disk"), spare)
+    done = found.run("firmctl", "drain", "spare")
+    require(done.status == 2 and b"add --kill, or cordon" in done.faults, done)
+    require(found.machine("spare")["state"] == "cordoned", "it is drained")
+    require(found.run("firmctl", "cordon", "--reason", "x" * 201, "spare").status == 1, "too long a reason")
     require(found.firmctl("uncordon", "spare") == "spare\n", "uncordon")
-    wait_until(lambda: found.machine("spare").state == "up", "the machine is not back")
-    require(found.run("firmctl", "drain", "nomachine").status == 1, "no such machine")
+    wait_until(lambda: found.machine("spare")["state"] == "up", "the machine is not back")
+    require(found.run("firmctl", "drain", "--kill", "nomachine").status == 1, "no such machine")
 
 
 def history(found: Cluster) -> None:
-    """Attempts that have ended, one by one, as CSV, and their sums."""
+    """Ended attempts, one by one, as CSV, and their sums."""
     began = time.strftime("%Y-%m-%d")
     for script in ("exit 0", "exit 0", "exit 5"):
         found.run("firmctl", "wait", found.submit("--job", "past", "--", "sh", "-c", script))
     rows = found.json("history", "--job", "past")["history"]
     require([row["outcome"] for row in rows] == ["done", "done", "failed"] and rows[2]["status"] == 5, rows)
+    require([(row["max_rss"], row["cpu_seconds"]) for row in rows] == [(3 * 2**20, 0.25)] * 3, rows)
+    for told in (found.firmctl("history", "--job", "past"), found.firmctl("show", rows[0]["task"])):
+        require("CPU" in told and "MAXRSS" in told and " 3M " in told, told)
     text = found.firmctl("history", "--job", "past", "--csv")
     read = list(csv.DictReader(text.splitlines()))
     require(len(read) == 3 and read[2]["status"] == "5" and list(read[0])[:2] == ["task", "number"], read)
+    require([row["max_rss"] for row in read] == [str(row["max_rss"]) for row in rows], read)
     head, line = found.firmctl("history", "--by", "job", "--job", "past").splitlines()
-    require(head.split() == ["KEY", "ATTEMPTS", "DONE", "FAILED", "AGAIN", "OTHERS", "TIME"], head)
+    require(head.split() == ["KEY", "ATTEMPTS", "DONE", "FAILED", "AGAIN", "OTHERS", "TIME", "CPU"], head)
     require(line.split()[:6] == ["past", "3", "2", "1", "0", "0"], line)
     keys = {
         by: found.json("history", "--job", "past", "--by", by)["history"][0]["key"] for by in ("user", "day", "tenant")
@@ -320,25 +386,26 @@ def tables(found: Cluster) -> None:
     require(status.startswith("tenant alpha: ") and " of 60 nodes" in status, status)
     require(found.firmctl("top").startswith("tenant alpha: "), "top")
     require(set(found.json("top")) == {"machines", "tasks", "status"}, "top as JSON")
-    state = str(found.daemon.state)
-    require(found.firmctl("machines", "--state", state).startswith("TENANT "), "firmd's machines")
-    require("firmd has run for" in found.firmctl("status", "--state", state), "firmd's status")
+    require(found.firmctl("machines", "alpha").startswith("TENANT "), "firm's machines")
+    alone = {"FIRM_SERVER": found.server, "FIRM_TENANT": ""}
+    done = program.run_words([sys.executable, str(SERVICE / "firmctl"), "status"], b"", alone)
+    require(b"firmd has run for" in done.output, f"firmd's status: {done}")
     found.firmctl("cancel", "shown")
 
 
 def reasons(built: str) -> None:
-    """`why` tells each user, under the queue's names, what a held, blocked, queued, waiting or running task waits for,
-    and names no other's task; `ps` has a reason, `--start` an estimate, and `show` all of a task."""
+    """`why` explains to each user, under the queue's names, the wait of a held, blocked, queued or waiting task, and
+    a running one; it names no other's task. `ps` has a reason, `--start` an estimate, and `show` all of a task."""
     if not program.built("firm_explain").exists():
         raise Skipped("firm_explain is not built: ./build.py firm_explain")
     with cluster(built, m1=1) as found:
         job = ("--job", "known", "--time", "1h")
         found.run("firmctl", "wait", found.submit("--job", "known", "--", "sleep", "1"))
         first = found.submit(*job, "--", "sleep", "1000")
-        wait_until(lambda: found.task(first).state == "running", "it does not run")
+        wait_until(lambda: found.task(first)["state"] == "running", "it does not run")
         number = found.submit(*job, "--array", "1-2", "--env", "A=b c", "--output", "%t.out", "--", "true")
         held, blocked = found.submit("--hold", "--", "true"), found.submit("--after", first, "--", "true")
-        wait_until(lambda: found.task(f"{number}_1").reason == "no free slot", "why it waits")
+        wait_until(lambda: is_without_slot(found.task(f"{number}_1")), "why it waits")
         told = {name: found.firmctl("why", name) for name in (held, blocked, first)}
         require(f"is held\nit does not start before `firmctl release {held}`\n" in told[held], told)
         require(told[blocked].endswith(f" is blocked: waits for {first}\n"), told)
@@ -351,9 +418,9 @@ def reasons(built: str) -> None:
         require(re.match(r"\d\d-\d\d \d\d:\d\d:\d\d +no free slot", str(started[f"{number}_[1-2]"])), started)
         rows = {row["task"]: row["start"] for row in found.json("ps", "--start")["tasks"]}
         require(
-            abs(rows[f"{number}_1"] - time.time()) < LIMIT_SECONDS, f"at once, as what runs is late already: {rows}"
+            abs(rows[f"{number}_1"] - time.time()) < ESTIMATE_SECONDS, f"at once, as what runs is late already: {rows}"
         )
-        require(1 <= rows[f"{number}_2"] - rows[f"{number}_1"] < LIMIT_SECONDS, f"a run of the job later: {rows}")
+        require(0.5 <= rows[f"{number}_2"] - rows[f"{number}_1"] < ESTIMATE_SECONDS, f"a run of the job later: {rows}")
         require((rows[first], rows[held], rows[blocked]) == (None, None, None), rows)
         shown = found.firmctl("show", f"{number}_1")
         for line in (
@@ -376,23 +443,29 @@ def reasons(built: str) -> None:
 
 def as_another_user(found: Cluster, other: str) -> None:
     """A user's `why` names no task of another, and refuses such a task."""
-    for path in (found.folder, found.socket):
+    for path in (found.folder, found.folder / "api"):
         path.chmod(0o777)
-    lines, refusal = as_user_does(ANN, partial(why_of_user, found.socket, other))
+    lines, refusal = as_user_does(ANN, partial(why_of_user, found.client(), other))
     told = " ".join(lines)
     require("would run on m1; a task of another user would wait" in told, told)
-    require(not re.search(rf"\b{other}\b", told) and refusal == "no-such-task", f"{told}; {refusal}")
+    names = re.sub(r"\b(rounds|slots|weight|cost|costs it|least) \d+", "", told)
+    require(not re.search(rf"\b{other}\b", names) and refusal == "no-such-task", f"{told}; {refusal}")
 
 
-def why_of_user(path: Path, other: str) -> list[object]:
+def is_without_slot(task: Mapping[str, Any]) -> bool:
+    """Return whether a task waits in firm: a queued one may have the same reason."""
+    return (task["state"], task["reason"]) == ("waiting", "no free slot")
+
+
+def why_of_user(client: ApiClient, other: str) -> list[object]:
     """Return the reasons of the user's own waiting task, and the refusal for another user's task."""
-    with Queue(path) as queue:
-        number = queue.submit(Submission(command=("true",), dir="/")).id
-        wait_until(lambda: queue.task(number).task.reason == "no free slot", "it does not wait")
-        try:
-            return [queue.why(number), queue.why(other)]
-        except client.Refused as refusal:
-            return [queue.why(number), refusal.name]
+    (made,) = client.ask(calls.submit([{"command": ["true"], "dir": "/"}]))
+    number = str(made["number"])
+    wait_until(lambda: is_without_slot(client.ask(calls.one_task(number))), "it does not wait")
+    try:
+        return [client.ask(calls.why(number))["text"], client.ask(calls.why(other))["text"]]
+    except ApiError as refusal:
+        return [client.ask(calls.why(number))["text"], refusal.name]
 
 
 def shown_words(found: Cluster) -> None:
@@ -406,44 +479,91 @@ def shown_words(found: Cluster) -> None:
     found.firmctl("cancel", "words")
 
 
+def altered(work: calls.SubmissionFields, **fields: Any) -> Any:
+    """Return the same work with other fields."""
+    return {**work, **fields}
+
+
 def clients(found: Cluster) -> None:
-    """The synchronous client: typed results, errors by name, a log and a wait."""
-    with Queue(found.socket) as queue:
-        work = Submission(command=("sh", "-c", "echo $X; exit 4"), dir="/", env={"X": "y"}, job="typed", retries=1)
-        submitted = queue.submit(work)
-        require(list(submitted.tasks) == [submitted.id] and submitted.job == "typed", submitted)
-        require(queue.wait([submitted.id])[submitted.id] == client.End(state="failed", status=4), "wait")
-        detail = queue.task(submitted.id)
-        require(detail.task.has_ended and [one.status for one in detail.attempts] == [4, 4], detail)
-        require(b"".join(queue.log(submitted.id)) == b"y\n", "log")
-        past = queue.history(client.Span(job="typed"))
-        require([one.attempt for one in past] == [1, 2] and past[0].user == "root", past)
-        with suppress(client.Refused):
-            queue.task("99999")
-            require(False, "there is no such task")
+    """The synchronous client: rows, errors by name, a log, a wait, and lists with ended tasks."""
+    ask = found.client().ask
+    work: calls.SubmissionFields = {
+        "command": ["sh", "-c", "echo $X; exit 4"],
+        "dir": "/",
+        "job": "typed",
+        "retries": 1,
+    }
+    (made,) = ask(calls.submit([altered(work, env={"X": "y"})]))
+    number = str(made["number"])
+    require(made["job"] == "typed" and ask(calls.wait([number])) == {number: {"state": "failed", "status": 4}}, made)
+    detail = ask(calls.one_task(number))
+    require(detail["state"] == "failed" and [one["status"] for one in detail["attempts"]] == [4, 4], detail)
+    require(b"".join(found.client().log(number)) == b"y\n", "log")
+    past = ask(calls.history(job="typed"))
+    require([one["attempt"] for one in past] == [1, 2] and past[0]["user"] == "root", past)
+    for name, more, steps in (
+        ("no-such-task", {}, calls.one_task("99999")),
+        ("no-such-task", {}, calls.wait([number, "99999"])),
+        ("bad-field", {"field": "dir", "at": 0}, calls.submit([altered(work, dir="relative")])),
+    ):
         try:
-            queue.submit(Submission(command=("true",), dir="relative"))
-        except client.Refused as refusal:
-            require(refusal.name == "bad-field" and refusal.more["field"] == "dir", refusal.more)
-        require(queue.status().is_operator and not queue.tasks(job="typed"), "status")
-        two = queue.submit_all([work, Submission(command=("true",), dir="/", array=(1, 2))])
-        require(list(two[1].tasks) == [f"{two[1].number}_1", f"{two[1].number}_2"] and not two.more, two)
+            ask(steps)
+            require(False, f"{name} is taken")
+        except ApiError as refusal:
+            require((refusal.name, refusal.more) == (name, more), f"{refusal.name}: {refusal.more}")
+    two = ask(calls.submit([work, {"command": ["true"], "dir": "/", "job": "typed", "array": "1-2", "hold": True}]))
+    held = [f"{two[1]['number']}_{index}" for index in (1, 2)]
+    require([row["task"] for row in ask(calls.tasks(["held"], job="typed"))] == held, "in a state")
+    require([row["task"] for row in ask(calls.tasks(of=str(two[1]["number"])))] == held, "of a submission")
+    ask(calls.change("cancel", jobs=["typed"]))
+    ask(calls.wait([str(two[0]["number"])]))
+    names = [row["task"] for row in ask(calls.tasks(["failed", "cancelled"], user="root", job="typed"))]
+    require(names[:1] == [number] and set(held) < set(names), f"what has ended: {names}")
+    require([row["task"] for row in ask(calls.tasks(["cancelled", "held"], job="typed"))][-2:] == held, "both kinds")
+    waits = ask(calls.wait([str(ask(calls.submit([altered(work, hold=True)]))[0]["number"])], 0.1))
+    require([end["state"] for end in waits.values()] == ["held"], waits)
+    ask(calls.change("cancel", jobs=["typed"]))
 
 
-async def ask_asynchronously(path: Path) -> None:
-    async with async_client.AsyncQueue(path) as queue:
-        work = Submission(command=("sh", "-c", "echo one; sleep 0.2; echo two"), dir="/", job="async")
-        submitted = await asyncio.gather(*[queue.submit(work) for _ in range(5)])
-        names = [one.id for one in submitted]
-        require(len(set(names)) == 5, names)
-        pieces = [piece async for piece in queue.log(names[0], follow=True)]
-        require(b"".join(pieces) == b"one\ntwo\n", pieces)
-        ends, status = await asyncio.gather(queue.wait(names), queue.status())
-        require({end.state for end in ends.values()} == {"done"} and status.tenant == "alpha", ends)
-        with suppress(client.Refused):
-            await queue.cancel(["99999"])
-            require(False, "there is no such task")
-        require(len(await queue.history(client.Span(job="async"))) == 5, "history")
+ASYNCHRONOUS = """\
+import asyncio, sys
+from firm.client import calls
+from firm.client.asynchronous import AsyncApiClient
+from firm.client.blocking import ApiError
+
+async def ask() -> None:
+    async with AsyncApiClient(sys.argv[1], "alpha") as client:
+        work = {"command": ["sh", "-c", "echo one; sleep 0.2; echo two"], "dir": "/", "job": "async"}
+        events = client.events()
+        following = asyncio.create_task(anext(events))
+        made = await asyncio.gather(*[client.ask(calls.submit([work])) for _ in range(5)])
+        names = [str(one["number"]) for (one,) in made]
+        assert len(set(names)) == 5, names
+        pieces = [piece async for piece in client.log(names[0], follow=True)]
+        assert b"".join(pieces) == b"one\\ntwo\\n", pieces
+        ends = await client.ask(calls.wait(names))
+        assert {end["state"] for end in ends.values()} == {"done"}, ends
+        kind, row = await following
+        assert kind in ("task", "reset"), (kind, row)
+        try:
+            await client.ask(calls.change("cancel", ["99999"]))
+        except ApiError as refusal:
+            assert refusal.name == "no-such-task", refusal.name
+        else:
+            raise AssertionError("there is no such task")
+        assert len(await client.ask(calls.history(job="async"))) == 5
+        (made,) = await AsyncApiClient.ask(client, calls.submit([{**work, "hold": True}], "again"))
+        print(made["number"])
+
+asyncio.run(ask())
+"""
+
+
+def asynchronous_client(found: Cluster) -> None:
+    """The asynchronous client does the same, and sends requests of several tasks at a time."""
+    done = python_of_clients(found, ASYNCHRONOUS, found.server)
+    require(done.status == 0 and done.output.strip().isdigit(), done)
+    found.client().ask(calls.change("cancel", jobs=["async"]))
 
 
 def client_of_the_page(found: Cluster) -> None:
@@ -451,115 +571,64 @@ def client_of_the_page(found: Cluster) -> None:
     (example,) = [
         block.text for block in blocks_of((ROOT / "docs" / "CLIENTS.md").read_text()) if block.kind == "python"
     ]
-    for text, here in [("/run/firm/queue", str(found.socket)), ("/home/ann", "/"), ('"./train.sh"', '"echo"')]:
+    for text, here in [("unix:/run/firm/api", found.server), ("/home/ann", "/"), ('"./train.sh"', '"echo"')]:
         require(text in example, f"{text} is not in the example")
         example = example.replace(text, here)
-    words = [sys.executable, "-c", example]
-    done = subprocess.run(words, capture_output=True, cwd=SERVICE, timeout=300)
-    require((done.returncode, done.stdout) == (0, b"7\n0\n"), done)
-
-
-def asynchronous_client(found: Cluster) -> None:
-    asyncio.run(ask_asynchronously(found.socket))
-
-
-@contextmanager
-def robber(path: Path, queue: Path, count: int) -> Iterator[None]:
-    """A socket in front of the queue's that loses the first answers: the requests arrive."""
-    listening = socket.socket(socket.AF_UNIX)
-    listening.bind(str(path))
-    listening.listen()
-
-    def serve() -> None:
-        for number in range(count + 1):
-            caller, _ = listening.accept()
-            with caller, socket.socket(socket.AF_UNIX) as behind:
-                behind.connect(str(queue))
-                while request := caller.recv(1 << 20):
-                    behind.sendall(request)
-                    answer = behind.recv(1 << 20)
-                    if number < count:
-                        break
-                    caller.sendall(answer)
-
-    thread = threading.Thread(target=serve, daemon=True)
-    thread.start()
-    try:
-        yield
-    finally:
-        listening.close()
-
-
-def lost_answers(found: Cluster) -> None:
-    """A submission whose answer was lost is sent again, and made once: by each client."""
-    work = Submission(command=("true",), dir="/", job="robbed", hold=True)
-    with robber(found.folder / "robbed", found.socket, 2), Queue(found.folder / "robbed") as queue:
-        first = queue.submit(work)
-    require(first.again, first)
-
-    async def submit() -> client.Submitted:
-        async with async_client.AsyncQueue(found.folder / "robbed-too") as queue:
-            return await queue.submit(work)
-
-    with robber(found.folder / "robbed-too", found.socket, 2):
-        second = asyncio.run(submit())
-    tasks = [row["task"] for row in found.json("ps", "--job", "robbed")["tasks"]]
-    require(second.again and tasks == [first.id, second.id], f"{tasks}: {first}, {second}")
-    found.firmctl("cancel", "robbed")
-
-
-@contextmanager
-def deaf(path: Path) -> Iterator[None]:
-    """A socket whose connections take no request, and soon end."""
-    listening = socket.socket(socket.AF_UNIX)
-    listening.bind(str(path))
-    listening.listen()
-
-    def serve() -> None:
-        with suppress(OSError):  # it is closed
-            while True:
-                with listening.accept()[0] as caller:
-                    caller.shutdown(socket.SHUT_RD)
-                    time.sleep(0.05)
-
-    thread = threading.Thread(target=serve, daemon=True)
-    thread.start()
-    try:
-        yield
-    finally:
-        listening.close()
-
-
-def a_queue_that_leaves(found: Cluster) -> None:
-    """A queue that takes no request gives status 3, and no signal ends firmctl without a word."""
-    path = found.folder / "deaf"
-    with deaf(path):
-        done = found.run("firmctl", "submit", "--queue", str(path), "--patience", "1", "--", "true")
-    require(done.status == 3 and f"no queue answers at {path}".encode() in done.faults, done)
+    done = python_of_clients(found, example)
+    require((done.status, done.output) == (0, b"7\n0\n"), done)
 
 
 def kills(built: str, count: int) -> None:
-    """The queue is killed again and again while clients submit and wait: nothing is lost or doubled."""
+    """The server is killed again and again while clients submit and wait: nothing is lost or doubled."""
     with cluster(built) as found:
         with ThreadPoolExecutor() as pool:
-            submitting = [pool.submit(submit_many, found.socket, f"k{number}", 60 * count) for number in range(3)]
+            submitting = [pool.submit(submit_many, found.client(), f"k{number}", 60 * count) for number in range(3)]
             for _ in range(count):
                 time.sleep(0.4)
                 found.kill_queue()
                 time.sleep(0.1)
                 found.start_queue()
             numbers = [number for future in submitting for number in future.result()]
-        with Queue(found.socket) as queue:
-            tasks = queue.tasks()
-            require(len(numbers) == 180 * count == len(set(numbers)), f"{len(numbers)} answers")
-            require(
-                sorted(numbers) == sorted(task.task for task in tasks), f"{len(tasks)} tasks, {len(numbers)} answers"
-            )
+        tasks = found.client().ask(calls.tasks())
+        require(len(numbers) == 180 * count == len(set(numbers)), f"{len(numbers)} answers")
+        require(sorted(numbers) == sorted(row["task"] for row in tasks), f"{len(tasks)} tasks, {len(numbers)} answers")
 
 
-def submit_many(path: Path, job: str, count: int) -> list[str]:
-    with Queue(path) as queue:
-        return [queue.submit(Submission(command=("true",), dir="/", job=job, hold=True)).id for _ in range(count)]
+WRITER = "i=0; while [ $i -lt 600 ]; do i=$((i + 1)); echo line $i; [ $((i % 20)) = 0 ] && sleep 0.1; done; exit 7"
+
+
+def deaths(built: str) -> None:
+    """A followed log and a wait go on over kills of the server: each byte comes once."""
+    with cluster(built, m1=1) as found:
+        number = found.submit("--", "sh", "-c", WRITER)
+        at = [sys.executable, str(SERVICE / "firmctl"), "--server", found.server]
+        with subprocess.Popen([*at, "logs", "-f", number], stdout=subprocess.PIPE) as following:
+            with subprocess.Popen([*at, "wait", number], stderr=subprocess.PIPE) as waiting:
+                output = program.opened(following.stdout)
+                said = output.readline()
+                wait_until(lambda: has_answered_wait(found), "the wait has not begun")
+                for _ in range(2):
+                    found.kill_queue()
+                    time.sleep(0.2)
+                    found.start_queue()
+                said += output.read()
+                require(waiting.wait(LIMIT_SECONDS) == 7, program.opened(waiting.stderr).read())
+            require(following.wait(LIMIT_SECONDS) == 0, "its end")
+        wanted = "".join(f"line {place}\n" for place in range(1, 601)).encode()
+        require(said == wanted, f"{len(said)} bytes and not {len(wanted)}")
+
+
+def has_answered_wait(found: Cluster) -> bool:
+    """Return whether a wait is answered. firmctl's first wait, for no time, finds out whether a server is there."""
+    with closing(Connection(found.folder / "api")) as connection:
+        text = connection.ask("GET", "/metrics").body.decode()
+    return re.search(r'(?m)^firm_api_requests_total\{.*operation="wait"', text) is not None
+
+
+def submit_many(client: ApiClient, job: str, count: int) -> list[str]:
+    client.patience = LIMIT_SECONDS  # a start takes long on a busy host
+    work: calls.SubmissionFields = {"command": ["true"], "dir": "/", "job": job, "hold": True}
+    return [str(client.ask(calls.submit([work]))[0]["number"]) for _ in range(count)]
 
 
 def help_names_the_statuses() -> None:
@@ -568,14 +637,27 @@ def help_names_the_statuses() -> None:
         require(done.status == 0 and b"exit statuses:\n  0 " in done.output, words)
 
 
-SHARED = [statuses_of_waits, arrays, files, words_are_judged, logs, changes, history, tables, shown_words, clients]
-SHARED += [client_of_the_page, asynchronous_client, lost_answers, a_queue_that_leaves]
+SHARED: list[Callable[[Cluster], None]] = [
+    statuses_of_waits,
+    arrays,
+    files,
+    words_are_judged,
+    odd_names,
+    logs,
+    changes,
+    history,
+    tables,
+    shown_words,
+    clients,
+]
+SHARED += [client_of_the_page, asynchronous_client, *submit_servers.CHECKS]
 
 
 def checks(built: str, found: Cluster, is_quick: bool) -> dict[str, Check]:
-    """The slow ones first, as several are done at a time."""
+    """Return the checks by name, the slow ones first, as several run at a time."""
     count = 2 if is_quick else 20
     own: dict[str, Check] = {f"{count} kills of the queue": partial(kills, built, count)}
+    own["deaths of the server"] = partial(deaths, built)
     own |= {"listed arrays": partial(listed_arrays, built), "reasons": partial(reasons, built)}
     own |= {check.__name__.replace("_", " "): partial(check, found) for check in SHARED}
     return own | {"forms": forms_are_read, "help": help_names_the_statuses}
@@ -585,7 +667,7 @@ def main() -> int:
     parser = argparse.ArgumentParser(description=(__doc__ or "").splitlines()[0])
     program.add_program(parser)
     parser.add_argument("--quick", action="store_true", help="the part that tests/quick runs")
-    parser.add_argument("--only", default="", help="the checks whose names have these words")
+    parser.add_argument("--only", default="", help="run only the checks whose names have these words")
     options = parser.parse_args()
     with cluster(options.program, m1=8, m2=8, spare=1) as found:
         named = checks(options.program, found, options.quick)

@@ -1,4 +1,4 @@
-"""firmd, firm-queue and an agent of a few lines, by the queue's protocol, that runs real processes: for submit.py."""
+"""firmd, firm-api and an agent of a few lines, by the API, that runs real processes: for submit.py."""
 
 from __future__ import annotations
 
@@ -6,7 +6,6 @@ import json
 import os
 import secrets
 import signal
-import socket
 import subprocess
 import sys
 import threading
@@ -18,38 +17,17 @@ from pathlib import Path
 from typing import Any
 
 import firmd_kit
-from harness.checks import require
-from harness.deployed import SERVICE, client, firmctl, submitting
+from harness.checks import Skipped, require
+from harness.deployed import SERVICE, firmctl, submitting
 from harness.program import Run, run_words
+from hostile import python_with_http
+from queue_client import Client, Closed, Connection, Json, Place, Refusal
+
+from firm.client import calls
+from firm.client.blocking import ApiClient
 
 ROSTER = firmd_kit.HEADING + b"alpha,60,400,1000000000,0,1000\n"
-LOOK_SECONDS, BEAT_SECONDS, LIMIT_SECONDS = 0.02, 1.0, 180.0
-Json = dict[str, Any]
-
-
-class Lines:
-    """A socket of JSON lines."""
-
-    def __init__(self, path: Path) -> None:
-        self._socket = socket.socket(socket.AF_UNIX)
-        self._socket.settimeout(LIMIT_SECONDS)
-        self._socket.connect(str(path))
-        self._answers = self._socket.makefile("rb")
-
-    def ask(self, **request: Any) -> Json:
-        """The answer; what an agent is told in between is passed over."""
-        self._socket.sendall(json.dumps(request).encode() + b"\n")
-        while True:
-            line = self._answers.readline()
-            if not line.endswith(b"\n"):
-                raise ConnectionError("it has closed the connection")
-            answer: Json = json.loads(line)
-            if "tell" not in answer:
-                return answer
-
-    def close(self) -> None:
-        self._answers.close()
-        self._socket.close()
+LOOK_SECONDS, BEAT_SECONDS, LIMIT_SECONDS = 0.02, 1.0, 600.0
 
 
 @dataclass
@@ -61,11 +39,11 @@ class Process:
 
 @dataclass
 class Runner:
-    """An agent: starts what firm places on its machines, ends what it takes away, and tells the queue. It has a thread
-    of its own, which alone has its processes."""
+    """An agent: it starts the tasks that firm places on its machines, ends those that firm withdraws, and reports to
+    the queue. A separate thread alone has its processes."""
 
-    socket: Path
-    view: Path
+    place: Place
+    state: Path  # firmd's folder
     folder: Path
     machines: dict[str, int]
     id: str = field(default_factory=lambda: secrets.token_hex(8))
@@ -86,29 +64,31 @@ class Runner:
 
     def _run(self) -> None:
         while not self._is_over.wait(LOOK_SECONDS):
-            with suppress(OSError):  # a queue that is away is looked for again
-                queue, view = Lines(self.socket), Lines(self.view)
-                try:
-                    self._serve(queue, view)
-                finally:
-                    queue.close()
-                    view.close()
+            with suppress(OSError, Closed, Refusal):  # it tries again while the queue is away
+                with Client(self.place) as queue:
+                    self._serve(queue)
 
-    def _serve(self, queue: Lines, view: Lines) -> None:
+    def _serve(self, queue: Client) -> None:
         runs = [
             {"token": token, "task": process.task, "run": 1, "machine": next(iter(self.machines)), "state": "running"}
             for token, process in self._processes.items()
         ]
-        queue.ask(ask="register", agent="a1", id=self.id, machines=self.machines, runs=runs)
+        agent = {"agent": "a1", "id": self.id, "machines": self.machines, "runs": runs}
+        while "error" in queue.try_ask("register", **agent):
+            if self._is_over.wait(LOOK_SECONDS):  # the queue may still have its former connection
+                return
         beat = time.monotonic()
         while not self._is_over.wait(LOOK_SECONDS):
             if time.monotonic() - beat > BEAT_SECONDS:
-                queue.ask(ask="beat")
+                queue.try_ask("beat")
                 beat = time.monotonic()
-            self._look(queue, view)
+            self._look(queue)
 
-    def _look(self, queue: Lines, view: Lines) -> None:
-        rows = {row["task"]: row for row in view.ask(ask="tasks", tenant="alpha")["tasks"] if row["machine"]}
+    def _look(self, queue: Client) -> None:
+        answer = Connection(self.place.socket).ask("GET", "/v1/tenants/alpha/firm/tasks?limit=1000")
+        if answer.status != 200:  # firmd is away
+            return
+        rows = {row["task"]: row for row in answer.json()["rows"] if row["machine"]}
         for process in self._processes.values():
             if process.task not in rows and not process.is_asked:
                 process.is_asked = True
@@ -118,7 +98,7 @@ class Runner:
             status = process.popen.poll()
             if status is not None:
                 end = {"status": 128 - status if status < 0 else status, "asked": process.is_asked, "why": None}
-                self._tell(queue, token, "ended", **end)
+                self._tell(queue, token, "ended", **end, max_rss=3 * 2**20, cpu_seconds=0.25)
                 del self._processes[token]
         running = {process.task for process in self._processes.values()}
         state = self._state()
@@ -127,12 +107,12 @@ class Runner:
                 self._begin(queue, row, state)
 
     def _state(self) -> str:
-        return (self.view.parent / "id").read_text().strip()
+        return (self.state / "id").read_text().strip()
 
-    def _begin(self, queue: Lines, row: Json, state: str) -> None:
+    def _begin(self, queue: Client, row: Json, state: str) -> None:
         token = secrets.token_hex(8)
         place = {"task": row["task"], "line": row["line"], "machine": row["machine"], "state": state}
-        work = queue.ask(ask="claim", token=token, run=1, **place).get("claim", {}).get("work")
+        work = queue.try_ask("claim", token=token, run=1, **place).get("claim", {}).get("work")
         if work is None:
             return
         path = work["output"] or str(self.folder / f"{token}.output")
@@ -142,13 +122,13 @@ class Runner:
         self._processes[token] = Process(row["task"], popen)
         self._tell(queue, token, "running", pid=popen.pid, output=path, host=None)
 
-    def _tell(self, queue: Lines, token: str, event: str, **more: Any) -> None:
-        queue.ask(ask="told", events=[{"token": token, "time": time.time(), "event": event, **more}])
+    def _tell(self, queue: Client, token: str, event: str, **more: Any) -> None:
+        queue.try_ask("told", events=[{"token": token, "time": time.time(), "event": event, **more}])
 
 
 @dataclass
 class Cluster:
-    """All of it, in one folder."""
+    """firmd, firm-api and the agent, in one folder."""
 
     daemon: firmd_kit.Daemon
     queue: subprocess.Popen[bytes] | None = None
@@ -158,30 +138,30 @@ class Cluster:
     def folder(self) -> Path:
         return self.daemon.folder
 
-    @property
-    def socket(self) -> Path:
-        return self.folder / "queue"
-
     def start_queue(self) -> None:
-        words = [sys.executable, str(SERVICE / "firm-queue"), "run", "--tenant", "alpha", "--no-rounds"]
-        words += ["--state", str(self.folder / "queue-state"), "--socket", str(self.socket)]
-        words += ["--firm", str(self.daemon.any), "--view", str(self.daemon.state / "view")]
+        words = [sys.executable, str(SERVICE / "firm-api"), "run", "--no-rounds"]
+        words += ["--state", str(self.daemon.state), "--socket", str(self.folder / "api"), "--socket-mode", "666"]
+        places = {"lines": self.daemon.any, "queue": self.folder / "queue-state"}
+        words += [f"--{name}=alpha={path}" for name, path in places.items()]
+        ends, before = time.monotonic() + LIMIT_SECONDS, self.said().count("firm-api: ready")
         with open(self.folder / "queue-errors", "ab") as errors:
             self.queue = subprocess.Popen(words, stdin=subprocess.DEVNULL, stderr=errors)
-        ends = time.monotonic() + LIMIT_SECONDS
-        while not self.is_served():
-            require(self.queue.poll() is None, f"firm-queue ended: {self.said()}")
-            require(time.monotonic() < ends, f"firm-queue is not there in time: {self.said()}")
+        while self.said().count("firm-api: ready") == before:
+            require(self.queue.poll() is None, f"firm-api ended: {self.said()}")
+            require(time.monotonic() < ends, f"firm-api is not there in time: {self.said()}")
             time.sleep(0.01)
 
-    def is_served(self) -> bool:
-        with suppress(OSError):
-            Lines(self.socket).close()
-            return True
-        return False
+    @property
+    def server(self) -> str:
+        """Return the address of firm-api."""
+        return f"unix:{self.folder / 'api'}"
+
+    def client(self) -> ApiClient:
+        return ApiClient(self.server, "alpha")
 
     def said(self) -> str:
-        return (self.folder / "queue-errors").read_text()
+        path = self.folder / "queue-errors"
+        return path.read_text() if path.exists() else ""
 
     def kill_queue(self) -> None:
         if self.queue is not None:
@@ -190,16 +170,18 @@ class Cluster:
             self.queue = None
 
     def start_runner(self, **machines: int) -> None:
-        self.runner = Runner(self.socket, self.daemon.state / "view", self.folder, machines)
+        self.runner = Runner(Place(self.folder / "api", "alpha"), self.daemon.state, self.folder, machines)
 
     def run(self, program: str, *words: str, text: str = "") -> Run:
-        """A program of the service, with this queue in its environment."""
+        """Run a program of the service, with this server and tenant in its environment."""
         return run_words(
-            [sys.executable, str(SERVICE / program), *words], text.encode(), {"FIRM_QUEUE": str(self.socket)}
+            [sys.executable, str(SERVICE / program), *words],
+            text.encode(),
+            {"FIRM_SERVER": self.server, "FIRM_TENANT": "alpha"},
         )
 
     def firmctl(self, *words: str) -> str:
-        """What it prints where it ends well."""
+        """Return firmctl's output; require status 0."""
         done = self.run("firmctl", *words)
         require(done.status == 0, f"{words}: {done}")
         return done.output.decode()
@@ -207,19 +189,17 @@ class Cluster:
     def json(self, *words: str) -> Any:
         return json.loads(self.firmctl("--json", *words))
 
-    def task(self, name: str) -> client.Task:
-        with client.Queue(self.socket) as queue:
-            return queue.task(name).task
+    def task(self, name: str) -> Json:
+        return self.client().ask(calls.one_task(name))
 
-    def machine(self, name: str) -> client.Machine:
-        with client.Queue(self.socket) as queue:
-            return {machine.machine: machine for machine in queue.machines()}[name]
+    def machine(self, name: str) -> Json:
+        return {row["machine"]: row for row in self.client().ask(calls.rows_of("machines"))}[name]
 
     def submit(self, *words: str) -> str:
-        """The number of a submission, by what `firmctl submit` does."""
-        where = ["submit", "--queue", str(self.socket), "--dir", str(self.folder)]
+        """Submit by `firmctl submit`; return the submission's number."""
+        where = ["submit", "--server", self.server, "--tenant", "alpha", "--dir", str(self.folder)]
         (submitted,) = submitting.submit(firmctl.parser("submit").parse_args([*where, *words]))
-        return submitted.id
+        return str(submitted["number"])
 
 
 @contextmanager
@@ -236,3 +216,11 @@ def cluster(built: str, **machines: int) -> Iterator[Cluster]:
             if found.runner is not None:
                 found.runner.stop()
             found.kill_queue()
+
+
+def python_of_clients(found: Cluster, text: str, *words: str) -> Run:
+    """Run a text with aiohttp, and the packages of the service."""
+    python = python_with_http()
+    if python is None:
+        raise Skipped("no Python has aiohttp (apt-get install python3-aiohttp)")
+    return run_words([python, "-c", text, *words], b"", {"PYTHONPATH": str(SERVICE)})

@@ -1,9 +1,9 @@
 #!/usr/bin/env bash
 # Runs the program under ThreadSanitizer: the code that the kit's compiler hands to LLVM, built once more with each
 # access to memory watched. usage: tests/threads.sh [STREAMS]
-# A data race, or an output that differs, gives status 1. So does a control in which nothing is found: the same code
-# with the orderings of its atomic accesses taken away has to race. It needs the kit, Python 3, and Debian's clang with
-# its sanitizers; the status is 2 where one of them is not there.
+# A data race, or an output that differs, gives status 1. So does a control without a race: the same code without the
+# orderings of its atomic accesses has to race. It needs the kit, Python 3, and Debian's clang with its sanitizers; the
+# status is 2 if one of them is missing.
 set -eu -o pipefail
 here=$(cd "$(dirname "$0")" && pwd)
 streams=${1:-200}
@@ -17,7 +17,7 @@ kit=$(dirname "$(rt doc)")
 folder=$(mktemp -d)
 trap 'rm -r "$folder"' EXIT
 
-# A view of the kit in which the compiler leaves what it is given.
+# A view of the kit whose compiler leaves a copy of its input.
 mkdir -p "$folder/kit/bin" "$folder/kit/toolchain/bin"
 for entry in "$kit"/*; do
     case $entry in */bin | */toolchain) ;; *) ln -s "$entry" "$folder/kit/" ;; esac
@@ -88,7 +88,7 @@ run compare.py --program "$folder/watched" --workers 2 --streams "$streams" --ro
 run compare.py --program "$folder/watched" --workers 8 --streams "$streams" --rosters 5 --pieces || missed=1
 run live.py --program "$folder/watched" --only "line by line" --streams 20 || missed=1
 if day unordered 2; then
-    echo "MISSED: without orderings nothing was found, so nothing was watched"
+    echo "MISSED: no race without orderings, so the sanitizer watched nothing"
     missed=1
 else
     echo "the control, without orderings: $(grep -c WARNING "$folder/races") races"

@@ -1,7 +1,7 @@
-"""Asks firm whether docs/TUNING.md is right, and whether the rosters of firmctl make-roster have the room they are for.
+"""Check docs/TUNING.md against firm, and that the rosters of firmctl make-roster have the room that they promise.
 
 usage: tools/run tests/tuning.py [--quick] [--program FILE] [--draws N] [--first SEED]
-Each check has a line; the last line is 'N passed, M failed', and the exit status is 1 where one failed. It needs Python
+Each check prints a line; the last line is 'N passed, M failed', and the exit status is 1 if one failed. It needs Python
 3 and the built program. --quick draws fewer numbers.
 """
 
@@ -23,36 +23,36 @@ from harness.program import ROOT
 from harness.sessions import Block, blocks_of
 
 PAGE = ROOT / "docs" / "TUNING.md"
-MOST_WORDS = 700
+MAX_WORDS = 700
 FIRMCTL = [sys.executable, str(SERVICE / "firmctl")]
 ROUND = "round: "
 HEAVY = 1_000_000  # a weight with which tasks take any slot
-Size = sizes.Size
+Size = sizes.TenantSize
 
 
 @dataclass
 class Tenant:
-    """A tenant of firm, and what is said to it."""
+    """A tenant of firm, and its lines so far."""
 
     built: str
     spread: int
     churn: int
     remote: int = 0
-    patience: int = roster.LONGEST_PATIENCE
-    nodes: int = sizes.MOST_NODES
+    patience: int = roster.MAX_PATIENCE
+    nodes: int = sizes.MAX_NODES
     lines: list[str] = field(default_factory=list)
 
     def say(self, *lines: str) -> None:
         self.lines += lines
 
     def replies(self, *more: str) -> list[str]:
-        """What stands behind tenant and number, to all that was said and to these lines."""
-        room = roster.Limits("alpha", self.nodes, sizes.MOST_ARCS, 10**6, self.spread, self.churn)
+        """Return the text after tenant and number, of all lines so far and of these."""
+        room = roster.Limits("alpha", self.nodes, sizes.MAX_ARCS, 10**6, self.spread, self.churn)
         limits = replace(room, remote=self.remote, patience=self.patience)
         return replies_of(self.built, limits, [*self.lines, *more])
 
     def round_with(self, change: str, most: int) -> int:
-        """The number of further rounds, from 1, after which a change comes; 0 where it does not within so many."""
+        """Return the number of further rounds, from 1, until a change comes; 0 if it does not within this many."""
         told = self.replies(*["round"] * most)[len(self.lines) :]
         return next((number for number, reply in enumerate(told, 1) if f" {change}" in reply), 0)
 
@@ -73,7 +73,7 @@ def examples() -> list[Block]:
 
 
 def play(built: str, example: Block) -> None:
-    """An example of the page: costs and lines, and rounds with what comes of them."""
+    """Play an example of the page: costs and lines, and rounds with their changes."""
     first, *rest = example.text.splitlines()
     costs, _, lines = first.partition(": ")
     given = {name: int(value) for name, value in (cost.split() for cost in costs.split(", "))}
@@ -87,11 +87,11 @@ def play(built: str, example: Block) -> None:
 
 def page_is_short() -> None:
     count = len(PAGE.read_text().split())
-    require(count <= MOST_WORDS, f"{count} words")
+    require(count <= MAX_WORDS, f"{count} words")
 
 
 def rows_below(heading: str) -> Iterator[list[str]]:
-    """The cells of the page's table with this first column."""
+    """Yield the cells of the page's table with this first column."""
     lines = PAGE.read_text().splitlines()
     first = next(place for place, line in enumerate(lines) if line.startswith(f"| {heading} |"))
     for line in lines[first + 2 :]:
@@ -114,7 +114,7 @@ def recipes_are_those_of_the_page(built: str) -> None:
 
 
 def uses_each_slot(built: str, recipe: sizes.Recipe, slots: int, weight: int) -> None:
-    """A task that prefers another machine takes the last slot; one that is lighter by 1 waits, where that can be."""
+    """A task that prefers another machine takes the last slot; one that is lighter by 1 waits, if a weight can be."""
     for lighter in range(2 if weight > 1 else 1):
         tenant = Tenant(built, recipe.spread, recipe.churn, recipe.remote)
         tenant.say("machine full 1", f"machine m {slots}", f"job heavy {HEAVY}", f"job light {weight - lighter}")
@@ -124,8 +124,8 @@ def uses_each_slot(built: str, recipe: sizes.Recipe, slots: int, weight: int) ->
 
 
 def sizes_are_those_of_the_page(built: str) -> None:
-    """firm takes as many tasks as the page says, and then refuses one for lack of what it says."""
-    limits = roster.Limits("alpha", sizes.MOST_NODES, sizes.MOST_ARCS, sizes.MOST_LIFE, 0, 0)
+    """firm takes as many tasks as the page says, and then refuses one for lack of the resource that the page names."""
+    limits = roster.Limits("alpha", sizes.MAX_NODES, sizes.MAX_ARCS, sizes.MAX_LIFE, 0, 0)
     for shape, count, bound in rows_below("Machines × slots"):
         machines, slots = [int(number.replace(",", "")) for number in shape.split(" × ")]
         size = Size(machines, slots, 10, int(count.replace(",", "")))
@@ -135,7 +135,7 @@ def sizes_are_those_of_the_page(built: str) -> None:
 
 
 def free_but_dearer(built: str) -> None:
-    """The page's 112 free slots, which no task takes, and which all do without spread."""
+    """The page's 112 free slots: no task takes them, and without spread all are taken."""
     lines = [f"machine m{number} 8" for number in range(30)]
     for job, weight, count in (("web", 20, 128), ("batch", 5, 72), ("night", 1, 100)):
         lines += [f"job {job} {weight}", *[f"task {job} {job}-{number}" for number in range(count)]]
@@ -159,12 +159,12 @@ def around(draw: random.Random, value: int) -> int:
 
 
 def first_wait(needed: int) -> int:
-    """The round, from 1, in which rounds waited are so many."""
+    """Return the round, from 1, at which a wait of this many rounds is reached."""
     return max(0, needed) + 1
 
 
 def starts(built: str, draw: random.Random) -> None:
-    """In its k-th slot: (k - 1) x spread <= weight + rounds waited."""
+    """A task starts in its k-th slot if (k - 1) x spread <= weight + rounds waited."""
     slot, spread = draw.randint(1, 8), draw.randint(0, 6)
     weight = max(1, around(draw, (slot - 1) * spread - draw.randint(0, 3)))
     tenant = Tenant(built, spread, draw.randint(0, 9))
@@ -175,7 +175,7 @@ def starts(built: str, draw: random.Random) -> None:
 
 
 def moves(built: str, draw: random.Random) -> None:
-    """To even the load: (tasks beside it - tasks there) x spread > churn."""
+    """A task moves to even the load if (tasks beside it - tasks there) x spread > churn."""
     beside, there, spread = draw.randint(0, 7), draw.randint(0, 5), draw.randint(0, 6)
     tenant = Tenant(built, spread, around(draw, (beside - there) * spread))
     tenant.say(f"machine n {there + 1}", f"job j {HEAVY}", *tasks("n", there + 1), "round")
@@ -189,7 +189,7 @@ def tasks(name: str, count: int) -> list[str]:
 
 
 def preempts(built: str, draw: random.Random) -> None:
-    """One submitted later does: weight + rounds waited > the other's weight + churn."""
+    """A later task preempts another if weight + rounds waited > the other's weight + churn."""
     running, churn = draw.randint(1, 9), draw.randint(0, 6)
     weight = max(1, around(draw, running + churn - draw.randint(0, 3)))
     tenant = Tenant(built, draw.randint(0, 9), churn)
@@ -199,7 +199,7 @@ def preempts(built: str, draw: random.Random) -> None:
 
 
 def preempts_first(built: str, draw: random.Random) -> None:
-    """One submitted before, that has waited since, does at equal costs too."""
+    """An earlier task, which has waited since, preempts at equal costs too."""
     weight, churn = draw.randint(1, 9), draw.randint(0, 6)
     running = weight + draw.randint(1, 4)
     tenant = Tenant(built, draw.randint(0, 9), churn)
@@ -209,7 +209,7 @@ def preempts_first(built: str, draw: random.Random) -> None:
 
 
 def starts_elsewhere(built: str, draw: random.Random) -> None:
-    """With preferences: (k - 1) x spread + remote <= weight + rounds waited."""
+    """With preferences, a task starts elsewhere if (k - 1) x spread + remote <= weight + rounds waited."""
     slot, spread, remote = draw.randint(1, 8), draw.randint(0, 6), draw.randint(0, 20)
     weight = max(1, around(draw, (slot - 1) * spread + remote - draw.randint(0, 3)))
     tenant = Tenant(built, spread, draw.randint(0, 9), remote)
@@ -220,10 +220,11 @@ def starts_elsewhere(built: str, draw: random.Random) -> None:
 
 
 def never_elsewhere(built: str, draw: random.Random) -> None:
-    """Remote above weight + patience keeps a task from other machines for good, else for remote - weight rounds."""
+    """Remote above weight + patience keeps a task from other machines for good; otherwise it does for remote -
+    weight rounds."""
     weight, patience, remote = draw.randint(1, 9), draw.randint(0, 6), draw.choice([9, 10, 1_000_000])
     if remote == 1_000_000:
-        weight, patience = remote - weight, draw.choice([patience, roster.LONGEST_PATIENCE])
+        weight, patience = remote - weight, draw.choice([patience, roster.MAX_PATIENCE])
     tenant = Tenant(built, 0, 9, remote, patience)
     tenant.say("machine full 1", "machine m 1", f"job j {HEAVY}", f"job light {weight}", "task j f full")
     tenant.say("task light x full")
@@ -232,7 +233,7 @@ def never_elsewhere(built: str, draw: random.Random) -> None:
 
 
 def preempts_its_equal(built: str, draw: random.Random) -> None:
-    """One submitted later, of the same weight, does after churn + 1 rounds, and never with patience <= churn."""
+    """A later task of the same weight preempts after churn + 1 rounds, and never with patience <= churn."""
     weight, churn = draw.randint(1, 9), draw.randint(0, 6)
     tenant = Tenant(built, draw.randint(0, 9), churn, patience=around(draw, churn))
     tenant.say("machine m 1", f"job j {weight}", "task j y", "round", "task j x")
@@ -284,7 +285,7 @@ def drawn(built: str, seeds: range, play_one: Callable[[str, random.Random], Non
 
 
 def lines_of(size: Size) -> list[str]:
-    """Lines that add these rows."""
+    """Return lines that add these rows."""
     near = "".join(f" m{number}" for number in range(size.near))
     lines = [f"machine m{number} {size.slots}" for number in range(size.machines)]
     lines += [f"job j{number} 1" for number in range(size.jobs)]
@@ -292,21 +293,21 @@ def lines_of(size: Size) -> list[str]:
 
 
 def outcome_of_one_more(built: str, limits: roster.Limits, size: Size, line: str) -> str:
-    """What firm says to a line once it has taken all of these rows."""
+    """Return firm's reply to a line once it has taken all of these rows."""
     *taken, last = replies_of(built, limits, [*lines_of(size), line])
     require(set(taken) <= {"ok"}, f"{size}: {set(taken)}")
     return last
 
 
 def has_just_the_room(built: str, seeds: range) -> None:
-    """firm takes the rows that a roster of make-roster is for; nodes and arcs are both used up by them."""
+    """firm takes the rows that a roster of make-roster is for; they use up both nodes and arcs."""
     for seed in seeds:
         draw = random.Random(seed)
         size = Size(
             draw.randint(4, 60), draw.randint(1, 64), draw.randint(1, 9), draw.randint(0, 200), draw.randint(0, 4)
         )
         (limits,) = roster.read_roster(made(size, "--tenant", "t", "--recipe", draw.choice(list(sizes.RECIPES))))
-        job = "job more 1"  # which needs a node and an arc
+        job = "job more 1"  # it needs a node and an arc
         require(outcome_of_one_more(built, limits, size, job) == "no 12 arena-nodes", size)
         limits = replace(limits, nodes=limits.nodes + 1)
         require(outcome_of_one_more(built, limits, size, job) == "no 13 arena-arcs", size)
@@ -333,7 +334,7 @@ def make_roster(size: Size, *words: str) -> program.Run:
 
 
 def too_large_ones_are_refused() -> None:
-    """What no arena holds is refused, with its numbers and with what would fit, which then does."""
+    """A size that no arena holds is refused, with its numbers and with a size that fits, which is then accepted."""
     cases: list[tuple[Size, str, list[tuple[str, int]]]] = [
         (Size(1_000, 64, 1, 3_000), "4,003 nodes and 74,001 arcs", [("tasks", 178), ("machines", 869), ("slots", 55)]),
         (Size(100, 8, 10, 3_985), "4,097 nodes and 12,865 arcs", [("tasks", 3_984), ("machines", 99)]),
@@ -392,7 +393,7 @@ def main() -> int:
     program.add_program(parser)
     parser.add_argument("--quick", action="store_true", help="the part that tests/quick runs")
     parser.add_argument("--draws", type=int, default=1_000)
-    parser.add_argument("--first", type=int, default=1, help="the first seed")
+    parser.add_argument("--first", type=int, default=1, help="first seed of the numbers")
     options = parser.parse_args()
     count = min(options.draws, 60) if options.quick else options.draws
     found = checks(options.program, range(options.first, options.first + count))

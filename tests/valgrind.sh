@@ -2,7 +2,7 @@
 # Runs the built program under a checker of valgrind: on the example day, on random small streams, and on a day of
 # rounds for 100 tasks. A finding, or an output that differs, gives a status that is not 0.
 # usage: tests/valgrind.sh [PROGRAM] [TOOL] [WORKERS]
-# TOOL is memcheck (reads of what was not written, memory that is lost) or, for threads, helgrind or drd.
+# TOOL is memcheck (reads of unwritten memory, leaks) or, for threads, helgrind or drd.
 set -eu -o pipefail
 here=$(cd "$(dirname "$0")" && pwd)
 program=${1:-$here/../crates/firm/out/firm}

@@ -1,11 +1,11 @@
-"""Plays worked services, in pieces and as a client that waits for replies: each line is answered as written here.
+"""Play worked services, in pieces and as a client that waits for replies: each line is answered as written here.
 
 usage: tools/run tests/worked.py [--program FILE] [WORD..]
-Each text of tests/services is a service: its roster, an empty line, and then what is read; what follows '< ' is
-written. Those of this script have bytes that no such text can hold, or many tenants. Each is played with 1, 2 and 8
-workers, and on one thread by firm_explain, whose reasons are left out, and its measure, where it is built. With words
-only the checks whose names have one of them. Each check has a line; the exit status is 1 where one failed. It needs a C
-compiler (cc) for refuse.c, which cuts the input.
+Each text of tests/services is a service: its roster, an empty line, and then the input; lines after '< ' are the
+output. The services in this script have bytes that no such text can hold, or many tenants. Each is played with 1, 2 and
+8 workers. If firm_explain is built, it plays them too, on one thread and without its reasons, and so does its measure.
+With words it runs only the checks whose names have one of them. Each check prints a line; the exit status is 1 if one
+failed. It needs a C compiler (cc) for refuse.c, which cuts the input.
 """
 
 from __future__ import annotations
@@ -25,19 +25,19 @@ HEADING = b"tenant,nodes,arcs,life,spread,churn\n"
 WRITTEN = b"< "
 PIECES = (1, 2, 7, 257, 4096)
 WORKERS = ("1", "2", "8")
-MOST_TENANTS = 64
+MAX_TENANTS = 64
 STAYS = 200  # of tenants one after another at one place
 
 
 class Exchange(NamedTuple):
-    """A line that is read, with its end, and what is written for it."""
+    """A line of input, with its end, and its output."""
 
     line: bytes
     answer: bytes
 
 
 class Worked(NamedTuple):
-    """A service: the text of its roster, and what is read and written."""
+    """A service: the text of its roster, its input and its output."""
 
     name: str
     roster: bytes
@@ -152,15 +152,15 @@ ONCE_64_ARE_THERE = [
 
 
 def sixty_four_tenants() -> Worked:
-    """Each of 64 tenants adds a machine, and a 65th waits until one is retired."""
-    numbers = range(1, MOST_TENANTS + 1)
+    """Return a service: each of 64 tenants adds a machine, and a 65th waits until one is retired."""
+    numbers = range(1, MAX_TENANTS + 1)
     roster = HEADING + b"".join(b"t%d,3,65,10,0,0\n" % number for number in numbers)
     machines = [Exchange(b"t%d machine m 64\n" % number, b"t%d 1 ok\n" % number) for number in numbers]
     return Worked("64 tenants", roster, machines + ONCE_64_ARE_THERE)
 
 
 def one_after_another() -> Worked:
-    """Tenants come to one place: each is admitted, has one round, and is retired."""
+    """Return a service: tenants come to one place; each is admitted, has one round, and is retired."""
     exchanges = [Exchange(b"+ retire a\n", b"+ ok retired a\n")]
     for number in range(1, STAYS + 1):
         name = b"t%d" % number
@@ -173,7 +173,7 @@ def one_after_another() -> Worked:
 
 
 def exchanges_in(lines: Sequence[bytes]) -> Iterator[Exchange]:
-    """Each line that is read, with those behind it that are written."""
+    """Return each line that is read, with the written ones after it."""
     place = 0
     while place < len(lines):
         line, answers = lines[place], []
@@ -185,13 +185,13 @@ def exchanges_in(lines: Sequence[bytes]) -> Iterator[Exchange]:
 
 
 def read_service(path: Path) -> Worked:
-    """The service of a text."""
+    """Return the service of a text."""
     roster, _, played = path.read_bytes().partition(b"\n\n")
     return Worked(path.stem, roster.rstrip(b"\n") + b"\n", list(exchanges_in(played.splitlines())))
 
 
 def services() -> list[Worked]:
-    """All worked services."""
+    """Return all worked services."""
     texts = [read_service(path) for path in sorted(SERVICES.glob("*.txt"))]
     if not texts:
         raise CannotRun(f"there is no text in {SERVICES}")
@@ -221,7 +221,7 @@ def in_pieces(library: str, command: list[str], worked: Worked) -> None:
 
 
 def next_reply(client: program.Client) -> bytes | None:
-    """The next line that is no reason."""
+    """Return the next line that is no reason."""
     reply = client.reply()
     while reply is not None and reply.startswith(b"#"):
         reply = client.reply()
@@ -250,7 +250,7 @@ def play_all(play: Callable[[Worked], None]) -> None:
 
 
 def ways(path: str) -> dict[str, list[str]]:
-    """The first words of each way of serving, by its name."""
+    """Return the first words of each way of serving, by its name."""
     found = {f"workers {workers}": [path, "--workers", workers] for workers in WORKERS}
     if EXPLAIN.exists():
         found |= {"firm_explain": [str(EXPLAIN)], "firm_explain measure": program.measuring()}
@@ -260,7 +260,7 @@ def ways(path: str) -> dict[str, list[str]]:
 
 
 def checks(path: str, library: str) -> dict[str, Check]:
-    """Each check's name and what it runs."""
+    """Return each check's name and function."""
     found: dict[str, Check] = {}
     for way, command in ways(path).items():
         found[f"in pieces, {way}"] = partial(play_all, partial(in_pieces, library, command))
@@ -270,7 +270,7 @@ def checks(path: str, library: str) -> dict[str, Check]:
 
 def main() -> int:
     parser = argparse.ArgumentParser(description=(__doc__ or "").splitlines()[0])
-    parser.add_argument("words", nargs="*", metavar="WORD", help="only checks whose names have one of these words")
+    parser.add_argument("words", nargs="*", metavar="WORD", help="run only checks whose names have one of these words")
     program.add_program(parser)
     given = parser.parse_args()
     words: list[str] = given.words

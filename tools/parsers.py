@@ -1,4 +1,4 @@
-"""Writes what a release derives from the parser of a program's command line.
+"""Write a release's files that derive from the parser of a program's command line.
 
 usage: parsers.py bash|man MODULE
 `bash` is a completion for bash, `man` the section of a man page that lists the options of each verb, in the form that
@@ -49,11 +49,13 @@ def verbs_of(parser: argparse.ArgumentParser) -> dict[str, argparse.ArgumentPars
 
 
 def options_of(parser: argparse.ArgumentParser) -> Iterator[argparse.Action]:
-    return (action for action in parser._actions if action.option_strings)
+    """Yield the options of a parser, and those of its verbs' verbs."""
+    for one in (parser, *(verbs_of(parser).values() if " " in parser.prog else ())):
+        yield from (action for action in one._actions if action.option_strings)
 
 
 def valued_of(parser: argparse.ArgumentParser) -> list[str]:
-    """Return the options that take a value, which is a file name where they have no choices."""
+    """Return the options that take a value, which is a file name unless they have choices."""
     return [word for action in options_of(parser) if action.nargs != 0 for word in action.option_strings]
 
 
@@ -81,14 +83,14 @@ def bash(parser: argparse.ArgumentParser) -> str:
 
 def words_case(verb: str, parser: argparse.ArgumentParser) -> Iterator[str]:
     """Write the options of a verb, and the choices of its words."""
-    options = [word for action in options_of(parser) for word in action.option_strings]
+    options = [*dict.fromkeys(word for action in options_of(parser) for word in action.option_strings)]
     words = [word for action in parser._actions if not action.option_strings for word in action.choices or ()]
     pairs = [("options", options), ("valued", valued_of(parser)), ("words", words)]
     yield f"{shlex.quote(verb)}) {' '.join(f'{name}={shlex.quote(chr(32).join(found))}' for name, found in pairs)} ;;"
 
 
 def choice_cases(verb: str, parser: argparse.ArgumentParser) -> Iterator[str]:
-    """Write the choices of each option that has some."""
+    """Write the choices of each option, if any."""
     for action in options_of(parser):
         if action.choices is not None:
             choices = shlex.quote(" ".join(map(str, action.choices)))
@@ -103,7 +105,11 @@ def escaped(text: str) -> str:
 
 def manual(parser: argparse.ArgumentParser) -> str:
     """Return the section on the verbs of a program; empty if it has none."""
-    sections = [line for verb, one in verbs_of(parser).items() for line in section(verb, one)]
+    sections: list[str] = []
+    for verb, one in verbs_of(parser).items():
+        sections += section(verb, one)
+        for name, further in verbs_of(one).items():
+            sections += section(f"{verb} {name}", further)
     return "\n".join(["[COMMANDS]", *sections, ""]) if sections else ""
 
 

@@ -1,12 +1,12 @@
-"""Makes a release of a proved tree: a tarball, and a package for Debian.
+"""Make a release of a proved tree: a tarball, and a package for Debian.
 
 usage: tools/release [--folder FOLDER]      (default: out/release)
 
-The programs are those that ./build.py has proved of what is committed; where one is not, or a file was changed since,
-nothing is made. Both files hold the same: programs, service, units for systemd, man pages, completions, the pages, and
-`proved.tsv`, which lists each crate with the sum of its sources and the prover's verdict. A second run of one commit
-makes the same bytes. It needs git, dpkg-deb, help2man and python3-shtab, Debian's packages. Exit status: 0, 1 where a
-tool fails, 2 for a wrong word, 3 where there is nothing to release.
+The programs are those that ./build.py has proved from the committed sources. If one is not proved, or a file was
+changed since, nothing is made. Both files hold the same: programs, service, units for systemd, man pages, completions,
+the pages, and `proved.tsv`, which lists each crate with the sum of its sources and the prover's verdict. A second run
+of one commit makes the same bytes. It needs git, dpkg-deb, gcc, help2man and python3-shtab, Debian's packages. Exit
+status: 0, 1 if a tool fails, 2 for a wrong word, 3 if there is nothing to release.
 """
 
 from __future__ import annotations
@@ -37,31 +37,27 @@ PROGRAMS = {
 }
 SERVICES = {
     "firmd": "serves firm to many clients",
-    "firmctl": "shows what firmd and firm-queue do, and submits work",
+    "firmctl": "shows what firmd and firm-api do, and submits work",
     "firm-agent": "runs the tasks that firm places",
-    "firm-journal": "looks after the journal of a firmd",
-    "firm-queue": "takes work from users and gives it to firm",
-    "firm-api": "serves firmd and queues as HTTP and JSON",
+    "firm-api": "serves firmd as HTTP and JSON, and takes work from users",
     "firm-slurm": "has Slurm run what firm decides",
-    "firm-door": "writes the configuration of one door to many firmd",
 }
-PARSERS = {  # modules with the parsers of command lines; the others' completions go by their help
-    "firmd": "firm_service.daemon",
-    "firmctl": "firm_service.firmctl",
-    "firm-agent": "firm_service.agent",
-    "firm-journal": "firm_service.journal_tool",
-    "firm-queue": "firm_service.queue.daemon",
-    "firm-api": "firm_service.api.daemon",
-    "firm-slurm": "firm_service.slurm.daemon",
-    "firm-door": "firm_service.door.writing",
+PARSERS = {  # modules with the parsers of command lines; the others' completions come from their help
+    "firmd": "firm.server.daemon",
+    "firmctl": "firm.cli.firmctl",
+    "firm-agent": "firm.agent.daemon",
+    "firm-api": "firm.api.daemon",
+    "firm-slurm": "firm.slurm.daemon",
 }
+SERVICE = "lib/firm/service"  # not beside the program firm, since the package has that name too
 SYSTEMD = {".service": "lib/systemd/system", ".conf": "lib/sysusers.d", ".tmpfiles": "lib/tmpfiles.d"}
 DERIVE = ROOT / "tools" / "parsers.py"
 SHTAB = """
 import importlib, shtab, sys
 print(shtab.complete(importlib.import_module(sys.argv[1]).parser(), "zsh"))
 """
-# Programs in lib/firm are what was proved, byte for byte, so they can't name their commit.
+SUPERVISOR = "from firm.agent import supervisor; supervisor.build()"
+# Programs in lib/firm are the proved ones, byte for byte, so they can't name their commit.
 WRAPPER = """#!/bin/sh
 case $* in
     --version | -V)
@@ -73,17 +69,17 @@ file=$(PATH=$PATH:/usr/bin:/bin readlink -f "$0")
 exec "${{file%/bin/*}}/lib/firm/{program}" "$@"
 """
 PYTHON = "/usr/bin/python3"  # Debian's, which has its packages
-PACKAGES = "lib/python3/dist-packages"  # where it finds them
+PACKAGES = "lib/python3/dist-packages"  # its folder for packages
 NOTHING_STATUS = 3
 LAST_COMMIT = ("git", "log", "-1", "--date=format:%Y%m%d", "--format=%H %ct %cd %an <%ae>")
 
 
 class Refused(Exception):
-    """There is nothing to release, for this reason."""
+    """Signals that there is nothing to release, for this reason."""
 
 
 class Version(NamedTuple):
-    """The name of the release, its commit, that one's date in seconds since 1970, and its author."""
+    """The release's name, its commit, the commit's date in seconds since 1970, and its author."""
 
     name: str
     commit: str
@@ -91,8 +87,8 @@ class Version(NamedTuple):
     author: str
 
 
-def said(*words: str | Path, folder: Path = ROOT, **environment: str) -> str:
-    """What a command says."""
+def output_of(*words: str | Path, folder: Path = ROOT, **environment: str) -> str:
+    """Return a command's output."""
     done = subprocess.run(
         words,
         cwd=folder,
@@ -106,10 +102,10 @@ def said(*words: str | Path, folder: Path = ROOT, **environment: str) -> str:
 
 
 def version() -> Version:
-    """That of the commit; refuses where the files are not those of a commit."""
+    """Return the commit's version; refuse if the files are not those of a commit."""
     try:
-        changed = said("git", "status", "--porcelain")
-        commit, date, day, author = said(*LAST_COMMIT).rstrip("\n").split(" ", 3)
+        changed = output_of("git", "status", "--porcelain")
+        commit, date, day, author = output_of(*LAST_COMMIT).rstrip("\n").split(" ", 3)
     except subprocess.CalledProcessError:
         raise Refused(f"{ROOT} is not a checkout of a commit") from None
     if changed:
@@ -119,7 +115,7 @@ def version() -> Version:
 
 
 def proved(commit: str) -> str:
-    """The list of what was proved; refuses where a program, or a crate that it stands on, is not."""
+    """Return the list of proved crates; refuse if a program, or a crate that it depends on, is not proved."""
     crates = prover.crates_of_repository()
     build = Build([crates[name] for name in PROGRAMS])
     if build.left:
@@ -153,35 +149,38 @@ def add_programs(top: Path, programs: Mapping[str, Path], release: Version) -> N
 
 def add_service(top: Path, release: Version) -> None:
     """Add the service, with a link to each program that users call, and one for Python programs that import it."""
-    for name in said("git", "ls-files", "-z", "service").split("\0")[:-1]:
+    for name in output_of("git", "ls-files", "-z", "service").split("\0")[:-1]:
         source, within = ROOT / name, Path(name).relative_to("service")
-        to = top / "lib/firm" / within
+        to = top / SERVICE / within
         if within.parts[0] == "systemd":
             to = top / SYSTEMD[within.suffix] / within.name.replace(".tmpfiles", ".conf")
         copy(source, to, 0o755 if os.access(source, os.X_OK) else 0o644)
     for name in SERVICES:
-        (top / "bin" / name).symlink_to(f"../lib/firm/{name}")
-    write(top / "lib/firm/firm_service/RELEASE", f"{release.name}\n")
+        (top / "bin" / name).symlink_to(f"../{SERVICE}/{name}")
+    output_of(PYTHON, "-c", SUPERVISOR, PYTHONPATH=str(top / SERVICE))
+    write(top / SERVICE / "firm/RELEASE", f"{release.name}\n")
     (top / PACKAGES).mkdir(parents=True)
-    (top / PACKAGES / "firm_service").symlink_to("../../firm/firm_service")
+    (top / PACKAGES / "firm").symlink_to("../../firm/service/firm")
 
 
 def add_pages(top: Path) -> None:
-    """README and the pages, examples among them."""
-    for name in said("git", "ls-files", "-z", "README.md", "CHANGELOG.md", "docs", "examples").split("\0")[:-1]:
+    """README and the pages, examples among them, and each setting of the server."""
+    for name in output_of("git", "ls-files", "-z", "README.md", "CHANGELOG.md", "docs", "examples").split("\0")[:-1]:
         mode = 0o755 if os.access(ROOT / name, os.X_OK) else 0o644
         copy(ROOT / name, top / "share/doc/firm" / name, mode)
+    write(top / "share/doc/firm/firm.toml", output_of(top / "bin/firmctl", "check", "--defaults"))
 
 
 def derived(top: Path, form: str, program: str) -> Path:
-    """Return a file beside the release of what its installed parser gives, in one of the forms of tools/parsers.py."""
+    """Return a file beside the release with the output of its installed parser, in one of the forms of
+    tools/parsers.py."""
     path = top.with_name(f"{program}.{form}")
-    path.write_text(said(PYTHON, DERIVE, form, PARSERS[program], PYTHONPATH=str(top / "lib/firm")))
+    path.write_text(output_of(PYTHON, DERIVE, form, PARSERS[program], PYTHONPATH=str(top / SERVICE)))
     return path
 
 
 def add_manual(top: Path, release: Version) -> None:
-    """Add man pages: what each program says of itself, and the options of its verbs."""
+    """Add man pages: each program's own help, and the options of its verbs."""
     pages = top / "share/man/man1"
     pages.mkdir(parents=True, exist_ok=True)
     for program, purpose in (PROGRAMS | SERVICES).items():
@@ -190,18 +189,18 @@ def add_manual(top: Path, release: Version) -> None:
         if program in PARSERS and (verbs := derived(top, "man", program)).stat().st_size:
             words.append(f"--include={verbs}")
         path, epoch = f"{top}/bin:{os.environ['PATH']}", str(release.date)
-        text = said("help2man", *words, top / "bin" / program, PATH=path, SOURCE_DATE_EPOCH=epoch)
+        text = output_of("help2man", *words, top / "bin" / program, PATH=path, SOURCE_DATE_EPOCH=epoch)
         (pages / f"{program}.1.gz").write_bytes(gzip.compress(text.encode(), mtime=0))
 
 
 def add_completions(top: Path) -> None:
-    """Completions of bash and zsh."""
+    """Add completions of bash and zsh."""
     bash, zsh = top / "share/bash-completion/completions", top / "share/zsh/vendor-completions"
     for program in PROGRAMS | SERVICES:
         if program in PARSERS:
             found = [
                 derived(top, "bash", program).read_text(),
-                said(PYTHON, "-c", SHTAB, PARSERS[program], PYTHONPATH=str(top / "lib/firm")),
+                output_of(PYTHON, "-c", SHTAB, PARSERS[program], PYTHONPATH=str(top / SERVICE)),
             ]
         else:
             found = [f"complete -F _longopt {program}\n", f"#compdef {program}\n_gnu_generic\n"]
@@ -210,7 +209,7 @@ def add_completions(top: Path) -> None:
 
 
 def lay_out(top: Path, programs: Mapping[str, Path], release: Version, proofs: str) -> None:
-    """All files of the release, below a folder that stands for /usr, with these files as the programs."""
+    """Put all files of the release below a folder that stands for /usr, with these files as the programs."""
     add_programs(top, programs, release)
     add_service(top, release)
     add_pages(top)
@@ -220,7 +219,7 @@ def lay_out(top: Path, programs: Mapping[str, Path], release: Version, proofs: s
 
 
 def make_tarball(top: Path, release: Version, to: Path) -> None:
-    """Packs the folder, so that the same files give the same bytes."""
+    """Pack the folder, so that the same files give the same bytes."""
 
     def plain(entry: tarfile.TarInfo) -> tarfile.TarInfo:
         entry.uid = entry.gid = 0
@@ -237,7 +236,7 @@ def make_tarball(top: Path, release: Version, to: Path) -> None:
 
 
 def make_package(top: Path, release: Version, to: Path) -> None:
-    """Debian's package, of the same files below /usr."""
+    """Make Debian's package, of the same files below /usr."""
     root = to.with_suffix(".root")
     shutil.copytree(top, root / "usr", symlinks=True)
     size = sum(path.lstat().st_size for path in root.rglob("*") if path.is_file()) // 1024
@@ -247,8 +246,8 @@ def make_package(top: Path, release: Version, to: Path) -> None:
         "Architecture": "amd64",
         "Maintainer": release.author,
         "Installed-Size": str(size),
-        "Depends": "libc6 (>= 2.34), python3 (>= 3.11)",
-        "Recommends": "python3-aiohttp, python3-prometheus-client",
+        "Depends": "libc6 (>= 2.34), python3 (>= 3.11), python3-aiohttp",
+        "Recommends": "python3-prometheus-client",
         "Section": "admin",
         "Priority": "optional",
         "Description": "scheduling service for shared clusters, proved correct\n"
@@ -257,12 +256,12 @@ def make_package(top: Path, release: Version, to: Path) -> None:
     }
     write(root / "DEBIAN/control", "".join(f"{key}: {value}\n" for key, value in control.items()))
     epoch = str(release.date)
-    said("dpkg-deb", "--root-owner-group", "--build", root, to, SOURCE_DATE_EPOCH=epoch)
+    output_of("dpkg-deb", "--root-owner-group", "--build", root, to, SOURCE_DATE_EPOCH=epoch)
     shutil.rmtree(root)
 
 
 def make(folder: Path) -> list[Path]:
-    """Makes both files, and names them."""
+    """Make both files, and return their paths."""
     release = version()
     proofs = proved(release.commit)
     crates = prover.crates_of_repository()
@@ -280,7 +279,7 @@ def make(folder: Path) -> list[Path]:
 
 def main() -> int:
     parser = argparse.ArgumentParser(description=(__doc__ or "").splitlines()[0])
-    parser.add_argument("--folder", type=Path, default=ROOT / "out/release", help="where the files go")
+    parser.add_argument("--folder", type=Path, default=ROOT / "out/release", help="folder for the files")
     folder = parser.parse_args().folder.resolve()
     try:
         print(*make(folder), sep="\n")

@@ -1,1 +1,1 @@
-"""What the scripts of tests/ and bench/ share."""
+"""Code that the scripts of tests/ and bench/ share."""

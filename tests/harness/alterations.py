@@ -1,4 +1,4 @@
-"""Outputs of firm_explain with a line or a word that is another: made at random, without a look at what they say."""
+"""Random alterations of a line or a word in firm_explain's outputs, made without regard to meaning."""
 
 from __future__ import annotations
 
@@ -23,12 +23,12 @@ def is_round(line: str) -> bool:
 
 
 def spots(pattern: str, lines: Output) -> list[tuple[int, re.Match[str]]]:
-    """All places in the lines that match."""
+    """Return all places in the lines that match."""
     return [(at, found) for at, line in enumerate(lines) for found in re.finditer(pattern, line)]
 
 
 def put(lines: Output, at: int, found: re.Match[str], new: str) -> str:
-    """The text with another word in a place."""
+    """Return the text with another word in a place."""
     line = lines[at]
     return text_of([*lines[:at], line[: found.start()] + new + line[found.end() :], *lines[at + 1 :]])
 
@@ -105,12 +105,12 @@ def moved_line(draw: random.Random, lines: Output, _: Output) -> str | None:
 
 
 def kind_of(line: str) -> str:
-    """The form of a line, without its numbers."""
+    """Return the form of a line, without its numbers."""
     return re.sub(r"\d+", "", " ".join(line.split(" ")[: 3 if line.startswith("#") else 4]))
 
 
 def taken_line(draw: random.Random, lines: Output, others: Output) -> str | None:
-    """A line in the place of another one of its kind, from the same output or another one."""
+    """Put a line in the place of another one of its kind, from the same output or another one."""
     at = draw.randrange(len(lines))
     alike = [line for line in lines + others if line != lines[at] and line[:1] == lines[at][:1]]
     near = [line for line in alike if kind_of(line) == kind_of(lines[at])]
@@ -119,14 +119,14 @@ def taken_line(draw: random.Random, lines: Output, others: Output) -> str | None
 
 
 def blocks(lines: Output) -> list[tuple[int, int]]:
-    """The first line of each round's comments, and the line after them."""
+    """Return the first line of each round's comments, and the line after them."""
     starts = [at + 1 for at, line in enumerate(lines) if is_round(line)]
     ends = [next((at for at in range(start, len(lines)) if lines[at][:1] != "#"), len(lines)) for start in starts]
     return list(zip(starts, ends))
 
 
 def taken_block(draw: random.Random, lines: Output, others: Output) -> str | None:
-    """The comments of another round, with its reply or without."""
+    """Put in the comments of another round, with its reply or without."""
     if not blocks(lines) or not blocks(others):
         return None
     (start, end), source = draw.choice(blocks(lines)), draw.choice([lines, others])
@@ -136,7 +136,7 @@ def taken_block(draw: random.Random, lines: Output, others: Output) -> str | Non
 
 
 def other_changes(draw: random.Random, lines: Output, _: Output) -> str | None:
-    """The changes of a round in another order, one twice, split in two, or one that is none."""
+    """Put the changes of a round in another order, one twice, split in two, or add an empty one."""
     found = [at for at, line in enumerate(lines) if is_round(line)]
     if not found:
         return None
@@ -158,7 +158,7 @@ def other_changes(draw: random.Random, lines: Output, _: Output) -> str | None:
 
 
 def other_reply(draw: random.Random, lines: Output, _: Output) -> str | None:
-    """A reply that is another, with nothing else changed but its comments."""
+    """Replace a reply, with nothing else changed but its comments."""
     found = [at for at, line in enumerate(lines) if not line.startswith("#")]
     at = draw.choice(found[-1:] * 3 + found)
     start = " ".join(lines[at].split(" ")[:2])

@@ -1,9 +1,9 @@
-"""A copy of a crate in which only some functions have a body, for checks that ask for nothing else.
+"""A copy of a crate in which only some functions have a body, for checks of only these.
 
-A check of some functions proves those that they call, too, which the edits leave as they are. So each function that no
-edit changes is left with its contract alone: its body is `unreachable!()`, and the one goal of that is a hole, which a
-check with --allow-holes passes. Its callers are judged by its contract, as ever. A program loses its `main` too: as a
-library it links nothing, and each of its functions is judged, called or not.
+A check of some functions also proves the functions that they call, which the edits leave as they are. So in the copy
+each function that no edit changes has only its contract: its body is `unreachable!()`, whose one goal is a hole, and a
+check with --allow-holes passes holes. Its callers are judged by its contract, as ever. A program loses its `main` too:
+as a library it links nothing, and each of its functions is judged, called or not.
 """
 
 from __future__ import annotations
@@ -32,7 +32,7 @@ class Body(NamedTuple):
 
 
 def body_of(lines: list[str], at: int) -> Body | None:
-    """The body of the function whose head begins at a line, in the layout of `rt fmt`; none where it is not found."""
+    """Return the body of the function whose head begins at a line, in the layout of `rt fmt`; None without one."""
     head = FUNCTION.match(lines[at])
     indent = head["indent"] if head else ""
     for number in range(at, len(lines) if head else at):
@@ -48,7 +48,7 @@ def body_of(lines: list[str], at: int) -> Body | None:
 
 
 def function_at_head(path: str, lines: list[str], at: int) -> Function | None:
-    """The function whose head begins at a line, if it is no trait's."""
+    """Return the function whose head begins at a line, unless it is a trait's."""
     head = FUNCTION.match(lines[at])
     block = block_of(lines, at) if head and head["indent"] else ""
     if head is None or " for " in block or block.startswith(("trait", "pub trait")):
@@ -57,7 +57,7 @@ def function_at_head(path: str, lines: list[str], at: int) -> Function | None:
 
 
 def without_bodies(path: str, text: str, but: Container[Function]) -> tuple[str, list[Function]]:
-    """The text of a source file without `main`, in which no functions have a body but these; and the others."""
+    """Return the text of a source file without `main`, in which only these functions have a body; and the others."""
     lines = text.split("\n")
     found: list[str] = []
     bare: list[Function] = []
@@ -82,7 +82,7 @@ def without_bodies(path: str, text: str, but: Container[Function]) -> tuple[str,
 def strip(
     room: Path, crate: str, but: Container[Function], modules: Callable[[Function], Iterable[tuple[str, ...]]]
 ) -> None:
-    """Takes the bodies, and their proofs, from a copy of a crate; `modules` are those in which a proof may stand."""
+    """Remove the bodies, and their proofs, from a copy of a crate; `modules` are those in which a proof may stand."""
     for file in sorted((room / "src").rglob("*.rt")):
         text, bare = without_bodies(str(file.relative_to(room)), file.read_text(), but)
         file.write_text(text)
@@ -92,7 +92,7 @@ def strip(
 
 
 def put_hole(room: Path, crate: str, function: list[str]) -> None:
-    """Puts a hole in the place of a function's proof."""
+    """Put a hole in the place of a function's proof."""
     folder = room.joinpath("proofs", *function)
     for name in PROOFS:
         (folder / name).unlink(missing_ok=True)

@@ -1,9 +1,9 @@
-"""Books that are bred: random ones whose placements are hard to tell apart, changed a little, and crossed.
+"""Bred books: random ones whose placements are hard to tell apart, changed a little, and crossed.
 
-Costs tie or nearly do, machines are full, tasks prefer many of them, and weights, spread, churn and remote differ by
-just one another. A book is the numbers of a tenant and its lines, the last of which is a round. Large books are made
-of layers of machines, each full of tasks that may move to the next, so that who comes at one end has all of them move;
-or of a crowd that comes to full machines and preempts those that weigh least.
+Costs tie or almost tie, machines are full, tasks prefer many of them, and weights, spread, churn and remote differ by
+just one another. A book is the numbers of a tenant and its lines, the last of which is a round. Large books are made of
+layers of machines, each full of tasks that may move to the next, so that a task that arrives at one end moves all of
+them; or of a crowd that comes to full machines and preempts the lightest tasks.
 """
 
 from __future__ import annotations
@@ -11,16 +11,16 @@ from __future__ import annotations
 from random import Random
 from typing import Callable, Iterator, Mapping, NamedTuple, TypeVar
 
-Line = tuple[str, ...]  # the words behind the tenant's name
-Preferring = Callable[[Random, int, int], list[int]]  # those of a task, by its number and that of the machines
+Line = tuple[str, ...]  # the words after the tenant's name
+Preferring = Callable[[Random, int, int], list[int]]  # a task's machines, by its number and the number of machines
 
 ROUND: Line = ("round",)
-MOST_WEIGHT, MOST_SLOTS, MOST_PREFERRED = 1_000_000, 64, 4
-MOST_NODES, MOST_ARCS = 4096, 65536
+MAX_WEIGHT, MAX_SLOTS, MAX_PREFERRED = 1_000_000, 64, 4
+MAX_NODES, MAX_ARCS = 4096, 65536
 
 
 class Numbers(NamedTuple):
-    """What of a tenant's limits makes costs."""
+    """The limits of a tenant that make costs."""
 
     spread: int
     churn: int
@@ -47,14 +47,14 @@ class Book(NamedTuple):
         return self
 
     def room(self) -> tuple[int, int]:
-        """Nodes and arcs that are enough for it."""
+        """Return the nodes and arcs that are enough for it."""
         arcs = 0
         for line in self.lines:
             arcs += 1 + int(line[2]) if line[0] == "machine" else 7
-        return min(MOST_NODES, len(self.lines) + 2), min(MOST_ARCS, arcs)
+        return min(MAX_NODES, len(self.lines) + 2), min(MAX_ARCS, arcs)
 
     def record(self, name: str) -> str:
-        """Its tenant's record in a roster."""
+        """Return its tenant's record in a roster."""
         nodes, arcs = self.room()
         return f"{name},{nodes},{arcs},1000000," + ",".join(map(str, self.numbers))
 
@@ -63,7 +63,7 @@ class Book(NamedTuple):
 
 
 def any_of(draw: Random, _: int, machines: int) -> list[int]:
-    return draw.sample(range(machines), min(machines, draw.randint(0, MOST_PREFERRED)))
+    return draw.sample(range(machines), min(machines, draw.randint(0, MAX_PREFERRED)))
 
 
 def none_of(_: Random, __: int, ___: int) -> list[int]:
@@ -71,28 +71,28 @@ def none_of(_: Random, __: int, ___: int) -> list[int]:
 
 
 def next_to(_: Random, task: int, machines: int) -> list[int]:
-    """A chain: who moves has the next one move."""
+    """Return a chain: a task that moves makes the next one move."""
     return [task % machines, (task + 1) % machines]
 
 
 def before(_: Random, task: int, machines: int) -> list[int]:
-    """The same chain the other way round."""
+    """Return the same chain the other way round."""
     place = (machines - 1 - task) % machines
     return [place, (place + 1) % machines]
 
 
 def window(_: Random, task: int, machines: int) -> list[int]:
-    return [(task + place) % machines for place in range(min(machines, MOST_PREFERRED))]
+    return [(task + place) % machines for place in range(min(machines, MAX_PREFERRED))]
 
 
 def same(_: Random, __: int, machines: int) -> list[int]:
-    return list(range(min(machines, MOST_PREFERRED)))
+    return list(range(min(machines, MAX_PREFERRED)))
 
 
 def in_block(draw: Random, task: int, machines: int) -> list[int]:
-    """Some of five that lie side by side, and at times one that does not."""
+    """Return some of five machines side by side, and at times one elsewhere."""
     first = task // 6 * 5 % machines
-    places = [(first + draw.randrange(5)) % machines for _ in range(draw.randint(1, MOST_PREFERRED))]
+    places = [(first + draw.randrange(5)) % machines for _ in range(draw.randint(1, MAX_PREFERRED))]
     return places if draw.random() < 0.9 else [*places[:3], draw.randrange(machines)]
 
 
@@ -122,20 +122,20 @@ class Maker:
         self.there: list[int] = []
 
     def weight(self, job: int) -> int:
-        """Near one another's, or apart by what else costs."""
+        """Return a weight near the others', or apart from them by another cost."""
         draw, numbers = self.draw, self.numbers
         steps = [0, 1, numbers.spread, numbers.churn, numbers.remote, numbers.spread + numbers.churn, job]
         found = self.base + draw.choice(steps) * draw.choice([0, 1, 1, 2]) + draw.choice([0, 0, 1])
-        return min(MOST_WEIGHT, max(1, found))
+        return min(MAX_WEIGHT, max(1, found))
 
     def slots(self, part: float) -> int:
-        """About as many as make this part of the tasks."""
+        """Return about as many slots as make this part of the tasks."""
         wanted = self.tasks * part / self.machines
-        return min(MOST_SLOTS, max(1, int(wanted + self.draw.choice([0, 0.5, 1, self.draw.random()]))))
+        return min(MAX_SLOTS, max(1, int(wanted + self.draw.choice([0, 0.5, 1, self.draw.random()]))))
 
     def make(self) -> Book:
         draw = self.draw
-        self.base = draw.choice([1, 2, 5, 12, 100, 500_000, MOST_WEIGHT])
+        self.base = draw.choice([1, 2, 5, 12, 100, 500_000, MAX_WEIGHT])
         part = draw.choice([0.5, 0.8, 1, 1, 1.2, 2])
         self.all_slots = [draw.choice([1, self.slots(part), self.slots(part)]) for _ in range(self.machines)]
         order = list(range(self.machines))
@@ -168,7 +168,7 @@ class Maker:
             self.lines.append(("done", f"x{self.there.pop(self.draw.randrange(len(self.there)))}"))
 
     def change(self) -> None:
-        """What comes between two rounds, if anything does."""
+        """Yield the lines between two rounds, if any."""
         draw = self.draw
         some = draw.randint(1, 1 + self.tasks // 3)
         shape = draw.randrange(5)
@@ -191,7 +191,7 @@ def new_book(draw: Random, size: Size) -> Book:
 
 
 def changed_book(draw: Random, book: Book, other: Book) -> Book:
-    """The book with one to four changes; a part of the other one may come into it."""
+    """Return the book with one to four changes; a part of the other one may come into it."""
     numbers, lines = book.numbers, list(book.lines)
     if draw.random() < 0.1:
         lines = crossed(draw, lines, list(other.lines)) or [ROUND]
@@ -206,7 +206,7 @@ def changed_book(draw: Random, book: Book, other: Book) -> Book:
 
 
 def crossed(draw: Random, lines: list[Line], others: list[Line]) -> list[Line]:
-    """The beginning of the ones and the end of the others, or all of both as one round's."""
+    """Return the beginning of the ones and the end of the others, or all of both as one round's."""
     if draw.random() < 0.3:
         shift = {"m": "n", "j": "k", "x": "y"}
         both = [(line[0], *(shift.get(word[0], word[0]) + word[1:] for word in line[1:])) for line in others]
@@ -223,7 +223,7 @@ def changed_numbers(draw: Random, numbers: Numbers) -> Numbers:
 
 
 def change_line(draw: Random, lines: list[Line], numbers: Numbers) -> None:
-    """Changes a line, takes it out, or has it stand elsewhere too or instead."""
+    """Change a line, remove it, or copy or move it elsewhere."""
     place = draw.randrange(len(lines))
     shape = draw.randrange(7)
     if shape == 0:
@@ -241,10 +241,10 @@ def change_line(draw: Random, lines: list[Line], numbers: Numbers) -> None:
 
 
 def changed_line(draw: Random, line: Line, lines: list[Line], numbers: Numbers) -> list[Line]:
-    """What stands in the place of a line that names another number, or other machines."""
+    """Return a line in the place of one that names another number, or other machines."""
     verb, *words = line
     if verb in ("machine", "job"):
-        highest = MOST_SLOTS if verb == "machine" else MOST_WEIGHT
+        highest = MAX_SLOTS if verb == "machine" else MAX_WEIGHT
         steps = [1, -1, 1, -1] if verb == "machine" else [1, -1, *numbers[:3], *(-number for number in numbers[:3])]
         return [(verb, words[0], str(min(highest, max(1, int(words[1]) + draw.choice(steps)))))]
     machines = [other[1] for other in lines if other[0] == "machine"]
@@ -252,7 +252,7 @@ def changed_line(draw: Random, line: Line, lines: list[Line], numbers: Numbers) 
         preferred = words[2:]
         if preferred and draw.random() < 0.5:
             del preferred[draw.randrange(len(preferred))]
-        if len(preferred) < MOST_PREFERRED and draw.random() < 0.7:
+        if len(preferred) < MAX_PREFERRED and draw.random() < 0.7:
             preferred.insert(draw.randint(0, len(preferred)), draw.choice(machines))
         jobs = [other[1] for other in lines if other[0] == "job"]
         job = draw.choice(jobs) if jobs and draw.random() < 0.3 else words[0]
@@ -264,19 +264,19 @@ def changed_line(draw: Random, line: Line, lines: list[Line], numbers: Numbers) 
 
 
 class Layers(NamedTuple):
-    """Layers of machines, each as wide, and of tasks that prefer some of their own layer and of the next ones."""
+    """Layers of machines, equally wide, and of tasks that prefer machines of their layer and of the next ones."""
 
     numbers: Numbers
     layers: int
     width: int
     slots: int
-    own: int  # how many of its own layer a task prefers, 1 at least
-    next: int  # how many of the next, where room allows
+    own: int  # preferred machines of a task's layer, 1 at least
+    next: int  # number of the next, if there is room
     stride: int  # between those that it prefers
-    skip: int  # how many layers the next one is away
-    entering: int  # how many tasks come at the end, in each of the rounds behind the first
+    skip: int  # number of layers to the next one
+    entering: int  # tasks that come at the end, in each round after the first
     weight: int
-    step: int  # by which the weights of those that come differ
+    step: int  # between the weights of those that come
     rounds: int
     order: int  # of machines and tasks: by layer, the other way round, or mixed
 
@@ -284,21 +284,21 @@ class Layers(NamedTuple):
         return mixed(draw, self, (other, random_layers(draw)), LAYERS).within()
 
     def within(self) -> Layers:
-        """The nearest that a tenant has room for."""
+        """Return the nearest that a tenant has room for."""
         found = in_ranges(self, LAYERS)
-        rows = found.layers * (1 + found.slots) + found.rounds * found.slots  # that stand for each of the width
-        width = max(1, min(found.width, (MOST_NODES - 10) // rows))
+        rows = found.layers * (1 + found.slots) + found.rounds * found.slots  # rows for each unit of the width
+        width = max(1, min(found.width, (MAX_NODES - 10) // rows))
         return found._replace(width=width, entering=min(found.entering, width * found.slots))
 
     def machine(self, layer: int, place: int) -> str:
         return f"m{layer}-{place % self.width}"
 
     def preferred(self, layer: int, place: int) -> list[str]:
-        """The machines that a task of a layer prefers."""
+        """Return the machines that a task of a layer prefers."""
         own = [self.machine(layer, place + number * self.stride) for number in range(self.own)]
         to = max(0, layer - self.skip)
         more = [self.machine(to, place + number * self.stride) for number in range(self.next if layer else 0)]
-        return [*own, *more][:MOST_PREFERRED]
+        return [*own, *more][:MAX_PREFERRED]
 
     def in_order(self, lines: list[Line]) -> list[Line]:
         if self.order == 0:
@@ -308,7 +308,7 @@ class Layers(NamedTuple):
         return Random(0).sample(lines, len(lines))
 
     def entering_lines(self, number: int) -> Iterator[Line]:
-        """The tasks at the beginning end, and others come at the other end."""
+        """Remove the tasks at the beginning, and add others at the end."""
         end = self.layers - 1
         for place in range(self.entering):
             yield ("done", f"x{(number - 1) * self.skip}-{place}")
@@ -340,7 +340,7 @@ def in_ranges(found: Large, ranges: Ranges) -> Large:
 
 
 def mixed(draw: Random, found: Large, others: tuple[Large, Large], ranges: Ranges) -> Large:
-    """One to three of the numbers anew: another's, or a little or much more or less."""
+    """Return the numbers with one to three anew: another's, or a little or much more or less."""
     for name in draw.sample(list(ranges), draw.randint(1, 3)):
         number = getattr(found, name)
         near = draw.choice([number - 1, number + 1, number + 3, number * 4 // 5, number * 5 // 4, number * 2])
@@ -399,10 +399,10 @@ class Crowd(NamedTuple):
     slots: int
     running: int
     entering: int
-    jobs: int  # of those that run, each with a weight of its own
+    jobs: int  # number of running tasks' jobs, each with a weight
     prefers: int  # machines, of those that run
     entering_prefers: int
-    window: int  # in which those that a task prefers lie, or 0
+    window: int  # around a task's preferred machines, or 0
     is_rising: int  # whether later jobs weigh more
     is_cold: int  # whether all come at once
     draw: int
@@ -411,17 +411,17 @@ class Crowd(NamedTuple):
         return mixed(draw, self, (other, random_crowd(draw)), CROWD).within()
 
     def within(self) -> Crowd:
-        """The nearest that a tenant has room for."""
+        """Return the nearest that a tenant has room for."""
         found = in_ranges(self, CROWD)
         rows = found.machines + found.running + found.entering + found.jobs
-        part = min(1, (MOST_NODES - 10) / rows)
+        part = min(1, (MAX_NODES - 10) / rows)
         found = found._replace(
             machines=max(1, int(found.machines * part)),
             running=max(1, int(found.running * part)),
             entering=max(1, int(found.entering * part)),
             jobs=max(1, int(found.jobs * part)),
         )
-        arcs = MOST_ARCS - 7 * (found.running + found.entering) - found.jobs - 1
+        arcs = MAX_ARCS - 7 * (found.running + found.entering) - found.jobs - 1
         return found._replace(slots=max(1, min(found.slots, arcs // found.machines - 1)))
 
     def preferred(self, draw: Random, task: int, count: int) -> list[str]:
@@ -432,10 +432,10 @@ class Crowd(NamedTuple):
 
     def book(self) -> Book:
         draw = Random(self.draw)
-        weights = [draw.randint(1, MOST_WEIGHT - 1) for _ in range(self.jobs)]
+        weights = [draw.randint(1, MAX_WEIGHT - 1) for _ in range(self.jobs)]
         weights = sorted(weights) if self.is_rising else weights
         lines: list[Line] = [("machine", f"m{place}", str(self.slots)) for place in range(self.machines)]
-        lines += [("job", f"j{job}", str(weight)) for job, weight in enumerate([*weights, MOST_WEIGHT])]
+        lines += [("job", f"j{job}", str(weight)) for job, weight in enumerate([*weights, MAX_WEIGHT])]
         for task in range(self.running):
             lines.append(("task", f"j{task % self.jobs}", f"x{task}", *self.preferred(draw, task, self.prefers)))
         lines += [] if self.is_cold else [ROUND]
@@ -446,12 +446,12 @@ class Crowd(NamedTuple):
 
 CROWD: Ranges = {
     "machines": (2, 2_000),
-    "slots": (1, MOST_SLOTS),
+    "slots": (1, MAX_SLOTS),
     "running": (1, 3_500),
     "entering": (1, 3_500),
     "jobs": (1, 2_000),
-    "prefers": (1, MOST_PREFERRED),
-    "entering_prefers": (1, MOST_PREFERRED),
+    "prefers": (1, MAX_PREFERRED),
+    "entering_prefers": (1, MAX_PREFERRED),
     "window": (0, 60),
     "is_rising": (0, 1),
     "is_cold": (0, 1),
@@ -461,7 +461,7 @@ CROWD: Ranges = {
 
 def random_crowd(draw: Random) -> Crowd:
     machines, slots = draw.choice([30, 60, 250, 500, 1_000]), draw.choice([1, 1, 2, 8, 30, 60])
-    remote = draw.choice([MOST_WEIGHT, MOST_WEIGHT, 5_000, 120])
+    remote = draw.choice([MAX_WEIGHT, MAX_WEIGHT, 5_000, 120])
     found = Crowd(
         Numbers(draw.choice([0, 0, 1, 50]), draw.choice([0, 1, 400]), remote, 0),
         machines,
@@ -483,7 +483,7 @@ Seed = Book | Layers | Crowd
 
 
 def bred(draw: Random, one: Seed, other: Seed) -> Seed:
-    """The one with changes, into which the other may come, one of its kind."""
+    """Return the one with changes, into which the other may come, one of its kind."""
     if isinstance(one, Layers):
         return one.changed(draw, other if isinstance(other, Layers) else one)
     if isinstance(one, Crowd):

@@ -1,6 +1,6 @@
 """Checks as cases of `unittest`, and the exit statuses of the scripts.
 
-0: all is well. 1: something is not as it must be. 2: the script can't be run so, or lacks something that it needs.
+0: all is well. 1: a check failed. 2: the script can't be run with these words, or lacks something that it needs.
 """
 
 from __future__ import annotations
@@ -11,29 +11,30 @@ import time
 import traceback
 import unittest
 from concurrent.futures import ThreadPoolExecutor
+from functools import partial
 from pathlib import Path
 from threading import Lock
 from types import TracebackType
 from typing import Callable, Mapping, NoReturn, cast
 
-Check = Callable[[], object]  # passes where it raises nothing
+Check = Callable[[], object]  # passes if it raises nothing
 Caught = tuple[type[BaseException], BaseException, TracebackType] | tuple[None, None, None]
-Skipped = unittest.SkipTest  # of a check that can't be done here
-SKIPPED = "skipped"  # the first word of a line on checks that are not done
-DETAIL = "    "  # before each line behind the first on a check that failed
+Skipped = unittest.SkipTest  # raised by a check that can't be done here
+SKIPPED = "skipped"  # the first word of a line on skipped checks
+DETAIL = "    "  # before each line after the first on a check that failed
 TESTS = Path(__file__).resolve().parents[1]
 
 
 class Missed(AssertionError):
-    """Something is not as it must be."""
+    """Signals that a check has failed."""
 
 
 class CannotRun(Exception):
-    """Something that the script needs is not there."""
+    """Signals that something is missing that the script needs."""
 
 
 def require(holds: object, what: object) -> None:
-    """Asks that this holds."""
+    """Require that a condition holds."""
     if not holds:
         raise Missed(what)
 
@@ -73,9 +74,11 @@ class Lines(unittest.TextTestResult):
 
     reason: CannotRun | None = None  # that nothing more can be run
 
-    def __init__(self, *words: object) -> None:
+    def __init__(self, again: int, *words: object) -> None:
         super().__init__(*words)  # type: ignore[arg-type] # those of the runner
+        self._again = again
         self._lock = Lock()
+        self.late: list[unittest.TestCase] = []  # the first failures, to be run once more: `again` of them at most
 
     def startTest(self, test: unittest.TestCase) -> None:
         with self._lock:
@@ -88,24 +91,34 @@ class Lines(unittest.TextTestResult):
 
     def addFailure(self, test: unittest.TestCase, err: Caught) -> None:
         with self._lock:
-            super().addFailure(test, err)
-            self._say_failed(test, err)
+            if not self._is_late(test, err):
+                super().addFailure(test, err)
+                self._say_failed("FAILED   ", test, err)
 
     def addError(self, test: unittest.TestCase, err: Caught) -> None:
         with self._lock:
-            super().addError(test, err)
             if isinstance(err[1], CannotRun):
                 self.reason = err[1]
                 self.stop()
-            self._say_failed(test, err)
+            if not self._is_late(test, err):
+                super().addError(test, err)
+                self._say_failed("FAILED   ", test, err)
 
     def addSkip(self, test: unittest.TestCase, reason: str) -> None:
         with self._lock:
             super().addSkip(test, reason)
             self._say(f"{SKIPPED}  {test}: {reason}")
 
-    def _say_failed(self, test: unittest.TestCase, err: Caught) -> None:
-        told = [f"FAILED   {test}: {type(err[1]).__name__}: {err[1]}", *places_of(err[2]), *notes_of(err[1])]
+    def _is_late(self, test: unittest.TestCase, err: Caught) -> bool:
+        """Return whether this check will be run once more."""
+        if len(self.late) == self._again:
+            return False
+        self.late.append(test)
+        self._say_failed("missed   ", test, err)
+        return True
+
+    def _say_failed(self, word: str, test: unittest.TestCase, err: Caught) -> None:
+        told = [f"{word}{test}: {type(err[1]).__name__}: {err[1]}", *places_of(err[2]), *notes_of(err[1])]
         self._say("\n".join(told).replace("\n", f"\n{DETAIL}"))
 
     def _say(self, line: str) -> None:
@@ -114,7 +127,7 @@ class Lines(unittest.TextTestResult):
 
 
 def places_of(trace: TracebackType | None) -> list[str]:
-    """A line on where in the tests something was raised, from the check on."""
+    """Return a line for each place in the tests that an exception came through, from the check on."""
     frames = [frame for frame in traceback.extract_tb(trace) if Path(frame.filename).is_relative_to(TESTS)]
     places = [f"{Path(frame.filename).relative_to(TESTS)}:{frame.lineno}" for frame in frames]
     found = [place for place in places if not place.startswith("harness/checks.py:")]
@@ -126,24 +139,41 @@ def notes_of(error: BaseException | None) -> list[str]:
     return found
 
 
-def run_suites(*suites: unittest.TestSuite) -> int:
-    """Runs the checks; 0 where all passed, 1 where one failed or there was none. The last line counts them."""
-    runner = unittest.TextTestRunner(sys.stdout, verbosity=0, resultclass=Lines)
+def run_suites(*suites: unittest.TestSuite, again: int = 0) -> int:
+    """Run the checks; return 0 if all passed, 1 if one failed or there was none. The last line counts them.
+
+    The first `again` checks that fail are run once more, alone, when all others are over, and the second result counts:
+    a time limit that was missed beside others says little.
+    """
+    first = run_once(again, *suites)
+    failed, passed_alone = len(first.failures) + len(first.errors), list[str]()
+    for late in first.late:
+        second = run_once(0, unittest.TestSuite([late]))
+        if second.wasSuccessful():
+            passed_alone.append(str(late))
+        else:
+            failed += 1
+    if passed_alone:
+        print(f"missed beside others, passed alone: {', '.join(passed_alone)}", flush=True)
+    print(f"{first.testsRun - failed} passed, {failed} failed", flush=True)
+    return 0 if first.testsRun and not failed else 1
+
+
+def run_once(again: int, *suites: unittest.TestSuite) -> Lines:
+    runner = unittest.TextTestRunner(sys.stdout, verbosity=0, resultclass=partial(Lines, again))
     result = cast(Lines, runner.run(unittest.TestSuite(suites)))
     if result.reason is not None:
         raise result.reason
-    failed = len(result.failures) + len(result.errors)
-    print(f"{result.testsRun - failed} passed, {failed} failed", flush=True)
-    return 0 if result.testsRun and not failed else 1
+    return result
 
 
 def print_skipped(what: str, why: str) -> None:
-    """Says of checks that they are not done, and why."""
+    """Print that checks are skipped, and the reason."""
     print(f"{SKIPPED}  {what}: {why}", flush=True)
 
 
 def run_script(main: Callable[[], int]) -> NoReturn:
-    """Ends the script with the status of its main function, or with that of what it raised."""
+    """End the script with the status of its main function, or with that of the exception that it raised."""
     try:
         status = main()
     except Missed as missed:
@@ -156,7 +186,7 @@ def run_script(main: Callable[[], int]) -> NoReturn:
 
 
 def compile_source(words: list[str]) -> None:
-    """Runs a compiler."""
+    """Run a compiler."""
     try:
         done = subprocess.run(words, stdin=subprocess.DEVNULL, capture_output=True, text=True)
     except FileNotFoundError:

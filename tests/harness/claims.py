@@ -1,4 +1,4 @@
-"""What docs/results/claims.md names: the files of definitions and the edits in its tables."""
+"""The names in docs/results/claims.md: the files of definitions and the edits in its tables."""
 
 from __future__ import annotations
 
@@ -15,7 +15,7 @@ QUOTED = re.compile(r"`([^`\n]+)`")
 
 
 def cells_of(column: int) -> list[str]:
-    """What stands in a column of the tables, row by row."""
+    """Yield the cells of a column of the tables, row by row."""
     rows = [line.strip("|").split(" | ") for line in (ROOT / CLAIMS).read_text().splitlines() if line.startswith("| ")]
     return [row[column] for row in rows if len(row) == COLUMNS and row[0].strip() != "Claim"]
 
@@ -37,13 +37,13 @@ def edits_in(cells: Iterable[str]) -> set[str]:
 
 
 def definitions_of(files: Iterable[Path]) -> set[Path]:
-    """The files of the crates' specs/ but those of specs/inner, which nobody has to believe."""
+    """Return the files of the crates' specs/ except those of specs/inner, which nobody has to believe."""
     specs = {path for path in files if path.suffix == ".antt" and path.parent.name == "specs"}
     return {path for path in specs if path.stem not in ("Lib", "inner")}
 
 
 def claim_faults(files: Iterable[Path]) -> Iterator[str]:
-    """What the tables name and is not there, and what is there and stands in no table."""
+    """Return the names in the tables that don't exist, and those that exist and are in no table."""
     found = set(files)
     edits = {path.stem for path in found if path.suffix == ".edit"}
     tried = {path.stem: path for path in found if path.suffix == ".edit" and path.parent.name in ("must-fail", "edits")}

@@ -1,4 +1,4 @@
-"""The control of the trials: edits of which is known what must come of them, so that no wrong one counts as refused."""
+"""The control of the trials: edits with known results, so that no wrong edit counts as refused."""
 
 from __future__ import annotations
 
@@ -12,7 +12,7 @@ SOURCE = "src/lib.rt"
 
 
 class Control(NamedTuple):
-    """An edit, whether it must be refused, and what its verdict must say if not."""
+    """An edit, whether it must be refused, and the expected verdict if not."""
 
     edit: Edit
     is_refused: bool
@@ -38,6 +38,6 @@ CONTROLS = [
 
 
 def faults(verdicts: list[Verdict]) -> list[str]:
-    """What came otherwise than it must."""
+    """The differences from the expected results."""
     by_edit = {verdict.edit: verdict for verdict in verdicts}
     return [f"FAILED   {by_edit[each.edit]}" for each in CONTROLS if not each.is_kept(by_edit[each.edit])]

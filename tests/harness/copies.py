@@ -1,7 +1,7 @@
 """Copies of a function under other names in a crate's text, so that one check tries several edits of it.
 
-A copy stands behind its function, with the function's contract and proof. One copy of each function stays unedited:
-only where that has no open goal does a refused copy tell of its edit.
+A copy follows its function, with the function's contract and proof. One copy of each function stays unedited: a refused
+copy refutes its edit only if the unedited one has no open goal.
 """
 
 from __future__ import annotations
@@ -23,7 +23,7 @@ class Copy(NamedTuple):
 
 
 class Place(NamedTuple):
-    """The lines of a function in a file: from what belongs to its head, the head, and the last one."""
+    """The lines of a function in a file: the first line that belongs to its head, the head, and the last one."""
 
     first: int
     head: int
@@ -31,12 +31,12 @@ class Place(NamedTuple):
 
 
 def plain(name: str) -> str:
-    """The name of a function, also where it is that of a copy."""
+    """Return the name of a function, given its own name or a copy's."""
     return name.partition(MARK)[0]
 
 
 def place_of(function: Function, lines: list[str]) -> Place | None:
-    """Where a function stands; none where it isn't found once."""
+    """Return a function's place, or None unless the file has exactly one."""
     heads = [at for at, line in enumerate(lines) if (head := FUNCTION.match(line)) and head["name"] == function.name]
     places = []
     for at in heads:
@@ -51,8 +51,8 @@ def place_of(function: Function, lines: list[str]) -> Place | None:
 
 
 def copy_of(function: Function, number: int, crate: Path, edit: Edit | None = None) -> Copy | None:
-    """A copy with an edit, or without any; none where the function is a trait's, has closures with proofs of their own,
-    or the edit changes more than it."""
+    """Return a copy with an edit, or without any; None if the function is a trait's, has closures with separate
+    proofs, or the edit changes more than it."""
     if " for " in function.block or function.block.startswith(("trait", "pub trait")):
         return None
     before = read_file(crate, function.path)
@@ -71,7 +71,7 @@ def copy_of(function: Function, number: int, crate: Path, edit: Edit | None = No
 
 
 def with_copies(texts: Texts, copies: Iterable[Copy], crate: Path) -> Texts:
-    """The texts with each copy behind its function."""
+    """Return the texts with each copy after its function."""
     found = dict(texts)
     for copy in copies:
         lines = (found.get(copy.of.path) or read_file(crate, copy.of.path)).split("\n")
@@ -82,18 +82,18 @@ def with_copies(texts: Texts, copies: Iterable[Copy], crate: Path) -> Texts:
 
 
 def proof_folder(room: Path, module: tuple[str, ...], function: Function) -> Path:
-    """Where the proof of a function stands that the prover names by this module."""
+    """Return the folder of a function's proof that the prover names by this module."""
     return room.joinpath("proofs", *module, *([function.owner] if function.owner else []), function.name)
 
 
 def has_closures(crate: Path, module: tuple[str, ...], function: Function) -> bool:
-    """Whether closures of the function have proofs of their own."""
+    """Return whether closures of the function have separate proofs."""
     own = [name for name in (function.owner, function.name) if name]
     return crate.joinpath("proofs", *module, "fn", *own).exists()
 
 
 def copy_proof(room: Path, module: tuple[str, ...], copy: Copy) -> None:
-    """Gives a copy the proof of its function, if that has one in this module."""
+    """Give a copy the proof of its function, if that has one in this module."""
     source, target = (proof_folder(room, module, function) for function in (copy.of, copy.function))
     old, new = (".".join(["", *folder.relative_to(room).parts, ""]) for folder in (source, target))
     for file in sorted(source.glob("*.antt")):

@@ -7,42 +7,60 @@ from pathlib import Path
 
 from harness.program import ROOT
 
-import firm_service.slurm.check
-import firm_service.slurm.differences
-import firm_service.slurm.done
-import firm_service.slurm.refusals
-import firm_service.slurm.said
-from firm_service import agent_events, agent_machines, agent_queue, archive, books, budgets, feed, feeder
-from firm_service import firmctl, kept_books, lanes, past, past_rounds, records
-from firm_service import roster, sizes, slurm, snapshots, states as service_states, supervisor
-from firm_service import trials, what_if, why, why_text
-from firm_service.agent_queue import NotAllowed, work_of
-from firm_service.agent_table import TableError
-from firm_service.book_states import book_of, text_of
-from firm_service.books import Book, Books
-from firm_service.clients import HIGH_WATER
-from firm_service.daemon import TICK_SECONDS
-from firm_service.follower import Follower
-from firm_service.kept import found_now, kept_lines
-from firm_service.lines import gets_reply
-from firm_service.observers import Status
-from firm_service.queue import array_limits, async_client, backlog, client, columns, estimates, forms, reports, rows
-from firm_service.queue import shares, states, submitting
-from firm_service.queue.fields import Refused as QueueRefused
-from firm_service.queue.firm import Doors, Firm
-from firm_service.refused import Refused
-from firm_service.roster import Limits
-from firm_service.queue.rows import Attempt, Name, Spec, Submission, Task
-from firm_service.sockets import LOCK_SECONDS
-from firm_service.state import ID
-from firm_service.shown import Shown
-from firm_service.view import MOST_OF_USER, MOST_UNREAD, serve_view
+import firm.slurm.check
+import firm.slurm.commands
+import firm.slurm.differences
+import firm.slurm.actions
+import firm.slurm.refusals
+import firm.slurm.firm_lines
+from firm.agent import (
+    events as agent_events,
+    event_file as agent_file,
+    link as agent_link,
+    queue as agent_queue,
+    state as agent_state,
+    work as agent_work,
+)
+from firm.server import archive, budgets, feed, feeder
+from firm.common import books
+from firm.cli import firmctl
+from firm.server import stored_books as kept_books, tenant_queues, records
+from firm.explain import history as past
+from firm.common import roster, sizes
+from firm.server import snapshots, firm_state as service_states
+from firm.agent import supervisor
+from firm.slurm import firm_lines
+from firm.slurm.firm_lines import Observed
+from firm.explain import trials, what_if, why, why_text
+from firm.agent.work import NotAllowed, work_of
+from firm.explain.book_states import book_of, text_of
+from firm.common.books import Book, Books
+from firm.server.clients import HIGH_WATER
+from firm.server.daemon import TICK_SECONDS
+from firm.viewer.follower import Follower
+from firm.server.journal_reader import found_now, stored_lines
+from firm.common.lines import gets_reply
+from firm.server.observers import Status
+from firm.queue import array_limits, backlog, estimates, fair_order, output, reports, rows
+from firm.cli import columns
+from firm.common import quantities as forms
+from firm.queue import quotas as shares, states
+from firm.cli import submissions as submitting
+from firm.queue.firmd import FirmdSockets, Firm
+from firm.common.refused import Refused
+from firm.common.roster import Limits
+from firm.queue.rows import Attempt, Name, Spec, Submission, Task
+from firm.common.sockets import LOCK_SECONDS
+from firm.server.state import ID
+from firm.viewer.view_model import ViewModel
+from firm.viewer.view import MOST_CLIENTS, MOST_UNREAD, serve_view
 
 SERVICE = ROOT / "service"
+slurm = firm.slurm
 
 
 def bound(path: Path) -> socket.socket:
-    """A Unix socket of this path, in the place of one that is not served any more."""
+    """Return a Unix socket of this path, in the place of one that is served no longer."""
     path.unlink(missing_ok=True)
     found = socket.socket(socket.AF_UNIX)
     found.bind(str(path))
@@ -53,52 +71,53 @@ __all__ = [
     "Attempt",
     "Book",
     "Books",
-    "Doors",
+    "FirmdSockets",
     "Firm",
     "Follower",
     "HIGH_WATER",
     "ID",
     "LOCK_SECONDS",
     "Limits",
-    "MOST_OF_USER",
+    "MOST_CLIENTS",
     "MOST_UNREAD",
     "Name",
     "NotAllowed",
-    "QueueRefused",
+    "Observed",
     "Refused",
     "SERVICE",
-    "Shown",
+    "ViewModel",
     "Spec",
     "Status",
     "Submission",
     "Task",
     "TICK_SECONDS",
-    "TableError",
     "agent_events",
-    "agent_machines",
+    "agent_file",
+    "agent_link",
     "agent_queue",
+    "agent_state",
+    "agent_work",
     "archive",
     "array_limits",
-    "async_client",
     "backlog",
     "book_of",
     "books",
     "bound",
     "budgets",
-    "client",
     "columns",
     "estimates",
+    "fair_order",
     "feed",
     "feeder",
+    "firm_lines",
     "firmctl",
     "forms",
     "found_now",
     "gets_reply",
     "kept_books",
-    "lanes",
-    "kept_lines",
+    "output",
+    "stored_lines",
     "past",
-    "past_rounds",
     "records",
     "reports",
     "roster",
@@ -112,6 +131,7 @@ __all__ = [
     "states",
     "submitting",
     "supervisor",
+    "tenant_queues",
     "text_of",
     "trials",
     "what_if",

@@ -1,7 +1,7 @@
-"""Must-fail edits: how their files read, what they change, and the function in which each change stands.
+"""Must-fail edits: the form of their files, their changes, and the function of each change.
 
 An edit breaks a meaning, so that the prover must refuse the function that it changes. Its file names a file of the
-crate and pairs of texts, each of them on one line and found once in that file:
+crate and pairs of texts, each of them on one line and with exactly one occurrence in that file:
 
     file: src/bounds.rt
     old: arcs <= MOST_ARCS
@@ -17,16 +17,16 @@ from typing import Iterator, Mapping, NamedTuple
 Texts = dict[str, str]  # the files that edits change, by their path in the crate
 PARTS = ("src", "specs", "proofs")
 FUNCTION = re.compile(r"^(?P<indent>\s*)(?:pub(?:\([a-z]+\))? )?(?:const )?(?:unsafe )?fn (?P<name>\w+)")
-ABOVE = ("#[", "//")  # what stands above a function's head and belongs to it
+ABOVE = ("#[", "//")  # lines above a function's head that belong to it
 BLOCK = re.compile(r"^(?:pub )?(?:unsafe )?(?:impl|trait)\b")
 
 
 class BadEdit(Exception):
-    """The edit can't be applied, or shows nothing of a contract."""
+    """Signals that the edit can't be applied, or shows nothing of a contract."""
 
 
 class Pair(NamedTuple):
-    """A text of a file, and what comes in its place."""
+    """A text of a file, and its replacement."""
 
     path: str
     old: str
@@ -34,7 +34,7 @@ class Pair(NamedTuple):
 
 
 class Function(NamedTuple):
-    """A function by its file, the head of the `impl` or `trait` that it stands in (else empty), and its name."""
+    """A function by its file, the head of its `impl` or `trait` (or empty), and its name."""
 
     path: str
     block: str
@@ -42,18 +42,18 @@ class Function(NamedTuple):
 
     @property
     def module(self) -> list[str]:
-        """The names of its module below the crate."""
+        """Return the names of its module below the crate."""
         parts = self.path.removeprefix("src/").removesuffix(".rt").split("/")
         return [] if parts[-1] in ("lib", "main") else [part for part in parts if part != "mod"]
 
     @property
     def kind(self) -> str:
-        """The type or trait that it belongs to; empty for a free function."""
+        """Return the type or trait that it belongs to; empty for a free function."""
         return last_name(without_brackets(self.block).rpartition(" for ")[2])
 
     @property
     def owner(self) -> str:
-        """The same as the prover names it: with the trait behind a type."""
+        """Return the same as the prover names it: with the trait after a type."""
         return self.kind + last_name(without_brackets(self.block).rpartition(" for ")[0])
 
     def __str__(self) -> str:
@@ -72,7 +72,7 @@ class Edit(NamedTuple):
 
 
 def without_brackets(head: str) -> str:
-    """The head of a block without what stands in angle brackets, `where` and the words before the names."""
+    """Return the head of a block without the texts in angle brackets, `where` and the words before the names."""
     plain, depth = "", 0
     for at, letter in enumerate(head):
         is_arrow = letter == ">" and head[at - 1] in "-="
@@ -87,13 +87,13 @@ def without_brackets(head: str) -> str:
 
 
 def last_name(path: str) -> str:
-    """The last name of a path, as Debug of fmt::Debug."""
+    """Return the last name of a path, as Debug of fmt::Debug."""
     names: list[str] = re.findall(r"\w+", path.split(":")[-1] if "::" in path else path)
     return names[0] if names else ""
 
 
 def read_edit(file: Path) -> Edit:
-    """The edit of a file in a folder of its crate; raises where it has no pair, or a pair without a file."""
+    """Read the edit of a file in a folder of its crate; raise if it has no pair, or a pair without a file."""
     path, old, pairs = "", "", []
     for line in file.read_text().split("\n"):
         if line.startswith("file: "):
@@ -121,7 +121,7 @@ def read_file(crate: Path, path: str) -> str:
 
 
 def applied(edit: Edit, crate: Path, before: Mapping[str, str]) -> Texts:
-    """The texts with this edit on top; raises where a text of it doesn't stand there exactly once."""
+    """Return the texts with this edit on top; raise unless each text of it stands there exactly once."""
     texts = dict(before)
     for path, old, new in edit.pairs:
         text = texts.get(path) or read_file(crate, path)
@@ -132,7 +132,7 @@ def applied(edit: Edit, crate: Path, before: Mapping[str, str]) -> Texts:
 
 
 def changed_functions(edit: Edit, crate: Path) -> set[Function]:
-    """The functions in which the edit changes something; none where it changes definitions."""
+    """Return the functions in which the edit changes something; none if it changes definitions."""
     found: set[Function] = set()
     texts: Texts = {}
     for path, old, new in edit.pairs:
@@ -147,7 +147,7 @@ def changed_functions(edit: Edit, crate: Path) -> set[Function]:
 
 
 def function_at(path: str, lines: list[str], number: int) -> Function | None:
-    """The function in which a line stands, counted from 0; none for a line outside, and in files of definitions."""
+    """Return the function of a line, counted from 0; None for a line outside, and in files of definitions."""
     if not path.endswith(".rt"):
         return None
     while number < len(lines) - 1 and lines[number].lstrip().startswith(ABOVE):
@@ -161,7 +161,7 @@ def function_at(path: str, lines: list[str], number: int) -> Function | None:
 
 
 def last_line(lines: list[str], first: int, indent: str) -> int:
-    """The line that ends the function that begins at a line, in the layout of `rt fmt`."""
+    """Return the line that ends the function that begins at a line, in the layout of `rt fmt`."""
     for number in range(first, len(lines)):
         line = lines[number]
         if line == f"{indent}}}" or (number == first and line.endswith("}")):
@@ -170,7 +170,7 @@ def last_line(lines: list[str], first: int, indent: str) -> int:
 
 
 def block_of(lines: list[str], first: int) -> str:
-    """The head of the `impl` or `trait` around a line, on one line."""
+    """Return the head of the `impl` or `trait` around a line, on one line."""
     for number in range(first, -1, -1):
         if BLOCK.match(lines[number]):
             return " ".join(head_lines(lines[number:]))

@@ -1,4 +1,4 @@
-"""The Rust that the pages show, which has to stand in the crates."""
+"""The Rust on the pages, which has to stand in the crates."""
 
 from __future__ import annotations
 
@@ -11,7 +11,7 @@ CUT = ".."  # a line that leaves something out
 
 
 def parts_of(block: str) -> list[list[str]]:
-    """The runs of lines between those that leave something out, without their indents."""
+    """Return the runs of lines between those that leave something out, without their indents."""
     parts: list[list[str]] = [[]]
     for line in block.splitlines():
         if line.strip() == CUT:
@@ -22,7 +22,7 @@ def parts_of(block: str) -> list[list[str]]:
 
 
 def stands_in(parts: list[list[str]], lines: list[str]) -> bool:
-    """Whether the runs stand in a source, one after another."""
+    """Return whether the runs stand in a source, one after another."""
     start = 0
     for part in parts:
         places = range(start, len(lines) - len(part) + 1)
@@ -34,7 +34,7 @@ def stands_in(parts: list[list[str]], lines: list[str]) -> bool:
 
 
 def example_faults(files: dict[Path, list[str]]) -> Iterator[str]:
-    """The blocks of Rust on the pages that stand in no source, or in part only."""
+    """Yield the blocks of Rust on the pages that stand in no source, or in part only."""
     sources = [[line.strip() for line in lines] for path, lines in files.items() if path.suffix == ".rt"]
     for page in (path for path in files if path.suffix == ".md"):
         text = "\n".join(files[page]) + "\n"

@@ -10,7 +10,7 @@ from harness.program import ROOT
 
 
 def tracked_files() -> list[Path]:
-    """The files that git tracks, and new ones that it does not ignore, by their paths in the repository."""
+    """Return the files that git tracks, and new ones that it does not ignore, by their paths in the repository."""
     words = ["git", "ls-files", "-z", "--cached", "--others", "--exclude-standard"]
     done = subprocess.run(words, cwd=ROOT, stdin=subprocess.DEVNULL, capture_output=True, text=True)
     if done.returncode:
@@ -19,20 +19,20 @@ def tracked_files() -> list[Path]:
 
 
 def write_program(path: Path, text: str) -> None:
-    """Writes a program by a process of its own: a file that this one has open is open too in each child that another
-    of its threads forks meanwhile, and a program that is open to be written can't be started."""
+    """Write a program by a separate process: a file that is open here is open too in each child that another thread
+    forks meanwhile, and a program that is open for writing can't be started."""
     subprocess.run(["install", "-m", "755", "/dev/stdin", path], input=text.encode(), check=True)
 
 
 def commit_here() -> str:
-    """The commit that is checked out; none outside a checkout."""
+    """Return the commit that is checked out; None outside a checkout."""
     words = ["git", "rev-parse", "HEAD"]
     done = subprocess.run(words, cwd=ROOT, stdin=subprocess.DEVNULL, capture_output=True, text=True)
     return done.stdout.strip() if done.returncode == 0 else ""
 
 
 def lines_of(path: Path) -> list[str]:
-    """The lines of a file of the repository, without their ends; none where it is no text."""
+    """Return the lines of a file of the repository, without their ends; none if it is not text."""
     try:
         return (ROOT / path).read_text().splitlines()
     except (UnicodeDecodeError, IsADirectoryError):

@@ -1,6 +1,6 @@
-"""Ends whatever a test has started, however the test itself ends.
+"""Ends all processes that a test has started, however the test itself ends.
 
-What it starts knows by a word of its environment whose it is; daemons too, which leave its session. A process waits for
+A word in their environment identifies the test's processes, also daemons, which leave its session. A process waits for
 the end of the test, by a pipe that only the test has.
 """
 
@@ -21,9 +21,9 @@ SECONDS = 20.0  # for the last of them to be gone
 
 
 def guard() -> None:
-    """From now on what this process starts is killed once it has ended, also where it is killed itself."""
+    """From now on, kill all processes that this one starts once it has ended, even by a kill."""
     word, none = secrets.token_hex(8), subprocess.DEVNULL
-    # It is never waited for: it ends behind this process.
+    # It is never waited for: it ends after this process.
     subprocess.Popen(
         [sys.executable, "-P", __file__, word], stdin=subprocess.PIPE, stdout=none, stderr=none, start_new_session=True
     )
@@ -31,7 +31,7 @@ def guard() -> None:
 
 
 def left(word: str) -> Iterator[int]:
-    """The processes that are there with this word."""
+    """Yield the live processes with this word."""
     for path in Path("/proc").glob("[0-9]*"):
         with suppress(OSError):
             if f" {word}".encode() in (path / "environ").read_bytes():

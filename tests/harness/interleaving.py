@@ -1,44 +1,43 @@
 """Models of threads that share words, and a search through all their interleavings, one atomic step at a time.
 
-A thread is a generator of steps: an act on the words, which is atomic, or a step of the kinds below. It is sent what it
-learns by each. All steps are sequentially consistent, as the code's are. The kernel compares the word and lays the
-thread down in one step; a wake of one takes any of those that sleep.
+A thread is a generator of steps: an act on the words, which is atomic, or a step of the kinds below. The search sends
+it the result of each. All steps are sequentially consistent, as the code's are. The kernel compares the word and puts
+the thread to sleep in one step; a wake of one takes any sleeper.
 """
 
 from __future__ import annotations
 
-from collections import Counter
 from itertools import chain
 from typing import Any, Callable, Generator, Iterable, Iterator, NamedTuple, Union
 
 Words = dict[str, int]
-Act = Callable[[Words], object]  # an atomic step on the words, and what the thread learns by it
+Act = Callable[[Words], object]  # an atomic step on the words, and its result for the thread
 
 
 class Sleep(NamedTuple):
-    """Sleeps if the word has the value, until a wake; then, or at once, the thread learns whether it lay down."""
+    """Sleep if the word has the value, until a wake; then, or at once, the thread learns whether it slept."""
 
     word: str
     value: int
     compares: bool = True
-    awaits: str = ""  # what it waits for, where that differs among those who sleep on the word
+    awaits: str = ""  # the subject of its wait, if that differs among the sleepers on the word
 
 
 class Wake(NamedTuple):
-    """Wakes one that sleeps on the word, or all."""
+    """Wake one that sleeps on the word, or all."""
 
     word: str
     takes_all: bool = False
 
 
 class Join(NamedTuple):
-    """Stands until no thread is in such a turn."""
+    """Wait until no thread is in such a turn."""
 
     turn: Turn
 
 
 class Again(NamedTuple):
-    """Steps back, to look again for what is there in part: another thread is in the middle of its steps."""
+    """Step back, to look again for a partial result: another thread is in the middle of its steps."""
 
     act: Act
 
@@ -61,7 +60,7 @@ def add(word: str, number: int) -> Act:
 
 
 def fetch_add(word: str, number: int) -> Act:
-    """Adds; the number before."""
+    """Add; return the number before."""
 
     def act(words: Words) -> int:
         words[word] += number
@@ -71,7 +70,7 @@ def fetch_add(word: str, number: int) -> Act:
 
 
 def swap(word: str, value: int) -> Act:
-    """Stores the value; the one before."""
+    """Store the value; return the one before."""
 
     def act(words: Words) -> int:
         before = words[word]
@@ -82,7 +81,7 @@ def swap(word: str, value: int) -> Act:
 
 
 def exchange(word: str, old: int, new: int) -> Act:
-    """Stores the new value if the old one is there; whether it was."""
+    """Store the new value if the word has the old one; return whether it had."""
 
     def act(words: Words) -> bool:
         is_there = words[word] == old
@@ -93,7 +92,7 @@ def exchange(word: str, old: int, new: int) -> Act:
 
 
 def push(word: str, room: int) -> Act:
-    """One more in a queue, if there is room; whether there was."""
+    """Add one to a queue, if there is room; return whether there was."""
 
     def act(words: Words) -> bool:
         has_room = words[word] < room
@@ -104,7 +103,7 @@ def push(word: str, room: int) -> Act:
 
 
 def pop(word: str) -> Act:
-    """One less in a queue, if there is one; whether there was."""
+    """Take one from a queue, if any; return whether there was one."""
 
     def act(words: Words) -> bool:
         is_there = words[word] > 0
@@ -115,7 +114,7 @@ def pop(word: str) -> Act:
 
 
 class Thread(NamedTuple):
-    """Where a thread stands: in a turn, which is a generator of steps, behind those by which it learnt this."""
+    """A thread's position: a turn, which is a generator of steps, and the results so far in it."""
 
     turn: Turn
     arguments: tuple[Any, ...]
@@ -123,7 +122,7 @@ class Thread(NamedTuple):
     is_asleep: bool = False
 
     def replay(self) -> tuple[Steps, Step]:
-        """The turn, at the step that is next."""
+        """Return the turn, at its next step."""
         steps = self.turn(*self.arguments)
         step = next(steps)
         for lesson in self.learnt:
@@ -131,7 +130,7 @@ class Thread(NamedTuple):
         return steps, step
 
     def behind(self, lesson: object) -> Thread | None:
-        """The thread behind that step: in the same turn, in the one that it gives, or gone."""
+        """Return the thread after that step: in the same turn, in the next one, or gone."""
         steps, _ = self.replay()
         try:
             steps.send(lesson)
@@ -142,8 +141,8 @@ class Thread(NamedTuple):
 
 
 def place_of(steps: Steps) -> object:
-    """Where a turn stands, and in it each turn that it takes steps from, by the variables: what a thread learnt and
-    does not keep makes no difference. So a turn keeps what it needs in variables alone."""
+    """Return the position of a turn, and of each turn that it takes steps from, by the variables: a result that a
+    thread does not store makes no difference. So a turn stores all that it needs in variables."""
     places: list[object] = []
     inner: Steps | None = steps
     while inner is not None:
@@ -162,8 +161,8 @@ def has_changed(words: Words, sleep: Sleep) -> object:
 
 
 class Model(NamedTuple):
-    """The words and threads at the start; whether what a sleeper waits for is there; and whether something is left
-    once no thread can step, by the words and the number of threads then."""
+    """The words and threads at the start; whether a sleeper's condition holds; and whether something is left once no
+    thread can step, by the words and the number of threads then."""
 
     words: Words
     threads: list[Thread]
@@ -177,7 +176,8 @@ GONE = -1
 
 
 class Search:
-    """All states that a model reaches. Threads that stand alike have one number: which is which does not matter."""
+    """All states that a model reaches. Threads in the same position share one number: which is which does not
+    matter."""
 
     def __init__(self, model: Model, until_lost: bool = False) -> None:
         self.model, self.names = model, list(model.words)
@@ -189,8 +189,8 @@ class Search:
         self.lessons: dict[tuple[int, object], int] = {}
         self.sleepers: dict[int, int] = {}
         self.backward: set[int] = set()  # that step back
-        self.following: list[list[int]] = []  # of each state those behind a step
-        self.again: dict[int, list[int]] = {}  # and those behind a step back
+        self.following: list[list[int]] = []  # of each state those after a step
+        self.again: dict[int, list[int]] = {}  # and those after a step back
         self.lost = 0
         self.reach((self.number_of(model.words), *self.in_order(map(self.number, model.threads))), until_lost)
 
@@ -214,7 +214,7 @@ class Search:
                     return
 
     def number_of(self, words: Words) -> int:
-        """The number of the words' values."""
+        """Return the number of the words' values."""
         values = tuple(words.values())
         if values not in self.numbers_of_values:
             self.numbers_of_values[values] = len(self.values)
@@ -236,12 +236,12 @@ class Search:
 
     @staticmethod
     def in_order(numbers: Iterable[int]) -> list[int]:
-        """The numbers of the threads that are not gone."""
+        """Return the numbers of the threads that are not gone, in order."""
         ordered = sorted(numbers)
         return ordered[ordered.count(GONE) :]
 
     def steps(self, words: int, numbers: Numbers) -> Iterator[tuple[State, bool]]:
-        """The states behind one step of one thread, and whether it is a step back."""
+        """Yield the states after one step of one thread, and whether it is a step back."""
         before = GONE
         for place, number in enumerate(numbers):
             if number == before:
@@ -267,20 +267,20 @@ class Search:
                 yield (move[1], *self.in_order((*others, move[0]))), number in self.backward
 
     def behind(self, number: int, lesson: object) -> int:
-        """The thread behind its step, by which it learns this."""
+        """Return the thread after its step, with this result."""
         key = number, lesson
         if key not in self.lessons:
             self.lessons[key] = self.number(self.threads[number][0].behind(lesson))
         return self.lessons[key]
 
     def asleep(self, number: int) -> int:
-        """The thread once it lies down."""
+        """Return the thread once it sleeps."""
         if number not in self.sleepers:
             self.sleepers[number] = self.number(self.threads[number][0]._replace(is_asleep=True))
         return self.sleepers[number]
 
     def move(self, number: int, step: Act | Sleep | Again, words: int) -> tuple[int, int]:
-        """A thread and the words behind a step that leaves the others alone."""
+        """Return a thread and the words after a step that leaves the others alone."""
         named = self.named(words)
         if isinstance(step, Sleep):
             if step.compares and named[step.word] != step.value:
@@ -290,7 +290,7 @@ class Search:
         return self.behind(number, lesson), self.number_of(named)
 
     def woken(self, wake: Wake, numbers: Numbers) -> list[list[int]]:
-        """The other threads behind a wake, for each choice of the one that wakes."""
+        """Return the other threads after a wake, for each choice of the one that wakes."""
         sleeps = {number: self.sleep_of(number) for number in numbers}
         asleep = [number for number, sleep in sleeps.items() if sleep is not None and sleep.word == wake.word]
         behind = {number: self.behind(number, True) for number in asleep}
@@ -303,12 +303,12 @@ class Search:
         return choices or [list(numbers)]
 
     def sleep_of(self, number: int) -> Sleep | None:
-        """What a thread sleeps on, if it does."""
+        """Return the object that a thread sleeps on, if it does."""
         thread, step = self.threads[number]
         return step if thread.is_asleep and isinstance(step, Sleep) else None
 
     def is_lost(self, words: int, numbers: Numbers) -> bool:
-        """Whether a thread sleeps although what it waits for is there, or something is left."""
+        """Return whether a thread sleeps although its condition holds, or something is left."""
         named = self.named(words)
         if self.model.is_left(named, len(numbers)):
             return True
@@ -316,8 +316,8 @@ class Search:
         return any(self.model.is_there(named, sleep) for sleep in sleeps)
 
     def ends(self) -> bool:
-        """Whether each run ends in which a thread that steps back lets the others go on: no state leads back to itself
-        without a step back, and each leads to an end."""
+        """Return whether each run ends in which a thread that steps back lets the others go on: no state leads back
+        to itself without a step back, and each leads to an end."""
         entering = [0] * len(self.following)
         for state in chain.from_iterable(self.following):
             entering[state] += 1

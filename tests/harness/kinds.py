@@ -13,8 +13,8 @@ from typing import Callable, Iterator, NamedTuple
 from harness.checks import run_script
 
 TENANT = "t"
-MOST_ARCS = 65536
-MOST_SLOTS = 64
+MAX_ARCS = 65536
+MAX_SLOTS = 64
 
 
 class Stream(NamedTuple):
@@ -26,21 +26,21 @@ class Stream(NamedTuple):
 
 
 class Range(NamedTuple):
-    """The least and the greatest of a number that is drawn."""
+    """The least and the greatest of a random number."""
 
     least: float
     greatest: float
 
 
 class Kind(NamedTuple):
-    """What a kind is, and its numbers."""
+    """A kind's meaning and its numbers."""
 
     meaning: str
     spread: int
     churn: int
     weights: Range
     slots: Range | None  # as parts of tasks / machines; None for as many as the arcs allow
-    remote: int | None = None  # where tasks prefer machines
+    remote: int | None = None  # if tasks prefer machines
 
 
 KINDS = {
@@ -68,7 +68,7 @@ KINDS = {
 
 
 class Maker:
-    """Lines of one tenant; it keeps which tasks are there."""
+    """Lines of one tenant; it records the present tasks."""
 
     def __init__(self, kind: str, tasks: int, machines: int, seed: int) -> None:
         self.draw = random.Random(f"{kind} {tasks} {machines} {seed}")
@@ -84,8 +84,8 @@ class Maker:
         self.lines.append(" ".join([TENANT, *map(str, words)]))
 
     def slots(self) -> int:
-        room = (MOST_ARCS - self.jobs - 3 * self.tasks) // self.machines - 1
-        most = min(MOST_SLOTS, room)
+        room = (MAX_ARCS - self.jobs - 3 * self.tasks) // self.machines - 1
+        most = min(MAX_SLOTS, room)
         if self.kind.slots is None or self.name == "levels":
             return most
         low, high = (min(most, max(1, int(self.tasks * part / self.machines))) for part in self.kind.slots)
@@ -112,7 +112,7 @@ class Maker:
             self.next += 1
 
     def preferred(self) -> list[str]:
-        """The machines that the next task prefers: none, or some of the first half, so that those are in demand."""
+        """Return the next task's preferred machines: none, or some of the first half, so that those are in demand."""
         if self.kind.remote is None or self.draw.random() < 0.2:
             return []
         places = range(max(4, self.machines // 2))
@@ -127,7 +127,7 @@ class Maker:
         self.add_machine(place)
 
     def part(self) -> list[str]:
-        """The lines since the last part."""
+        """Return the lines since the last part."""
         lines, self.lines = self.lines, []
         return lines
 
@@ -137,7 +137,7 @@ class Maker:
         return self.part()
 
     def parts(self) -> Iterator[list[str]]:
-        """The lines before each round."""
+        """Yield the lines before each round."""
         first = self.machines * 2 // 3 if self.name == "moves" else self.machines
         self.add_machines(0, first)
         self.add_jobs()
@@ -204,17 +204,17 @@ class Maker:
 
 
 def make(kind: str, tasks: int, machines: int, seed: int = 1) -> Stream:
-    """The stream of a kind at a size."""
+    """Return the stream of a kind at a size."""
     numbers = KINDS[kind]
     heading = "tenant,nodes,arcs,life,spread,churn"
-    row = f"{TENANT},4096,{MOST_ARCS},1000000,{numbers.spread},{numbers.churn}"
+    row = f"{TENANT},4096,{MAX_ARCS},1000000,{numbers.spread},{numbers.churn}"
     if numbers.remote is not None:
         heading, row = f"{heading},remote", f"{row},{numbers.remote}"
     return Stream(kind, f"{heading}\n{row}\n", list(Maker(kind, tasks, machines, seed).parts()))
 
 
 def read_size(text: str) -> tuple[int, int]:
-    """The tasks and machines of a size, as an argument: 100x20."""
+    """Return the tasks and machines of a size, as an argument: 100x20."""
     try:
         tasks, machines = map(int, text.split("x"))
     except ValueError:
@@ -223,7 +223,7 @@ def read_size(text: str) -> tuple[int, int]:
 
 
 def main() -> int:
-    """Writes the stream of a kind into BASE.csv and BASE.txt."""
+    """Write the stream of a kind into BASE.csv and BASE.txt."""
     parser = argparse.ArgumentParser(prog="python3 -m harness.kinds", description=main.__doc__)
     parser.add_argument("kind", choices=KINDS)
     parser.add_argument("tasks", type=int)

@@ -1,4 +1,4 @@
-"""The links of the pages, each of which has to lead to a file that is there, and to a heading in it."""
+"""The links of the pages, each of which has to lead to an existing file, and to a heading in it."""
 
 from __future__ import annotations
 
@@ -14,7 +14,7 @@ FENCE = "```"
 
 
 def text_of(lines: Sequence[str]) -> list[str]:
-    """The lines, with those of fenced blocks left empty."""
+    """Return the lines, with those of fenced blocks left empty."""
     kept, is_fenced = list[str](), False
     for line in lines:
         is_fence = line.startswith(FENCE)
@@ -24,7 +24,7 @@ def text_of(lines: Sequence[str]) -> list[str]:
 
 
 def anchor(heading: str) -> str:
-    """The name by which a link finds a heading: its words in small letters, with hyphens between them."""
+    """Return the name by which a link finds a heading: its words in small letters, with hyphens between them."""
     shown = re.sub(r"\]\([^)]*\)", "", heading.strip().lower())
     return re.sub(r"[^\w\- ]", "", shown).replace(" ", "-")
 
@@ -34,7 +34,7 @@ def anchors(lines: Sequence[str]) -> set[str]:
 
 
 def link_faults(files: dict[Path, list[str]]) -> Iterator[str]:
-    """The links of pages to what is not there; what is elsewhere is not looked up."""
+    """Yield the links of pages to missing files and headings; links to other sites are not looked up."""
     pages = {(ROOT / path).resolve(): lines for path, lines in files.items() if path.suffix == ".md"}
     for page, lines in pages.items():
         for path, name in LINK.findall("\n".join(text_of(lines))):

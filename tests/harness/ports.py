@@ -8,10 +8,10 @@ _held: list[socket.socket] = []
 
 
 def free_port() -> int:
-    """A port that nobody has, nor gets from the system as long as this process lives.
+    """Return a port that nobody has, nor gets from the system as long as this process lives.
 
-    A socket is bound to it here and never listens; so a server that allows an address to be used again, as those of
-    the service do, may listen there.
+    A socket is bound to it here and never listens; so a server that allows an address to be used again, as those of the
+    service do, may listen there.
     """
     held = socket.socket()
     held.setsockopt(socket.SOL_SOCKET, socket.SO_REUSEADDR, 1)

@@ -9,26 +9,29 @@ import shlex
 import subprocess
 import tempfile
 import time
+from collections import Counter
 from contextlib import contextmanager
 from dataclasses import dataclass
 from pathlib import Path
 from types import TracebackType
 from typing import IO, Iterator, Mapping, NamedTuple, Sequence
 
-from harness.checks import compile_source
+from harness.checks import compile_source, require
 from harness.service import is_state
 
 ROOT = Path(__file__).resolve().parents[2]
 OUT = ROOT / "out" / "tests"
-WORKERS = 2  # where no number is named
-LIMIT_SECONDS = 120  # for a run
-REPLY_SECONDS = 120  # for a reply, and for an end, on a busy host
+WORKERS = 2  # by default
+LIMIT_SECONDS = 600  # for a run, on a busy host
+REPLY_SECONDS = 300  # for a reply, and for an end, on a busy host
+# The time for which an idle service is watched, the pause between looks at it, and the most watches.
+IDLE_SECONDS, LOOKS, MAX_WATCHES = 0.4, 40, 20
 
 Environment = Mapping[str, str]
 
 
 def built(crate: str) -> Path:
-    """The program that is built from a crate."""
+    """Return the path of the built program of a crate."""
     return ROOT / "crates" / crate / "out" / crate
 
 
@@ -37,12 +40,13 @@ EXPLAIN = built("firm_explain")
 
 
 def measuring(explain: str | Path = EXPLAIN) -> list[str]:
-    """The first words of a run of firm_explain that answers on one thread, and may tell how much each round took."""
+    """Return the first words of a run of firm_explain that answers on one thread, and may report the cost of each
+    round."""
     return [str(explain), "measure"]
 
 
 class Run(NamedTuple):
-    """How a run ended: its exit status, where a signal gives a negative one, and what it wrote."""
+    """A run's end: its exit status, negative for a signal, and its output."""
 
     status: int
     output: bytes
@@ -50,7 +54,7 @@ class Run(NamedTuple):
 
 
 def program_file(path: str) -> str:
-    """The path of a program that is there, as an argument."""
+    """Return the path of an existing program, for an argument."""
     if not os.access(path, os.X_OK) or os.path.isdir(path):
         raise argparse.ArgumentTypeError(f"there is no program {path} (./firm builds the repository's own)")
     return path
@@ -65,7 +69,7 @@ class ProgramOptions:
     workers: str
 
     def command(self, workers: str | None = None) -> list[str]:
-        """The first words of a run; with another number of workers, if one is named."""
+        """Return the first words of a run, by default with the program's number of workers."""
         count = self.workers if workers is None else workers
         return shlex.split(self.under) + [self.program] + (["--workers", count] if count else [])
 
@@ -76,7 +80,7 @@ def add_program(parser: argparse.ArgumentParser) -> None:
 
 
 def add_under(parser: argparse.ArgumentParser) -> None:
-    parser.add_argument("--under", default="", metavar="COMMAND", help="a command that runs it, as 'valgrind -q'")
+    parser.add_argument("--under", default="", metavar="COMMAND", help="command that runs it, as 'valgrind -q'")
 
 
 def add_workers(parser: argparse.ArgumentParser, default: str = "") -> None:
@@ -114,14 +118,14 @@ def run(
     environment: Environment | None = None,
     seconds: float = LIMIT_SECONDS,
 ) -> Run:
-    """A run of the program on a roster and an input."""
+    """Run the program on a roster and an input."""
     return run_words([*command, "--roster", roster_path], text, environment, seconds)
 
 
 def run_words(
     words: Sequence[str], text: bytes, environment: Environment | None = None, seconds: float = LIMIT_SECONDS
 ) -> Run:
-    """As `run`, with all the words of the command line."""
+    """Run it with all the words of the command line."""
     whole = {**os.environ, **(environment or {})}
     done = subprocess.run(words, input=text, capture_output=True, timeout=seconds, env=whole)
     return Run(done.returncode, done.stdout, done.stderr)
@@ -169,7 +173,7 @@ class Client:
         self.input.write(text)
 
     def reply(self, seconds: float = REPLY_SECONDS) -> bytes | None:
-        """The next line of the output, without its end; None where none has come in time, or the output has ended."""
+        """Return the next line of the output, without its end; None if none comes in time, or the output has ended."""
         ends = time.monotonic() + seconds
         while b"\n" not in self.received:
             if not select.select([self.output], [], [], max(0, ends - time.monotonic()))[0]:
@@ -182,47 +186,72 @@ class Client:
         return line
 
     def ask(self, line: bytes, seconds: float = REPLY_SECONDS) -> bytes | None:
-        """The reply to a line."""
+        """Return the reply to a line."""
         self.send(line + b"\n")
         return self.reply(seconds)
 
-    def threads(self) -> int:
-        """How many threads it has."""
-        return len(os.listdir(f"/proc/{self.process.pid}/task"))
+    def threads(self) -> set[str]:
+        """Return its threads, by their numbers."""
+        return set(os.listdir(f"/proc/{self.process.pid}/task"))
+
+    def sleeping_threads(self) -> Iterator[str]:
+        """Yield the threads that neither run nor would if a processor were free."""
+        for stat in Path(f"/proc/{self.process.pid}/task").glob("*/stat"):
+            if stat.read_text().rpartition(")")[2].split()[0] != "R":
+                yield stat.parent.name
+
+    def require_idle(self, awaited: str) -> None:
+        """Require that each of its threads sleeps, soon after now, and that they take next to no processor time for a
+        while.
+
+        A thread that polls is never seen asleep, however little a busy host lets it run. One that sleeps may seem to
+        wait for a processor, through a watch or two.
+        """
+        rested = set[str]()
+        for _ in range(MAX_WATCHES):
+            asleep, before = Counter[str](), self.processor_seconds()
+            for _ in range(LOOKS):
+                time.sleep(IDLE_SECONDS / LOOKS)
+                asleep.update(self.sleeping_threads())
+            rested.update(thread for thread, looks in asleep.items() if looks > LOOKS / 4)
+            used, awake = self.processor_seconds() - before, self.threads() - rested
+            if not awake and used < IDLE_SECONDS / 4:
+                return
+        require(False, f"{len(awake)} threads awake, {used:.2f} processor seconds used while it waits for {awaited}")
 
     def processor_seconds(self) -> float:
-        """The processor time that it has taken, user and system."""
+        """Return its processor time so far, user and system."""
         fields = Path(f"/proc/{self.process.pid}/stat").read_text().rpartition(")")[2].split()
         return (int(fields[11]) + int(fields[12])) / os.sysconf("SC_CLK_TCK")
 
     def end(self, seconds: float = REPLY_SECONDS) -> Run:
-        """How it ends within the time, without a close of its input, with what is left of its output."""
+        """Return its end within the time, without a close of its input, with the rest of its output."""
         status = self.process.wait(seconds)
         left = b"" if self.output.closed else self.output.read()
         return Run(status, self.received + left, opened(self.process.stderr).read())
 
     def close(self, seconds: float = REPLY_SECONDS) -> Run:
-        """As `end`, once its input has ended."""
+        """Close its input, and return its end, as `end` does."""
         self.input.close()
         return self.end(seconds)
 
 
 def opened(pipe: IO[bytes] | None) -> IO[bytes]:
-    """A pipe to a process that was started with one."""
+    """Return a pipe to a process that was started with one."""
     if pipe is None:
         raise ValueError("the process has no such pipe")
     return pipe
 
 
 def build_refusing(folder: str | Path) -> str:
-    """The library that is preloaded to refuse memory and to fail or shorten reads and writes."""
+    """Build the library that is preloaded to refuse memory and to fail or shorten reads and writes; return its path."""
     library = str(Path(folder) / "refuse.so")
     compile_source(["cc", "-O2", "-shared", "-fPIC", "-o", library, str(ROOT / "tests" / "refuse.c")])
     return library
 
 
 def keep(name: str, opened: bytes, text: bytes) -> Path:
-    """Keeps a roster or a state, and an input, under out/, to be run again by hand; gives the path's beginning."""
+    """Store a roster or a state, and an input, under out/, to be run again by hand; return the path's beginning."""
     OUT.mkdir(parents=True, exist_ok=True)
     (OUT / f"{name}.{'state' if is_state(opened) else 'csv'}").write_bytes(opened)
     (OUT / f"{name}.txt").write_bytes(text)

@@ -18,7 +18,7 @@ Placement = Mapping[str, Choice]  # the choice of each task, in order of submiss
 Step = tuple[Choice, Choice]
 
 FAR = ""  # a place that stands for all machines of the lowest rent
-MOST_SPELLED = 20  # of a group with more places than these an order says ".."
+MAX_SPELLED = 20  # an order writes ".." for a group with more places than these
 
 
 class Task(NamedTuple):
@@ -50,15 +50,15 @@ class Book:
         }
 
     def slot_cost(self, slot: int) -> int:
-        """The cost of a machine's slot of this number, counted from 0."""
+        """Return the cost of a machine's slot of this number, counted from 0."""
         return slot * self.spread
 
     def load_cost(self, tasks: int) -> int:
-        """The cost of a machine with this number of tasks, by spread."""
+        """Return the cost of a machine with this number of tasks, by spread."""
         return self.spread * tasks * (tasks - 1) // 2
 
     def cost_of(self, name: str, choice: Choice) -> int:
-        """The cost of a choice to the task itself."""
+        """Return the task's own cost of a choice."""
         task = self.tasks[name]
         if choice is None:
             return task.wait
@@ -67,11 +67,11 @@ class Book:
         return task.near if choice in task.preferred else task.far
 
     def rank(self, name: str, choice: Choice) -> tuple[bool, bool, int]:
-        """The rank of a choice: the task's home, the other machines in order of addition, waiting."""
+        """Return the rank of a choice: the task's home, the other machines in order of addition, waiting."""
         return choice is None, choice != self.tasks[name].home, self.places[choice]
 
     def cost(self, to: Placement) -> int:
-        """The cost of a placement, which must be legal."""
+        """Return the cost of a placement, which must be legal."""
         load = Counter(machine for machine in to.values() if machine is not None)
         for machine, tasks in load.items():
             slots = self.slots.get(machine, 0)
@@ -79,7 +79,8 @@ class Book:
         return sum(map(self.load_cost, load.values())) + sum(self.cost_of(name, to[name]) for name in self.tasks)
 
     def paid_and_gains(self, rents: Rents) -> tuple[int, int]:
-        """What the tasks pay at least and the machines gain at most: no legal placement costs less than the difference.
+        """Return the least that the tasks pay and the most that the machines gain: no legal placement costs less than
+        the difference.
 
         Of the machines that are neither a task's home nor preferred, which cost it alike, the cheapest is enough.
         """
@@ -108,7 +109,7 @@ class Proof:
         require(paid - gains == book.cost(to), f"at least {paid} - {gains}, and it costs {book.cost(to)}")
 
     def slot_steps(self) -> Iterator[Step]:
-        """A free slot worth its cost leads to waiting, a machine's last used one from it."""
+        """Yield the steps of slots: a free slot worth its cost leads to waiting, a machine's last used one from it."""
         for machine, slots in self.book.slots.items():
             load = self.load[machine]
             if load < slots and self.rents[machine] == self.book.slot_cost(load):
@@ -117,10 +118,11 @@ class Proof:
                 yield None, machine
 
     def choices_as_cheap(self, name: str) -> list[Choice]:
-        """The other choices by which a task pays as much; of machines that are neither its home nor preferred, `FAR`.
+        """Return the other choices by which a task pays as much; of machines that are neither its home nor preferred,
+        `FAR`.
 
-        On these the task pays no less than on a machine of the lowest rent, and no more by its choice than there. So
-        where it pays as much they have the lowest rent, and by each other machine of that rent it pays as much too.
+        On these the task pays no less than on a machine of the lowest rent, and no more by its choice than there. So if
+        it pays as much there, they have the lowest rent, and by each other machine of that rent it pays as much too.
         """
         task, has = self.book.tasks[name], self.to[name]
         pays = self.book.cost_of(name, has) + self.rents[has]
@@ -135,7 +137,7 @@ class Proof:
         return found
 
     def steps(self) -> Iterator[Step]:
-        """All steps that change no cost: of a slot, and of a task from its choice to another as cheap."""
+        """Yield all steps that change no cost: of a slot, and of a task from its choice to another as cheap."""
         yield from self.slot_steps()
         for name, has in self.to.items():
             for other in self.choices_as_cheap(name):
@@ -145,21 +147,22 @@ class Proof:
                 yield FAR, machine
 
     def lowerable(self) -> list[str]:
-        """The machines whose rents can be lower.
+        """Return the machines whose rents can be lower.
 
         A rent stays above that of a place with a step to the machine, as far as the step's two ends differ. So it is
-        the lowest where steps lead to the machine from waiting, whose rent is 0, or where it is 0 itself.
+        the lowest if steps lead to the machine from waiting, whose rent is 0, or if it is 0 itself.
         """
         bound = reached(self.steps())
         return [machine for machine in self.book.slots if self.rents[machine] and machine not in bound]
 
     def raisable(self) -> list[str]:
-        """The machines whose rents can be higher: no steps lead from them to waiting."""
+        """Return the machines whose rents can be higher: no steps lead from them to waiting."""
         bound = reached((end, start) for start, end in self.steps())
         return [machine for machine in self.book.slots if machine not in bound]
 
     def order_fault(self, order: Order) -> str:
-        """Why the order does not show, with the lowest rents, that the placement comes first; nothing where it does.
+        """Return the reason why the order, with the lowest rents, does not show that the placement comes first; empty
+        if it does.
 
         Take another placement that costs as little, and the first task on which it differs. By the rents each task pays
         as little for its choice, and each slot is worth its cost. If the first choice is better, and a cut lies between
@@ -185,7 +188,7 @@ class Proof:
         return ""
 
     def highest_before(self, order: Order) -> list[int]:
-        """The highest group of the machines of the lowest rent that were added before each place."""
+        """Return for each place the highest group of the machines of the lowest rent that were added before it."""
         highest = [-1]
         for machine in self.book.slots:
             is_far = self.rents[machine] == self.lowest_rent
@@ -194,7 +197,7 @@ class Proof:
 
 
 def reached(steps: Iterable[Step]) -> set[Choice]:
-    """The places to which steps lead from waiting."""
+    """Return the places to which steps lead from waiting."""
     ends: dict[Choice, list[Choice]] = {}
     for start, end in steps:
         ends.setdefault(start, []).append(end)
@@ -232,32 +235,33 @@ class Order:
         self.cuts = list(range(len(groups) + 1))  # above each group; a cut that is crossed names one above it
 
     def text(self, book: Book, rest: int | None) -> str:
-        """The groups as they are written: each with its places in order of addition, a long one as `..`."""
+        """Return the groups as they are written: each with its places in order of addition, a long one as `..`."""
         groups: list[list[str]] = [[] for _ in range(1 + max(self.of.values()))]
         for place in book.places:
             groups[self.of[place]].append(place or "waiting")
         if len(groups) == 1:
             return "clear"
         most = max(map(len, groups))
-        if rest is not None and len(groups[rest]) == most > MOST_SPELLED:
+        if rest is not None and len(groups[rest]) == most > MAX_SPELLED:
             groups[rest] = [".."]
         return " < ".join(map(" ".join, groups))
 
     def cut(self, group: int) -> int:
-        """The lowest cut above this group or a higher one that nothing has crossed."""
+        """Return the lowest cut above this group or a higher one that nothing has crossed."""
         while self.cuts[group] != group:
             self.cuts[group] = self.cuts[self.cuts[group]]
             group = self.cuts[group]
         return group
 
     def cross(self, low: int, high: int) -> None:
-        """Marks the cuts between two groups as crossed."""
+        """Mark the cuts between two groups as crossed."""
         while (cut := self.cut(low)) < high:
             self.cuts[cut] = cut + 1
 
 
 def witness_line(book: Book, to: Placement, other: Placement, asked: str) -> str:
-    """The line on another placement than a round's, which costs as little as any in which the task has this choice."""
+    """Return the line on another placement than a round's, which costs as little as any in which the task has this
+    choice."""
     more = book.cost(other) - book.cost(to)
     changed = [name for name in to if other[name] != to[name]]
     changes = ", ".join(placed(name, other[name]) for name in changed if name != asked)
@@ -270,7 +274,7 @@ def placed(name: str, choice: Choice) -> str:
 
 
 def precedence(book: Book, to: Placement, other: Placement, asked: str) -> str:
-    """Why a placement comes before another: by the first task on which they differ."""
+    """Return the reason why a placement comes before another: the first task on which they differ."""
     first = next(name for name in to if other[name] != to[name])
     here, there = to[first], other[first]
     require(book.rank(first, here) < book.rank(first, there), f"the placement with {placed(first, there)} comes first")

@@ -1,4 +1,4 @@
-"""What the scripts of this folder use of those at the top of the repository."""
+"""The parts of the scripts at the top of the repository that tests use."""
 
 from __future__ import annotations
 
@@ -24,11 +24,11 @@ __all__ = [
 
 
 def prover_words(verb: str, crate: Crate, library: Callable[[Crate], Path]) -> list[str]:
-    """The first words of a call of the prover, to be run in a crate's folder or in a copy of it."""
+    """Return the first words of a call of the prover, to be run in a crate's folder or in a copy of it."""
     return [str(kit() / "bin" / "rattle"), verb, *words(crate, library)]
 
 
 def build_libraries(crates: Iterable[Crate]) -> int:
-    """Builds the libraries that these crates stand on, where they have changed; the status of the build."""
+    """Build the libraries that these crates depend on, if they have changed; return the status of the build."""
     below = dict.fromkeys(library.name for crate in crates for library in crate.below)
     return subprocess.call([sys.executable, str(ROOT / "build.py"), *below]) if below else 0

@@ -1,4 +1,4 @@
-"""The comment lines that firm_explain writes behind a round, word for word.
+"""The comment lines that firm_explain writes after a round, word for word.
 
 All but the rents follows from the rows before the round, its placement and the rents, by arithmetic. `reasons` reads
 the rents in the lines of an output and writes the lines anew; tests/certificates compares them.
@@ -14,7 +14,7 @@ from typing import Iterator, Mapping, NamedTuple, Protocol, Sequence
 Choice = str | None  # a machine; None is to wait
 Rents = Mapping[Choice, int]
 
-MOST_LINES = 20  # where more tasks than these wait for the same reason, they share one line
+MAX_LINES = 20  # if more tasks than these wait for the same reason, they share one line
 
 
 class Task(Protocol):
@@ -28,7 +28,7 @@ class Task(Protocol):
 
 
 class Tenant(Protocol):
-    """The rows of a tenant, as tests/certificates keeps them."""
+    """The rows of a tenant, as tests/certificates has them."""
 
     @property
     def churn(self) -> int:
@@ -84,7 +84,7 @@ class Round(Protocol):
 
 
 class Asked(NamedTuple):
-    """What firm_explain is asked by its options."""
+    """Options of firm_explain."""
 
     tenant: str | None = None
     why: str | None = None
@@ -94,7 +94,7 @@ class Asked(NamedTuple):
 
 
 def reasons(found: Round, asked: Asked) -> Iterator[str]:
-    """The comment lines of a round, with the rents that it names."""
+    """Yield the comment lines of a round, with the rents that it names."""
     low, high = (found.rents(line) for line in found.comments[1:3])
     market = Market(found, low, high)
     yield f"# cost {found.reply[5]}: {', '.join(market.parts())}"
@@ -106,12 +106,12 @@ def reasons(found: Round, asked: Asked) -> Iterator[str]:
     if asked.why is not None and asked.why in found.to:
         yield from why_lines(found, asked.why)
     yield f"# least: cost {found.reply[5]} = {market.sum_text(low)} = {market.sum_text(high)}"
-    # Which order shows the placement to be first is firm_explain's to choose, and tests/certificates' to judge.
+    # firm_explain may choose the order that shows the placement to be first, and tests/certificates judges it.
     yield next((line for line in found.comments[-1:] if line.startswith("# first: ")), "# first: ..")
 
 
 def why_lines(found: Round, name: str) -> Iterator[str]:
-    """The lines on all choices of a task, by the rents of its own that the round names."""
+    """Return the lines on all choices of a task, by the round's rents for that task."""
     start = f"# {name}'s rents: "
     rents = found.rents(next(line for line in found.comments if line.startswith(start)))
     market = Market(found, rents)
@@ -136,7 +136,7 @@ class Market:
         self.by_gap: dict[int, list[str]] = {}
 
     def parts(self) -> Iterator[str]:
-        """What the placement costs, by what for."""
+        """Return the placement's cost by kind."""
         sums = Counter[str](loads=sum(map(self.tenant.load_cost, Counter(filter(None, self.to.values())).values())))
         for name, choice in self.to.items():
             churn = self.tenant.churn if self.tenant.tasks[name].home not in (None, choice) else 0
@@ -145,7 +145,7 @@ class Market:
         return (f"{part} {sums[part]}" for part in ("loads", "moves", "preemptions", "waits", "remote"))
 
     def rents_text(self, rents: Rents) -> str:
-        """The rent that most machines have, the lowest of those, and the rents of the others."""
+        """Return the rent that most machines have, the lowest of those, and the rents of the others."""
         counts = Counter(rents[machine] for machine in self.places)
         usual = min(counts, key=lambda rent: (-counts[rent], rent), default=0)
         others = [f"{machine} {rents[machine]}" for machine in self.places if rents[machine] != usual]
@@ -156,14 +156,14 @@ class Market:
         return f"{paid} - {gains}"
 
     def more(self, name: str, other: Choice) -> int:
-        """How much more the other choice costs a task, by the table that makes it the most."""
+        """Return a task's excess of the other choice, by the table that makes it the most."""
         return max(self.paid(name, other, rents) - self.paid(name, self.to[name], rents) for rents in self.tables)
 
     def paid(self, name: str, choice: Choice, rents: Rents) -> int:
         return self.tenant.cost_of(name, choice) + rents[choice]
 
     def best_other(self, name: str) -> Choice:
-        """Of the machines that a task neither has nor had the one that costs least more, the first of several."""
+        """Return the machine that costs least more, of those that a task neither has nor had; the first of several."""
         chosen, task = self.to[name], self.tenant.tasks[name]
         here = (chosen, task.home)
         # Of the machines that cost the task alike the first in the order of their rents is enough.
@@ -172,7 +172,8 @@ class Market:
         return min(others, key=lambda machine: (self.more(name, machine), self.rank(name, machine)), default=None)
 
     def cheapest_by(self, chosen: Choice) -> list[str]:
-        """The machines as they rank by both tables for a task with this choice, apart from what they cost it."""
+        """Return the machines as they rank by both tables for a task with this choice, apart from the task's own
+        cost of them."""
         low, high = self.tables
         gap = high[chosen] - low[chosen]
         if gap not in self.by_gap:
@@ -180,7 +181,7 @@ class Market:
         return self.by_gap[gap]
 
     def task_lines(self, all_of_them: bool) -> Iterator[str]:
-        """A line for each task that changes or waits; one for many that wait for the same reason."""
+        """Yield a line for each task that changes or waits; one for many that wait for the same reason."""
         best: dict[str, Choice] = {}
         crowds: dict[bool, list[str]] = {False: [], True: []}  # by whether a machine costs as much
         for name, choice in self.to.items():
@@ -190,7 +191,7 @@ class Market:
                     crowds[self.is_as_much(name, best[name])].append(name)
         for name, other in best.items():
             crowd = crowds[self.is_as_much(name, other)]
-            if all_of_them or len(crowd) <= MOST_LINES or not self.goes_on_waiting(name):
+            if all_of_them or len(crowd) <= MAX_LINES or not self.goes_on_waiting(name):
                 yield self.task_line(name, self.claims(name, other))
             elif name == crowd[0]:
                 yield self.crowd_line(crowd, best)
@@ -202,7 +203,7 @@ class Market:
         return other is not None and self.more(name, other) == 0
 
     def crowd_line(self, crowd: list[str], best: Mapping[str, Choice]) -> str:
-        """What tasks pay that wait for the same reason, and what a machine would cost each of them more."""
+        """Return the costs of tasks that wait for the same reason, and the excess of a machine for each of them."""
         waits = sorted({self.tenant.cost_of(name, None) for name in crowd})
         span = " to ".join(map(str, waits[:1] + waits[1:][-1:]))
         line = f"# {crowd[0]} and {len(crowd) - 1} others wait: {span} each"
@@ -212,23 +213,24 @@ class Market:
         return line + (f"; each machine at least {more} more" if more else "; a machine as much, earlier tasks decide")
 
     def claims(self, name: str, best: Choice) -> Iterator[str]:
-        """What stands in the line of a task on its other choices: waiting, its own machine and the best other one."""
+        """Return a task's line on its other choices: waiting, its own machine and the best other one."""
         choice, home = self.to[name], self.tenant.tasks[name].home
         others = ([None] if choice else []) + [machine for machine in (home, best) if machine not in (None, choice)]
         return (f"{self.word(name, other)} {self.claim(name, other)}" for other in others)
 
     def all_claims(self, name: str) -> Iterator[str]:
-        """The same on all."""
+        """Yield a task's claims on all other choices."""
         for claim, alike in groupby(self.rivals(name), key=lambda other: self.claim(name, other)):
             yield f"{', '.join(self.word(name, other) for other in alike)} {claim}"
 
     def rivals(self, name: str) -> list[Choice]:
-        """All other choices: those that cost least more first, of these those that rank after the task's choice."""
+        """Return all other choices: those that cost least more first, of these those that rank after the task's
+        choice."""
         others = [choice for choice in [*self.places, None] if choice != self.to[name]]
         return sorted(others, key=lambda other: (self.more(name, other), "decides" in self.claim(name, other)))
 
     def task_line(self, name: str, claims: Iterator[str]) -> str:
-        """What a task does and pays, and what other choices would cost more."""
+        """Return a task's line: its change, its cost and the excess of other choices."""
         choice = self.to[name]
         paid = str(self.tenant.cost_of(name, choice))
         if choice:
@@ -249,7 +251,8 @@ class Market:
         return "to stay" if other == self.tenant.tasks[name].home else other
 
     def claim(self, name: str, other: Choice) -> str:
-        """The additional cost of another choice of a task; for a tie what decides it, as far as the rents show."""
+        """Return the additional cost of another choice of a task; for a tie the decider, as far as the rents show
+        it."""
         more = self.more(name, other)
         if more:
             return f"at least {more} more"
@@ -260,7 +263,8 @@ class Market:
         return "as much, an earlier task decides" if is_exact else "at least as much"
 
     def decider(self, name: str, other: Choice, changes: str) -> str:
-        """Why the round's placement comes before one in which a task has another choice, and others these changes."""
+        """Return the reason why the round's placement comes before one in which a task has another choice, and
+        others these changes."""
         # The changes of other tasks are `U waits, V on m2`.
         to = {name: other} | {
             task: where[-1] if where[0] == "on" else None
@@ -273,11 +277,11 @@ class Market:
         return f"{first}, submitted earlier, would {f'be on {place}' if place else 'wait'}"
 
     def rank(self, name: str, choice: Choice) -> tuple[bool, bool, int]:
-        """The order of a task's choices: its own machine, the others by their places, waiting."""
+        """Return the rank of a task's choice: its own machine, the others by their places, waiting."""
         return choice is None, choice != self.tenant.tasks[name].home, self.places[choice] if choice else 0
 
     def machine_line(self, slots: int, rents: Rents) -> str:
-        """What one more machine, which no task prefers, would save at most, and the tasks that would go there."""
+        """Return the greatest saving of one more machine, which no task prefers, and the tasks that would go there."""
         worth = {name: self.paid(name, self.to[name], rents) - self.cost_on_new(name) for name in self.to}
         steps = enumerate(sorted(worth, key=lambda name: -worth[name])[:slots])
         saved = {name: worth[name] - self.tenant.slot_cost(load) for load, name in steps}

@@ -1,11 +1,11 @@
-"""Why the prover refuses functions: the goals of each that are open, read from what a check prints.
+"""The prover's reasons for refusing functions: the open goals of each, read from a check's output.
 
 The prover judges each function against the contracts of those that it calls, and prints its reasons by function: a note
 at a line of `src/` for each goal that a search left open, and an error in a file of `proofs/` for each answer that does
-not fit its goal. So a check of several edits at once tells of each whether it is refused, as long as no two change one
-function. What says nothing of a contract does not count: that a function calls one that is refused, and that a proof
-names what the edit took away. Where an answer is lost so, and a search for a goal of the same clause is in vain, the
-answer may be that goal's under its old name: only what the search finds to be false counts then.
+not fit its goal. So a check of several edits at once tells for each whether it is refused, as long as no two change one
+function. A message that concerns no contract does not count: that a function calls a refused one, and that a proof
+names something that the edit removed. If an answer is lost so, and a search for a goal of the same clause is in vain,
+the answer may be that goal's under its old name: then only goals that the search finds to be false count.
 """
 
 from __future__ import annotations
@@ -21,17 +21,17 @@ BROKEN_ANSWER = re.compile(r"^(?:\./)?proofs/(?P<path>\S+)\.antt:\d+:\d+: error:
 UNREADABLE = re.compile(r"^(?:error.*)?(?:\./)?(?P<path>src/\S+\.rt):(?P<line>\d+):\d+: error\b(?P<what>.*)")
 JUDGED = re.compile(r"^fn \w+::(?P<function>\S+): (?P<what>.*)")
 GOAL = re.compile(r"`([^`]+)`")
-# A search has found values that the known facts allow.
+# The values of a search that the known facts allow.
 FALSE = re.compile(r"allow values at which this goal is false")
-# The proof names a variable, a call or a goal that the edit took away.
+# The proof names a variable, a call or a goal that the edit removed.
 SHAPE = re.compile(r"that can be named from here|is not in scope|has no field|has no `|no constructor")
-# The answer rests on another one, which has an error of its own.
+# The answer depends on another one, which has its own error.
 FOLLOWS = re.compile(r"declarations? that depends? on|was not admitted")
 
 
 class Refusal(NamedTuple):
-    """The goals of a function that are false or whose answers don't fit, those for which a search was in vain, and what
-    its proof names that is not there."""
+    """A function's goals that are false or whose answers don't fit, those for which a search was in vain, and the
+    missing names in its proof."""
 
     failed: list[str]
     searched: list[str]
@@ -47,18 +47,18 @@ class Refusal(NamedTuple):
 
     @property
     def goals(self) -> list[str]:
-        """The goals that count as refused, each once."""
+        """Return the goals that count as refused, each once."""
         lost = {clause_of(name) for name in self.missing}
         return list(dict.fromkeys([*self.failed, *(goal for goal in self.searched if clause_of(goal) not in lost)]))
 
 
 def clause_of(goal: str) -> str:
-    """The clause that a goal is for, as `few` of `returns-in-On-clause-few`; it may be left in several ways."""
+    """Return the clause that a goal is for, as `few` of `returns-in-On-clause-few`; it may be left in several ways."""
     return goal.rpartition("-clause-" if "-clause-" in goal else "-")[2]
 
 
 class Outcome(NamedTuple):
-    """What a check says: by function, by folder of a proof, of functions as a whole, and what it could not read."""
+    """A check's messages: by function, by folder of a proof, of functions as a whole, and the unreadable ones."""
 
     at_functions: dict[Function, Refusal]
     in_folders: dict[tuple[str, ...], Refusal]
@@ -67,7 +67,7 @@ class Outcome(NamedTuple):
     said: str
 
     def against(self, function: Function, modules: set[tuple[str, ...]]) -> Refusal:
-        """What it says against a function whose type stands in one of the modules."""
+        """Return the messages against a function whose type stands in one of the modules."""
         found = Refusal.none()
         found.add(self.at_functions.get(function, Refusal.none()))
         for folder, refusal in self.in_folders.items():
@@ -77,7 +77,7 @@ class Outcome(NamedTuple):
 
 
 def is_of(folder: tuple[str, ...], module: tuple[str, ...], function: Function) -> bool:
-    """Whether a folder of proofs/ is that of the function, or of a closure in it."""
+    """Return whether a folder of proofs/ is that of the function, or of a closure in it."""
     own = tuple(name for name in (function.owner, function.name) if name)
     if folder[: len(module)] != module:
         return False
@@ -86,7 +86,7 @@ def is_of(folder: tuple[str, ...], module: tuple[str, ...], function: Function) 
 
 
 def read_outcome(said: str, texts: Mapping[str, str]) -> Outcome:
-    """Reads what a check of these sources printed."""
+    """Read the output of a check of these sources."""
     outcome = Outcome({}, {}, {}, [], said)
     for line in said.splitlines():
         if found := OPEN_GOAL.match(line):
@@ -104,23 +104,23 @@ def read_outcome(said: str, texts: Mapping[str, str]) -> Outcome:
 
 
 def at_line(texts: Mapping[str, str], found: re.Match[str]) -> Function | None:
-    """The function at a line that a message names."""
+    """Return the function at a line that a message names."""
     text = texts.get(found["path"])
     return function_at(found["path"], text.split("\n"), int(found["line"]) - 1) if text is not None else None
 
 
 def note_search(refusal: Refusal, what: str) -> None:
-    """Notes a goal that a search has left open."""
+    """Record a goal that a search has left open."""
     (refusal.failed if FALSE.search(what) else refusal.searched).append(goal_in(what))
 
 
 def note_answer(refusal: Refusal, what: str) -> None:
-    """Notes an answer that does not fit, by what is said of it."""
+    """Record an answer that does not fit, by its message."""
     if not FOLLOWS.search(what):
         (refusal.missing if SHAPE.search(what) else refusal.failed).append(goal_in(what))
 
 
 def goal_in(what: str) -> str:
-    """The goal that a message names: in parentheses behind what it means, else first."""
+    """Return the goal that a message names: in parentheses after its meaning, else first."""
     named: list[str] = re.findall(r"\(`([^`]+)`\)", what) or GOAL.findall(what) or [what]
     return named[0]

@@ -9,19 +9,19 @@ from harness.service import Placement, Tenant, read_roster
 
 
 def open_rows(roster: str) -> Tenant:
-    """The only tenant of a roster, with no rows."""
+    """Return the only tenant of a roster, with no rows."""
     (tenant,) = read_roster(roster.encode()).values()
     return tenant
 
 
 def hear(tenant: Tenant, line: str, reply: str) -> None:
-    """Takes a command that is no round; the reply must be the defined one."""
+    """Take a command that is no round; require the defined reply."""
     wanted = tenant.answer(line.encode().split()[1:]).decode()
     require(reply == wanted, f"{line}: {reply}, and not {wanted}")
 
 
 def hear_round(tenant: Tenant, reply: str) -> int:
-    """Takes a round: the changes must give a legal placement that costs what the reply says. Gives that cost."""
+    """Take a round: the changes must give a legal placement that costs what the reply says. Return that cost."""
     words = reply.split()
     require(words[2:5] == ["ok", "round", "cost"], reply)
     cost, changed = int(words[5]), read_changes(words[6:])
@@ -35,7 +35,7 @@ def hear_round(tenant: Tenant, reply: str) -> int:
 
 
 def read_changes(words: list[str]) -> dict[str, str | None]:
-    """Where each changed task runs now, or None where it waits."""
+    """Return where each changed task runs now, or None if it waits."""
     changed: dict[str, str | None] = {}
     left = iter(words)
     for verb in left:
@@ -45,7 +45,7 @@ def read_changes(words: list[str]) -> dict[str, str | None]:
 
 
 def machine_after(verb: str, words: Iterator[str]) -> str | None:
-    """Where the task of a change runs behind it, by the words behind its name."""
+    """Return the machine of a change's task after it, by the words after its name."""
     machine = next(words)
     if verb == "start":
         return machine
@@ -57,7 +57,7 @@ def machine_after(verb: str, words: Iterator[str]) -> str | None:
 
 
 def cost_of(tenant: Tenant, placement: Placement) -> int:
-    """What a placement costs by the rules; it must be legal."""
+    """Return a placement's cost by the rules; it must be legal."""
     load, cost = dict.fromkeys(tenant.machines, 0), 0
     for task, machine in zip(tenant.tasks.values(), placement.machines):
         if machine is None:
@@ -94,7 +94,7 @@ SINK, HUB, FIRST_ROW = 0, 1, 2
 
 
 def network(tenant: Tenant) -> Network:
-    """The network of the rows."""
+    """Return the network of the rows."""
     rows = [("machine", name) for name in tenant.machines] + [("job", name) for name in tenant.jobs]
     rows += [("task", name) for name in tenant.tasks]
     node = {row: place for place, row in enumerate(rows, FIRST_ROW)}

@@ -1,7 +1,7 @@
 """The service as docs/FORMATS.md and docs/PLACEMENT.md state it, written for its plainness alone.
 
-A round tries the placements in their stated order and keeps the first of those that cost least, so it is for
-small books only. Nothing here knows a network, a flow or a price; nothing is shared with the program.
+A round tries the placements in their stated order and returns the first of those that cost least, so it is for small
+books only. It has no network, flow or price, and shares nothing with the program.
 """
 
 from __future__ import annotations
@@ -37,7 +37,7 @@ COSTS_KEPT = 8
 
 
 class Words(NamedTuple):
-    """The words behind a verb: names, more of them that may be left out, and a number from 1 to the highest, if any."""
+    """The words after a verb: names, more of them that may be left out, and a number from 1 to the highest, if any."""
 
     names: int
     more_names: int = 0
@@ -60,7 +60,7 @@ GROWING = {"machine", "job", "task", "round"}
 
 
 class Refused(Exception):
-    """A line is refused, with this code."""
+    """Signals that a line is refused, with this code."""
 
     def __init__(self, code: int) -> None:
         super().__init__(code)
@@ -68,7 +68,7 @@ class Refused(Exception):
 
 
 class RosterFault(Exception):
-    """A roster is at fault, with this code."""
+    """Signals a faulty roster, with this code."""
 
     def __init__(self, code: int) -> None:
         super().__init__(code)
@@ -96,21 +96,21 @@ def is_name(word: bytes) -> bool:
 
 
 def number_in(word: bytes, low: int, high: int) -> int | None:
-    """The number that the word writes, or None."""
+    """Return the number that the word writes, or None."""
     if re.fullmatch(rb"[0-9]{1,13}", word) is None:
         return None
     return int(word) if low <= int(word) <= high else None
 
 
 def read_limits(words: Sequence[bytes]) -> Limits | None:
-    """The limits that a row's fields behind the name write, or None where one is no number in its range."""
+    """Return the limits in a row's fields after the name, or None unless each is a number in its range."""
     numbers = [number_in(word, low, high) for word, (low, high) in zip(words, RANGES)]
     known = [number for number in numbers if number is not None]
     return Limits(*known) if len(known) == len(numbers) else None
 
 
 class Command(NamedTuple):
-    """A tenant's command, and whether the memory that it needs is refused to it."""
+    """A tenant's command, and whether the memory that it needs is refused."""
 
     verb: str
     names: list[str]
@@ -119,7 +119,7 @@ class Command(NamedTuple):
 
 
 def read_command(words: Sequence[bytes], is_memory_refused: bool) -> Command:
-    """The command that the words behind a tenant's name write."""
+    """Return the command in the words after a tenant's name."""
     if not words or words[0] not in VERBS:
         raise Refused(2)
     verb, shape = words[0].decode(), VERBS[words[0]]
@@ -146,7 +146,7 @@ class Task:
 
 
 class Placement(NamedTuple):
-    """What a placement costs, and where it has each task, in order of submission: a machine, or None to wait."""
+    """A placement's cost, and each task's machine, or None to wait, in order of submission."""
 
     cost: int
     machines: list[str | None]
@@ -154,7 +154,7 @@ class Placement(NamedTuple):
 
 @dataclass
 class Tenant:
-    """One tenant: its rows in order, the last costs, and how many commands it has given."""
+    """One tenant: its rows in order, the last costs, and the number of its commands."""
 
     name: str
     limits: Limits
@@ -165,13 +165,13 @@ class Tenant:
     tasks: dict[str, Task] = field(default_factory=dict)
 
     def use(self) -> tuple[int, int]:
-        """Nodes and arcs that the rows use."""
+        """Return the nodes and arcs that the rows use."""
         nodes = 2 + len(self.machines) + len(self.jobs) + len(self.tasks)
         arcs = sum(1 + slots for slots in self.machines.values()) + len(self.jobs)
         return nodes, arcs + sum(3 + len(task.preferred) for task in self.tasks.values())
 
     def answer(self, words: Sequence[bytes], is_memory_refused: bool = False) -> bytes:
-        """The reply line to a command, without its line feed."""
+        """Return the reply line to a command, without its line feed."""
         if self.given == self.limits.life:
             return self._line(self.limits.life + 1, "no 1 worn")
         self.given += 1
@@ -277,22 +277,22 @@ class Tenant:
         return self.settle(self.placement())
 
     def waiting_cost(self, task: Task) -> int:
-        """What it costs to leave the task waiting."""
+        """Return the cost of leaving the task waiting."""
         return self.jobs[task.job] + task.waited + (0 if task.machine is None else self.limits.churn)
 
     def slot_cost(self, slot: int) -> int:
-        """What a task costs in a machine's slot of this number, counted from 0."""
+        """Return a task's cost in a machine's slot of this number, counted from 0."""
         return slot * self.limits.spread
 
     def placing_cost(self, task: Task, machine: str) -> int:
-        """What it costs the task to be on the machine, apart from the machine's load."""
+        """Return the task's cost of the machine, apart from the machine's load."""
         if machine == task.machine:
             return 0
         is_remote = bool(task.preferred) and machine not in task.preferred
         return (0 if task.machine is None else self.limits.churn) + (self.limits.remote if is_remote else 0)
 
     def settle(self, placement: Placement) -> str:
-        """The rows after a round with this placement, and the round's text."""
+        """Update the rows after a round with this placement, and return the round's text."""
         changes = []
         for (name, task), machine in zip(self.tasks.items(), placement.machines):
             if machine is not None and task.machine is None:
@@ -307,12 +307,12 @@ class Tenant:
         return f"ok round cost {placement.cost}" + "".join(changes)
 
     def choices(self, task: Task) -> list[str | None]:
-        """Where a round may have the task, in the order in which placements are compared."""
+        """Return the choices of a task, in the order in which placements are compared."""
         others = [machine for machine in self.machines if machine != task.machine]
         return [*([] if task.machine is None else [task.machine]), *others, None]
 
     def placement(self) -> Placement:
-        """The first placement in the stated order of those that cost least."""
+        """Return the first placement in the stated order of those that cost least."""
         tasks = list(self.tasks.values())
         load = dict.fromkeys(self.machines, 0)
         chosen: list[str | None] = []
@@ -352,7 +352,7 @@ def records_of(text: bytes) -> list[list[bytes]]:
 
 
 def read_roster(text: bytes) -> dict[str, Tenant]:
-    """The tenants of a roster."""
+    """Return the tenants of a roster."""
     if len(text) > MOST_ROSTER:
         raise RosterFault(2)
     records = records_of(text)
@@ -379,7 +379,7 @@ def read_roster(text: bytes) -> dict[str, Tenant]:
 
 
 def lines_of(text: bytes) -> list[bytes]:
-    """The lines of an input, without their ends."""
+    """Return the lines of an input, without their ends."""
     pieces = text.split(b"\n")
     if pieces[-1] == b"":
         pieces.pop()
@@ -387,14 +387,14 @@ def lines_of(text: bytes) -> list[bytes]:
 
 
 class Operation(NamedTuple):
-    """What an operator's line asks: an admission with limits, or the retirement of a tenant."""
+    """An operator's line: an admission with limits, or the retirement of a tenant."""
 
     name: str
     limits: Limits | None
 
 
 def read_operation(words: Sequence[bytes], is_extended: bool) -> Operation:
-    """Return what an operator's line asks for; only an extended service takes a row of eight fields."""
+    """Return the operation of an operator's line; only an extended service takes a row of eight fields."""
     if len(words) != 2 or words[0] not in (b"admit", b"retire"):
         raise Refused(21)
     is_admission = words[0] == b"admit"
@@ -421,7 +421,7 @@ class Service:
         self.admissions = [1] * len(tenants) + [0] * (PLACES - len(tenants))
 
     def operate(self, words: Sequence[bytes], is_memory_refused: bool) -> bytes:
-        """The answer to an operator's line."""
+        """Return the answer to an operator's line."""
         try:
             name, limits = read_operation(words, self.is_extended)
             if limits is None:
@@ -452,7 +452,7 @@ class Service:
 
 
 def answer_line(service: Service, line: bytes, is_memory_refused: bool = False) -> bytes | None:
-    """The output line to an input line, or None."""
+    """Return the output line to an input line, or None."""
     if line.startswith(b"#"):
         return None
     if len(line) > MOST_LINE:
@@ -545,7 +545,7 @@ def opened(opening: bytes) -> Service:
 
 
 def serve(opening: bytes, text: bytes, marks: Collection[int] = frozenset()) -> list[bytes]:
-    """The output lines of an input; memory is refused to the input lines whose places are in `marks`."""
+    """Return the output lines of an input; memory is refused to the input lines whose places are in `marks`."""
     service = opened(opening)
     answers = (answer_line(service, line, place in marks) for place, line in enumerate(lines_of(text)))
     return [answer for answer in answers if answer is not None]

@@ -1,12 +1,12 @@
-"""The sessions in the documents: fenced blocks that a reader can type, each with what comes out right behind it.
+"""The sessions in the documents: fenced blocks that a reader can type, each with its output right after it.
 
-A block of `sh` or `python` is run in a folder where ./firm is the launcher, and crates/, examples/ and tests/ are
-those of the repository; a block of `firm` is the input of ./firm. So are the lines of a table whose first column is
-Line and whose last is Reply. The roster, roster.csv, is the block of `csv` right above, or else the page's first. A
-block of `console` has commands behind `$ `, each with what comes out below it, errors among it; times may differ, and
-a command that only looks is typed again where the service does not show yet what it has answered. A block without what
-comes out is there to be read, and is not run. `./firm --unproved`, which takes minutes, is run as ./firm:
-tests/launcher.py asks for an unproved answer, and the replies are the same.
+A block of `sh` or `python` is run in a folder where ./firm is the launcher, and crates/, examples/ and tests/ are those
+of the repository; a block of `firm` is the input of ./firm. So are the lines of a table whose first column is Line and
+whose last is Reply. The roster, roster.csv, is the block of `csv` right above, or else the page's first. A block of
+`console` has commands after `$ `, each with its output below it, errors included. Times may differ. A command that only
+looks is typed again until the service shows its latest answers. A block without output is only to be read, and is not
+run. `./firm --unproved`, which takes minutes, is run as ./firm: tests/launcher.py tries an unproved answer, and the
+replies are the same.
 """
 
 from __future__ import annotations
@@ -21,6 +21,7 @@ import subprocess
 import sys
 import tempfile
 import time
+from contextlib import suppress
 from pathlib import Path
 from typing import Any, Callable, Iterator, NamedTuple
 
@@ -28,17 +29,17 @@ from harness.checks import Skipped, require
 from harness.program import ROOT, built, opened
 
 LIMIT_SECONDS = 300
-CONSOLE_SECONDS = 600  # for what a command of a console gives, and those before it that give nothing
+CONSOLE_SECONDS = 600  # for a console's command with output, and the silent ones before it
 LOOK_SECONDS = 0.2  # until a command that only looks is typed again
-LOOKS = re.compile(r"\bfirmctl (?:--state \S+ )?(?:tasks|ps|status|why|what-if|plan|machines|history)\b")
-END = "that-was-all"  # is written behind such a command
+LOOKS = re.compile(r"\bfirmctl (?:--server \S+ )?(?:tasks|ps|status|why|what-if|plan|machines|history)\b")
+END = "that-was-all"  # is written after such a command
 FENCE = "```"
 TABLE = re.compile(r"\| Line \|.*\| Reply[^|]*\|")
 FIRST_AND_LAST = re.compile(r"\| `([^`]+)` \|.*\| `([^`]+)`[^|]*\|")
 
 
 class Block(NamedTuple):
-    """A fenced block: the line of its first fence, from 1, and of its last; what it is of; its text."""
+    """A fenced block: the line of its first fence, from 1, and of its last; its kind; its text."""
 
     first_line: int
     last_line: int
@@ -47,7 +48,7 @@ class Block(NamedTuple):
 
 
 class Session(NamedTuple):
-    """What is typed, the roster for it, if the page has one, and what comes out."""
+    """Input, its roster, if the page has one, and its output."""
 
     page: str
     typed: Block
@@ -76,19 +77,19 @@ def blocks_of(text: str) -> list[Block]:
 
 
 class Pair(NamedTuple):
-    """What is typed, and what comes out."""
+    """Input and its output."""
 
     typed: Block
     output: str
 
 
 def are_adjoined(lines: list[str], first: Block, second: Block) -> bool:
-    """Whether nothing but empty lines stands between two blocks."""
+    """Return whether only empty lines stand between two blocks."""
     return not "".join(lines[first.last_line : second.first_line - 1]).strip()
 
 
 def fenced_pairs(text: str) -> Iterator[Pair]:
-    """The blocks that have what comes out right behind them."""
+    """Return the blocks that are followed by their output."""
     lines, blocks = text.splitlines(), blocks_of(text)
     for typed, output in zip(blocks, blocks[1:]):
         if typed.kind in COMMANDS and output.kind == "" and are_adjoined(lines, typed, output):
@@ -96,7 +97,8 @@ def fenced_pairs(text: str) -> Iterator[Pair]:
 
 
 def table_pairs(text: str) -> Iterator[Pair]:
-    """The tables of lines and replies, as blocks of commands. The replies stand there without tenant and number."""
+    """Yield the tables of lines and replies, as blocks of commands. The replies stand there without tenant and
+    number."""
     lines = text.splitlines()
     for place, heading in enumerate(lines):
         if TABLE.fullmatch(heading) is None:
@@ -111,7 +113,7 @@ def table_pairs(text: str) -> Iterator[Pair]:
 
 
 def roster_for(typed: Block, text: str) -> str | None:
-    """The roster right above a block, or else the page's first."""
+    """Return the roster right above a block, or else the page's first."""
     lines = text.splitlines()
     rosters = [block for block in blocks_of(text) if block.kind == "csv"]
     own = [roster for roster in rosters if roster.last_line < typed.first_line and are_adjoined(lines, roster, typed)]
@@ -120,13 +122,13 @@ def roster_for(typed: Block, text: str) -> str | None:
 
 
 def sessions_of(page: Path) -> list[Session]:
-    """The sessions of a page."""
+    """Return the sessions of a page."""
     text, name = page.read_text(), str(page.relative_to(ROOT))
     pairs = [*fenced_pairs(text), *table_pairs(text)]
     return [Session(name, typed, roster_for(typed, text), output) for typed, output in pairs]
 
 
-INSTALLING = "import ensurepip, setuptools, venv, wheel"  # what a session needs that installs the package
+INSTALLING = "import ensurepip, setuptools, venv, wheel"  # the needs of a session that installs the package
 COMMANDS = {
     "sh": ["bash", "-eu"],
     "python": [sys.executable, "-"],
@@ -135,7 +137,7 @@ COMMANDS = {
 
 
 def play(session: Session) -> None:
-    """Types a session; what comes out must be what the page says. Without a program that it names it is skipped."""
+    """Type a session; require the page's output. Skip it if a program that it names is missing."""
     for path in re.findall(r"\bcrates/\w+/out/\w+", session.typed.text):
         if not (ROOT / path).exists():
             raise Skipped(f"{path} is not built")
@@ -157,19 +159,19 @@ def play(session: Session) -> None:
 
 
 def consoles_of(page: Path) -> list[Block]:
-    """The blocks of a page that show a console."""
+    """Return the blocks of a page that show a console."""
     return [block for block in blocks_of(page.read_text()) if block.kind == "console"]
 
 
 def story_of(page: Path) -> Block:
-    """All consoles of a page, one behind the other, as one that a reader types from first to last."""
+    """Return all consoles of a page, one after the other, as one that a reader types from first to last."""
     consoles = consoles_of(page)
     text = "".join(console.text for console in consoles)
     return consoles[0]._replace(last_line=consoles[-1].last_line, text=text)
 
 
 def commands_of(console: Block) -> Iterator[Pair]:
-    """The commands of a console, which may go on behind `> `, each with what comes out."""
+    """Yield the commands of a console, which may go on after `> `, each with its output."""
     for text in re.split(r"^\$ ", console.text, flags=re.M)[1:]:
         lines = text.splitlines(keepends=True)
         count = 1 + len(list(itertools.takewhile(lambda line: line.startswith("> "), lines[1:])))
@@ -178,11 +180,14 @@ def commands_of(console: Block) -> Iterator[Pair]:
 
 
 def play_console(console: Block, path: str | None = None) -> None:
-    """Types each command once what the page shows of the one before has come; with a path, by programs of it alone."""
+    """Type each command once the page's output of the one before has come; with a path, only by its programs."""
     if "nc -" in console.text and shutil.which("nc") is None:
         raise Skipped("it needs nc (apt-get install netcat-openbsd)")
     if re.search(r"firmctl .*\bwhy\b", console.text) and not built("firm_explain").exists():
         raise Skipped("firm_explain is not built")
+    words = ["python3", "-c", "import aiohttp, prometheus_client"]
+    if "firm-api" in console.text and not path and subprocess.run(words, capture_output=True).returncode:
+        raise Skipped("it needs aiohttp (apt-get install python3-aiohttp python3-prometheus-client)")
     if re.search(r"\broot\b", console.text) and os.geteuid():
         raise Skipped("it shows what root has")
     is_installing = "pip install" in console.text
@@ -202,11 +207,12 @@ def play_console(console: Block, path: str | None = None) -> None:
                     said = answer(shell, typed.text, output)
                     require(without_times(said) == without_times(output), f"{typed.text}gives\n{said}")
             finally:
-                os.killpg(shell.pid, signal.SIGKILL)
+                with suppress(ProcessLookupError):  # it has ended, with all processes that it started
+                    os.killpg(shell.pid, signal.SIGKILL)
 
 
 def answer(shell: subprocess.Popen[bytes], typed: str, wanted: str) -> str:
-    """What a command gives; one that only looks is typed again until that is what is wanted, for some time."""
+    """Return a command's output; one that only looks is typed again until it is as expected, for some time."""
     if not LOOKS.search(typed):
         opened(shell.stdin).write(typed.encode())
         return next_lines(shell, lambda said: said.count(b"\n") >= wanted.count("\n"))
@@ -221,7 +227,8 @@ def answer(shell: subprocess.Popen[bytes], typed: str, wanted: str) -> str:
 
 
 def next_lines(shell: subprocess.Popen[bytes], are_all: Callable[[bytes], bool]) -> str:
-    """Lines of a shell until they are all, or no more come in time: what it started may outlive it, its pipe open."""
+    """Return lines of a shell until they are complete, or no more come in time: a process that it started may
+    outlive it with its pipe open."""
     pipe, said, ends = opened(shell.stdout), b"", time.monotonic() + CONSOLE_SECONDS
     while not are_all(said) and time.monotonic() < ends:
         if select.select([pipe], [], [], LOOK_SECONDS)[0]:
@@ -239,7 +246,7 @@ def without_times(text: str) -> str:
 
 
 def block_with(page: Path, words: str) -> Block:
-    """The only block of a page that has these words."""
+    """Return the only block of a page that has these words."""
     found = [block for block in blocks_of(page.read_text()) if re.search(re.escape(words), block.text)]
     require(len(found) == 1, f"{page.name} has {len(found)} blocks with {words}")
     return found[0]

@@ -1,4 +1,4 @@
-"""All placements of a small book: what is true of a round, by enumeration and by docs/PLACEMENT.md alone.
+"""All placements of a small book: the truth about a round, by enumeration and by docs/PLACEMENT.md alone.
 
 It shares nothing with the judge of tests/certificates, which it judges: a book is read from the rows of a round, as
 `firm_explain --rows` writes them.
@@ -18,7 +18,7 @@ class Task(NamedTuple):
     name: str
     home: Choice
     preferred: Sequence[str]
-    waits_for: int  # to wait costs it this much
+    waits_for: int  # its cost of waiting
 
 
 class Placed(NamedTuple):
@@ -44,11 +44,11 @@ class Book:
         return Task(name, None, prefers[1:], weight + int(there))
 
     def size(self) -> int:
-        """The number of placements, legal or not."""
+        """Return the number of placements, legal or not."""
         return int((len(self.slots) + 1) ** len(self.tasks))
 
     def choices(self, task: Task) -> list[Choice]:
-        """A task's choices as they rank: its home, the other machines in order of addition, waiting."""
+        """Return a task's choices as they rank: its home, the other machines in order of addition, waiting."""
         others = [machine for machine in self.slots if machine != task.home]
         return [*([task.home] if task.home else []), *others, None]
 
@@ -61,7 +61,7 @@ class Book:
         return (self.churn if task.home else 0) + (self.remote if is_remote else 0)
 
     def placements(self) -> Iterator[Placed]:
-        """All legal placements in their order, with their costs."""
+        """Yield all legal placements in their order, with their costs."""
         for choices in product(*map(self.choices, self.tasks)):
             loads = [choices.count(machine) for machine in self.slots]
             if all(load <= slots for load, slots in zip(loads, self.slots.values())):
@@ -83,12 +83,12 @@ class Round:
         self.names = [task.name for task in self.book.tasks]
 
     def more(self, name: str, choice: Choice) -> int:
-        """How much more the cheapest placement costs in which a task has this choice."""
+        """Return the excess of the cheapest placement in which a task has this choice."""
         at = self.names.index(name)
         return min(placed.cost for placed in self.all if placed.choices[at] == choice) - self.cost
 
     def is_witness(self, line: str) -> bool:
-        """Whether a line on another choice of a task is true: as `# if t3 on m2: 9 more: t4 waits`."""
+        """Return whether a line on another choice of a task is true: as `# if t3 on m2: 9 more: t4 waits`."""
         found = re.fullmatch(r"# if (\S+ \S+(?: \S+)?): (\d+) more(?:: ([^;]+))?(?:; (.+))?", line)
         if not found:
             return False
@@ -111,7 +111,7 @@ class Round:
         )
 
     def decision(self, asked: str, choices: Sequence[Choice]) -> str:
-        """What decides for the round's placement and against another one of the same cost."""
+        """Return the reason why the round's placement comes before another one of the same cost."""
         at = next(at for at, (here, there) in enumerate(zip(self.choices, choices)) if here != there)
         here, there = self.choices[at], choices[at]
         if self.names[at] == asked:
@@ -119,11 +119,12 @@ class Round:
         return f"{self.names[at]}, submitted earlier, would " + (f"be on {there}" if there else "wait")
 
     def is_order(self, text: str, low: Mapping[Choice, int]) -> bool:
-        """Whether an order shows that the placement comes first, with the lowest rents."""
+        """Return whether an order shows that the placement comes first, with the lowest rents."""
         return any(self.shows_first(groups, low) for groups in readings(text, self.book))
 
     def shows_first(self, groups: Groups, low: Mapping[Choice, int]) -> bool:
-        """Whether each better choice stands lower, with a cut between that no slot or later task crosses upwards."""
+        """Return whether each better choice stands lower, with a cut between that no slot or later task crosses
+        upwards."""
         for at, has in enumerate(self.choices):
             ups = [groups_of for groups_of in self.ups(at + 1, groups, low)]
             for better in self.better(at, low):
@@ -133,7 +134,7 @@ class Round:
         return True
 
     def better(self, at: int, low: Mapping[Choice, int]) -> list[Choice]:
-        """A task's choices that rank before its own and cost it as much by the rents."""
+        """Return a task's choices that rank before its own and cost it as much by the rents."""
         ranked = self.book.choices(self.book.tasks[at])
         return [other for other in ranked[: ranked.index(self.choices[at])] if self.is_as_cheap(at, other, low)]
 
@@ -142,7 +143,7 @@ class Round:
         return self.book.pays(task, other, low) == self.book.pays(task, self.choices[at], low)
 
     def ups(self, first: int, groups: Groups, low: Mapping[Choice, int]) -> Iterator[tuple[int, int]]:
-        """The groups between which slots and the tasks from the first on can go upwards at no cost."""
+        """Yield the groups between which slots and the tasks from the first on can go upwards at no cost."""
         for machine, slots in self.book.slots.items():
             load = self.choices.count(machine)
             if load < slots and low[machine] == load * self.book.spread:
@@ -156,7 +157,7 @@ class Round:
 
 
 def readings(text: str, book: Book) -> Iterator[Groups]:
-    """The orders that a text may be, all of whose places are named: a machine may be called waiting."""
+    """Yield the orders that a text may mean, all of whose places are named: a machine may be called waiting."""
     if text == "clear":
         yield dict.fromkeys([*book.slots, None], 0)
         return
@@ -173,7 +174,7 @@ def readings(text: str, book: Book) -> Iterator[Groups]:
 
 
 def rents_in(line: str, book: Book) -> dict[Choice, int]:
-    """The rents in a line, as `# low rents: 9 each, but m1 12`."""
+    """Return the rents in a line, as `# low rents: 9 each, but m1 12`."""
     each, _, others = line.partition(" rents: ")[2].partition(" each")
     pairs = (other.split(" ") for other in others.removeprefix(", but ").split(", ") if other)
     named: dict[Choice, int] = {name: int(rent) for name, rent in pairs}

@@ -12,7 +12,7 @@ from typing import Sequence
 from harness.service import HEADINGS
 
 Record = list[bytes]  # the fields of a roster's row
-Held = dict[str, dict[str, str]]  # by kind: the names, and behind a task's its job
+Held = dict[str, dict[str, str]]  # by kind: the names, each task's with its job
 
 NAMES = ["a", "b", "c0", "-", "x-1", "abcdefghijklmnop"]
 BAD_NAMES = [b"A", b"a_b", b"abcdefghijklmnopq", b"\xff", b"a\x00", b"m1\r", b"a,b", "é".encode(), b"a\x0b", b"+"]
@@ -80,12 +80,12 @@ def roster_of(records: Sequence[Record], heading: Record) -> bytes:
 
 
 def quoted(draw: Random, record: Record) -> Record:
-    """The record with quotes around some of its fields."""
+    """Return the record with quotes around some of its fields."""
     return [b'"%b"' % field if draw.random() < 0.5 else field for field in record]
 
 
 def random_roster(draw: Random) -> tuple[bytes, list[str]]:
-    """A roster of some tenants, and their names. The first has much room, as a rule."""
+    """Return a roster of some tenants, and their names. The first has much room, as a rule."""
     records: list[Record] = []
     names = draw.sample(["a", "b", "t-1", "abcdefghijklmnop", "0"], draw.choice([1, 1, 1, 2, 4]))
     heading = draw.choice(HEADINGS)
@@ -111,17 +111,17 @@ def nothing_held() -> Held:
 
 
 class Stream:
-    """Makes the lines of one input; it only guesses what the tenants hold, so that many commands fit and some don't."""
+    """Makes the lines of one input; it only guesses the tenants' rows, so that many commands fit and some don't."""
 
     def __init__(self, draw: Random, tenants: list[str], most_tasks: int) -> None:
         self.draw, self.tenants, self.most_tasks = draw, tenants, most_tasks
         self.held = {tenant: nothing_held() for tenant in tenants}
         self.weights = draw.choice([[1, 2, 3], [5, 50], [1, 1000000], [10, 20, 21, 22], [60, 61], [100], [3000]])
         self.slots = draw.choice([[1], [1, 2], [2, 3], [1, 2, 64], [5]])
-        self.operators = draw.choice([0, 0.02, 0.05, 0.15])  # the part of the lines that is the operator's
+        self.operators = draw.choice([0, 0.02, 0.05, 0.15])  # the operator's part of the lines
 
     def name(self, held: dict[str, str], new: bool) -> str:
-        """A name of those that are held, or a new one, as asked most of the time."""
+        """Return an existing name or a new one, usually of the requested kind."""
         if held and self.draw.random() < (0.15 if new else 0.9):
             return self.draw.choice(list(held))
         pool = NAMES + [f"n{number}" for number in range(12)]
@@ -144,7 +144,7 @@ class Stream:
         return f"{kind} {name} {number}"
 
     def preferred(self, held: Held) -> list[str]:
-        """The machines that a task prefers: mostly some that are held, now and then one that is not, or one twice."""
+        """Return a task's preferred machines: mostly existing ones, now and then a missing one, or one twice."""
         if self.draw.random() < 0.4:
             return []
         return [self.name(held["machine"], self.draw.random() < 0.05) for _ in range(self.draw.choice([1, 1, 2, 3, 4]))]
@@ -158,7 +158,7 @@ class Stream:
         return {"machine": "drain", "job": "close", "task": "done"}[kind] + " " + name
 
     def opening(self) -> list[bytes]:
-        """Lines that give each tenant some machines and jobs to begin with."""
+        """Return lines that give each tenant some machines and jobs to begin with."""
         kinds = self.draw.choice(["", "job", "machine job", "machine job machine job machine"]).split()
         return [f"{tenant} {self.add(tenant, kind)}".encode() for tenant in self.tenants for kind in kinds]
 
@@ -194,7 +194,8 @@ class Stream:
         return tenant.encode() + b" " + b" ".join(words)
 
     def operator(self) -> bytes:
-        """A line of the operator: it retires a tenant, or admits one that is there or not; now and then at fault."""
+        """Return a line of the operator: it retires a tenant, or admits a present or an absent one; now and then it
+        is faulty."""
         draw, name = self.draw, self.draw.choice(self.tenants + ["new", "z"]).encode()
         if draw.random() < 0.1:
             name = draw.choice([*BAD_NAMES, b"", b'"b"'])
@@ -237,7 +238,7 @@ class Stream:
 
 
 def random_stream(draw: Random, most_tasks: int = 6) -> tuple[bytes, bytes]:
-    """A roster and an input of twenty to two hundred lines."""
+    """Return a roster and an input of twenty to two hundred lines."""
     roster, tenants = random_roster(draw)
     stream = Stream(draw, tenants, most_tasks)
     lines = stream.opening() + [stream.line() for _ in range(draw.choice([20, 60, 100, 200]))]
@@ -245,7 +246,7 @@ def random_stream(draw: Random, most_tasks: int = 6) -> tuple[bytes, bytes]:
 
 
 def with_noise(draw: Random, text: bytes) -> bytes:
-    """The text with up to eight bytes changed, put in, taken out or moved to another place."""
+    """Return the text with up to eight bytes changed, put in, taken out or moved to another place."""
     found = bytearray(text)
     for _ in range(draw.randint(1, 8)):
         place, byte = draw.randrange(len(found) + 1), draw.choice(b"\n\r\t #0129a-z\x00\xff\x0b!Z")
@@ -262,7 +263,7 @@ def with_noise(draw: Random, text: bytes) -> bytes:
 
 
 def random_bad_roster(draw: Random) -> bytes:
-    """A roster with a fault or two somewhere, or none."""
+    """Return a roster with a fault or two somewhere, or none."""
     heading = list(draw.choice(HEADINGS))
     records = [
         [b"a%d" % place, b"9", b"24", b"100", b"1", b"2", b"3", b"4"][: len(heading)]

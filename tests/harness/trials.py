@@ -1,7 +1,7 @@
-"""Tries the edits of a crate, several in one check, until each is refused for a goal of its own or is tried alone.
+"""Try the edits of a crate, several in one check, until each is refused for its own goal or is tried alone.
 
-The first checks read no body but those of the functions that the edits change, and try several edits of a function on
-copies of it. What these don't show to be refused is tried with all bodies, and then alone.
+The first checks read only the bodies of the functions that the edits change, and try several edits of a function on
+copies of it. An edit that these checks don't refuse is tried with all bodies, and then alone.
 """
 
 from __future__ import annotations
@@ -26,7 +26,7 @@ SHAPE_ALONE = "refused for the shape of its proof alone"
 
 
 class Verdict(NamedTuple):
-    """Whether an edit is refused for what it means, and what to say of it."""
+    """The outcome of an edit: whether it is refused for its meaning, and the line about it."""
 
     edit: Edit
     is_refused: bool
@@ -37,14 +37,14 @@ class Verdict(NamedTuple):
 
 
 class Planned(NamedTuple):
-    """An edit, and the functions that it changes: none where it changes definitions."""
+    """An edit, and the functions that it changes: none if it changes definitions."""
 
     edit: Edit
     functions: frozenset[Function]
 
 
 class Batch(NamedTuple):
-    """Edits that are tried in one check, the crate's files with all of them, and the copies of functions in these."""
+    """The edits of one check, the crate's files with all of them, and the copies of functions in these."""
 
     planned: list[Planned]
     texts: Texts
@@ -56,12 +56,12 @@ class Batch(NamedTuple):
 
 
 class Trial:
-    """The tries of a crate's edits: over which libraries, and in which folder they keep what they prove."""
+    """The tries of a crate's edits: their libraries, and the folder for their proofs."""
 
     def __init__(self, crate: Crate, libraries: Callable[[Crate], Path], kept: Path) -> None:
         self.crate, self.libraries, self.kept = crate, libraries, kept
         self.checks = 0
-        self.uncopied: set[Function] = set()  # of which an unedited copy has an open goal
+        self.uncopied: set[Function] = set()  # an unedited copy of these has an open goal
         self.sources = {
             str(file.relative_to(crate.folder)): file.read_text() for file in crate.sources() if file.suffix == ".rt"
         }
@@ -71,11 +71,11 @@ class Trial:
                 self.types.setdefault(name, set()).add(tuple(Function(path, "", "").module))
 
     def modules_of(self, function: Function) -> set[tuple[str, ...]]:
-        """The modules by which the prover may name it: its type's, else its own."""
+        """Return the modules by which the prover may name a function: its type's, else its own."""
         return self.types.get(function.kind, set()) | {tuple(function.module)}
 
     def run(self, edits: Iterable[Edit]) -> list[Verdict]:
-        """Tries them all."""
+        """Try all edits."""
         verdicts, left = [], []
         for edit in edits:
             try:
@@ -92,7 +92,7 @@ class Trial:
         return sorted([*verdicts, *ended])
 
     def rounds(self, left: list[Planned], is_bare: bool) -> Iterator[Verdict]:
-        """Tries each of them once, beside others; gives the verdicts on those of which these checks tell."""
+        """Try each edit once, beside others; yield the verdicts that these checks decide."""
         while left:
             batch = self.batch_of(left, is_bare)
             yield from self.judge(batch, is_bare)
@@ -100,13 +100,13 @@ class Trial:
 
     @staticmethod
     def without(left: list[Planned], verdicts: list[Verdict]) -> list[Planned]:
-        """Those on which there is no verdict."""
+        """Return the edits without a verdict."""
         done = {verdict.edit for verdict in verdicts}
         return [planned for planned in left if planned.edit not in done]
 
     def batch_of(self, left: list[Planned], is_copied: bool = False) -> Batch:
-        """The first edits that change different functions and leave one another's texts as they are; with further ones
-        of these functions on copies, where that is asked."""
+        """Return the first edits that change different functions and leave one another's texts as they are; on
+        request with further edits of these functions on copies."""
         chosen: list[Planned] = []
         copies: list[Copy] = []
         texts: Texts = {}
@@ -130,7 +130,7 @@ class Trial:
         return Batch(chosen, with_copies(texts, [*copies, *unedited], self.crate.folder), copies, unedited)
 
     def copy_of(self, planned: Planned, number: int) -> Copy | None:
-        """A copy of the function that an edit changes, with that edit; none where it can't be tried on one."""
+        """Return a copy of the function that an edit changes, with that edit; None if it can't be tried on a copy."""
         if len(planned.functions) != 1 or planned.functions & self.uncopied:
             return None
         (function,) = planned.functions
@@ -139,13 +139,13 @@ class Trial:
         return copy_of(function, number, self.crate.folder, planned.edit)
 
     def unedited(self, function: Function) -> Copy:
-        """A copy of a function as it stands."""
+        """Return a copy of a function as it stands."""
         copy = copy_of(function, 0, self.crate.folder)
         assert copy is not None, function
         return copy
 
     def check(self, batch: Batch, is_bare: bool) -> Outcome:
-        """Asks the prover for the functions that the batch changes, or for the whole crate where it can't name one."""
+        """Check the functions that the batch changes, or the whole crate if the prover can't name one."""
         functions = {function for planned in batch.planned for function in planned.functions}
         functions |= {copy.function for copy in batch.unedited}
         names = sorted({name for function in functions for name in self.names_of(function)})
@@ -155,19 +155,19 @@ class Trial:
         return read_outcome(said.stdout, texts)
 
     def names_of(self, function: Function) -> list[str]:
-        """The names that the prover may have for a function."""
+        """Return the names that the prover may have for a function."""
         own = [name for name in (function.owner, function.name) if name]
         return ["::".join([*module, *own]) for module in self.modules_by_name(function)]
 
     def modules_by_name(self, function: Function) -> set[tuple[str, ...]]:
-        """The modules of its type, where it has one that the crate declares, else its own."""
+        """Return the modules of its type, if the crate declares that, else its own."""
         return self.types.get(function.kind) or {tuple(function.module)}
 
     def ask(
         self, batch: Batch, only: list[str], changed: set[Function] | None
     ) -> tuple[subprocess.CompletedProcess[str], Texts]:
-        """Runs the prover on a copy of the crate with the batch's texts, where no functions have bodies but the changed
-        ones if these are told; gives what it said, and the sources that it read."""
+        """Run the prover on a copy of the crate with the batch's texts; with `changed`, only these functions have
+        bodies. Return its output, and the sources that it read."""
         self.checks += 1
         with tempfile.TemporaryDirectory(prefix="firm-edits-") as name:
             room = Path(name)
@@ -197,7 +197,7 @@ class Trial:
             return said, {str(file.relative_to(room)): file.read_text() for file in room.rglob("*.rt")}
 
     def judge(self, batch: Batch, is_bare: bool) -> list[Verdict]:
-        """The verdicts on those edits of the batch of which a check tells."""
+        """Return the verdicts on the edits of the batch that a check decides."""
         outcome = self.check(batch, is_bare)
         self.uncopied |= {copy.of for copy in batch.unedited if not self.is_whole(copy.function, outcome)}
         untold = {copy.function for copy in batch.copies if copy.of in self.uncopied}
@@ -206,18 +206,18 @@ class Trial:
             if planned.functions & untold:
                 continue
             verdict = self.verdict(planned, outcome, len(batch.planned) == 1 and not is_bare)
-            # Without the other bodies it may be the copy that can't be read.
+            # Without the other bodies, the copy itself may be unreadable.
             if verdict is not None and (verdict.is_refused or not is_bare):
                 found.append(verdict)
         return found
 
     def is_whole(self, function: Function, outcome: Outcome) -> bool:
-        """Whether a check judged a function and has nothing against it, but that it calls one that is refused."""
+        """Return whether a check judged a function, and found no fault except a call to a refused function."""
         refusal = outcome.against(function, self.modules_of(function))
         return not any(refusal) and any(name in outcome.judged for name in self.names_of(function))
 
     def verdict(self, planned: Planned, outcome: Outcome, is_alone: bool) -> Verdict | None:
-        """The verdict on an edit; None where it is to be tried with fewer others."""
+        """Return the verdict on an edit; None if it must be tried with fewer others."""
         edit, functions = planned
         refusals = {function: outcome.against(function, self.modules_of(function)) for function in functions}
         goals = [f"{plain(str(at))}: {goal}" for at, refusal in sorted(refusals.items()) for goal in refusal.goals]
@@ -233,7 +233,8 @@ class Trial:
         return Verdict(edit, *self.lone_reason(planned, outcome, missing))
 
     def lone_reason(self, planned: Planned, outcome: Outcome, missing: list[str]) -> tuple[bool, str]:
-        """Whether an edit that was tried alone is refused, without an open goal of its own function, and why."""
+        """Return whether an edit that was tried alone is refused without an open goal of its own function, and the
+        reason."""
         last = outcome.said.rstrip().rpartition("\n")[2]
         if not planned.functions and last.startswith("logic=not-proved"):
             return True, "the crate is not proved with this definition"
